@@ -1,0 +1,3 @@
+pub mod Element
+pub mod Steps
+pub mod Document

@@ -1,0 +1,179 @@
+// The thirteen basic types: their numbers, and what a type number stands for.
+
+ghost use mathlib.Core.Path.{_≡_};
+ghost use Prim.Native.Nat.{ℕ, _+_, _≤_};
+ghost use lib.ListN.{length};
+ghost use Rattle.kinds.specs.Kinds.{codeOf, formOf, kindOf, kindAt};
+ghost use Rattle.kinds.specs.Answers.{kinds, kindSays, Fitting};
+
+// A basic type.
+pub enum Basic {
+    Int,
+    UnsignedInt,
+    Long,
+    UnsignedLong,
+    Float,
+    Double,
+    HexBinary,
+    String,
+    Boolean,
+    Byte,
+    UnsignedByte,
+    Short,
+    UnsignedShort,
+}
+
+// A type: a basic one, and the octet that marks a derived one.
+pub struct Kind {
+    pub derived: u8,
+    pub basic: Basic,
+}
+
+impl Kind {
+    pub const INT: u32 = 0x21;
+
+    pub const UNSIGNED_INT: u32 = 0x22;
+
+    pub const LONG: u32 = 0x23;
+
+    pub const UNSIGNED_LONG: u32 = 0x24;
+
+    pub const FLOAT: u32 = 0x25;
+
+    pub const DOUBLE: u32 = 0x26;
+
+    pub const HEX_BINARY: u32 = 0x27;
+
+    pub const STRING: u32 = 0x28;
+
+    pub const BOOLEAN: u32 = 0x29;
+
+    pub const BYTE: u32 = 0x2a;
+
+    pub const UNSIGNED_BYTE: u32 = 0x2b;
+
+    pub const SHORT: u32 = 0x2c;
+
+    pub const UNSIGNED_SHORT: u32 = 0x2d;
+}
+
+// How a value stands: in so many octets, as 0 or 1 in one octet, as octets or as a string behind a length.
+pub enum Form {
+    Fixed(usize),
+    Truth,
+    Octets,
+    Text,
+}
+
+// What a type number stands for, or its refusal.
+pub enum Typed {
+    Is(Kind),
+    Not(u32),
+}
+
+// The type at a place, or a refusal by number and place.
+pub enum Kinded {
+    At(Kind),
+    Refused(u32, usize),
+}
+
+// A type's low octet.
+pub fn code_of(b: Basic) -> u32
+    ensures { λ r. ⌜ r ≡ codeOf b ⌝ }
+{
+    match b {
+        Basic::Int => Kind::INT,
+        Basic::UnsignedInt => Kind::UNSIGNED_INT,
+        Basic::Long => Kind::LONG,
+        Basic::UnsignedLong => Kind::UNSIGNED_LONG,
+        Basic::Float => Kind::FLOAT,
+        Basic::Double => Kind::DOUBLE,
+        Basic::HexBinary => Kind::HEX_BINARY,
+        Basic::String => Kind::STRING,
+        Basic::Boolean => Kind::BOOLEAN,
+        Basic::Byte => Kind::BYTE,
+        Basic::UnsignedByte => Kind::UNSIGNED_BYTE,
+        Basic::Short => Kind::SHORT,
+        Basic::UnsignedShort => Kind::UNSIGNED_SHORT,
+    }
+}
+
+// The form of a basic type's values.
+pub fn form_of(b: Basic) -> Form
+    ensures { λ r. ⌜ r ≡ formOf b ⌝ }
+{
+    match b {
+        Basic::Int => Form::Fixed(4),
+        Basic::UnsignedInt => Form::Fixed(4),
+        Basic::Long => Form::Fixed(8),
+        Basic::UnsignedLong => Form::Fixed(8),
+        Basic::Float => Form::Fixed(4),
+        Basic::Double => Form::Fixed(8),
+        Basic::HexBinary => Form::Octets,
+        Basic::String => Form::Text,
+        Basic::Boolean => Form::Truth,
+        Basic::Byte => Form::Fixed(1),
+        Basic::UnsignedByte => Form::Fixed(1),
+        Basic::Short => Form::Fixed(2),
+        Basic::UnsignedShort => Form::Fixed(2),
+    }
+}
+
+// The basic type of a low octet that the table has.
+fn basic_of(code: u32) -> Basic
+    requires { ⌜ (0x21 ≤ code) × (code ≤ 0x2d) ⌝ }
+    ensures { λ r. ⌜ codeOf r ≡ code ⌝ }
+{
+    match code {
+        Kind::INT => Basic::Int,
+        Kind::UNSIGNED_INT => Basic::UnsignedInt,
+        Kind::LONG => Basic::Long,
+        Kind::UNSIGNED_LONG => Basic::UnsignedLong,
+        Kind::FLOAT => Basic::Float,
+        Kind::DOUBLE => Basic::Double,
+        Kind::HEX_BINARY => Basic::HexBinary,
+        Kind::STRING => Basic::String,
+        Kind::BOOLEAN => Basic::Boolean,
+        Kind::BYTE => Basic::Byte,
+        Kind::UNSIGNED_BYTE => Basic::UnsignedByte,
+        Kind::SHORT => Basic::Short,
+        _ => Basic::UnsignedShort,
+    }
+}
+
+// What a type number stands for: 9 where its top bit is set, else 8 where it is not of the table.
+pub fn kind_of(t: u32) -> Typed
+    ensures { λ r. ⌜ ((at next : ℕ) → kinds at next r ≡ kindOf at t next) ⌝ }
+{
+    if 0x8000_0000 <= t {
+        return Typed::Not(9);
+    }
+    if 0x1_0000 <= t {
+        return Typed::Not(8);
+    }
+    let code = t % 256;
+    if code < Kind::INT {
+        return Typed::Not(8);
+    }
+    if Kind::UNSIGNED_SHORT < code {
+        return Typed::Not(8);
+    }
+    let derived = (t / 256) as u8;
+    let basic = basic_of(code);
+    Typed::Is(Kind { derived, basic })
+}
+
+// The type whose number stands at a place.
+pub fn kind_at(s: &[u8], at: usize) -> Kinded
+    requires { ⌜ (at ≤ length (now s)) × (length (now s) ≤ 1048576) ⌝ }
+    ensures { λ r. ⌜ (kindSays at r ≡ kindAt (now (s .entry)) at) × Fitting at r (length (now (s .entry))) ⌝ }
+{
+    if s.len() < at + 4 {
+        return Kinded::Refused(1, at);
+    }
+    let typed = kind_of(octets::u32_at(s, at));
+    match typed {
+        Typed::Is(kind) => Kinded::At(kind),
+        Typed::Not(n) => Kinded::Refused(n, at),
+    }
+}

@@ -1,0 +1,4 @@
+pub mod Layouts
+pub mod Find
+pub mod Books
+pub mod Learn

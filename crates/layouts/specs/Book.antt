@@ -1,0 +1,67 @@
+-- The book: layouts of different numbers, in the order met.
+use Prim.Native.Nat.{ℕ, zero, suc, _+_}
+use mathlib.Core.Path.{_≡_}
+use mathlib.Core.List.{List, [], _∷_, _++_}
+use mathlib.Core.Bool.{Bool, true, false, _&&_}
+use mathlib.Core.Option.{Option, some, none}
+use lib.ListN.{length, take}
+use lib.Dec.{leb, ltb, eqb}
+use Rattle.octets.specs.Reading.{Read, ok, no, _then_, choose, valueOr, same}
+use Rattle.octets.specs.Writing.{images}
+use Rattle.layouts.specs.Layout.{Layout, layoutAt, layoutImage}
+
+abbrev pub Book : Type 0
+Book = List Layout
+
+-- The layout of a number, which is compared by its 32 bits.
+unfoldable pub find : ℕ → Book → Option Layout
+find n [] = none
+find n (l ∷ rest) = choose (eqb n (l .number)) (λ _. some l) (λ _. find n rest)
+
+abbrev pub isNone : {A : Type 0} → Option A → Bool
+isNone none = true
+isNone (some a) = false
+
+-- Layouts of different numbers.
+abbrev pub Distinct : Book → Type 0
+Distinct [] = Unit {0}
+Distinct (l ∷ rest) = (find (l .number) rest ≡ none) × Distinct rest
+
+-- The book's octets: its layouts one after another.
+unfoldable pub bookImage : Book → List ℕ
+bookImage book = images layoutImage book
+
+-- The layouts that octets hold from a place to their end, behind those met; k more at most. Octets that are not whole valid layouts of different numbers are no book.
+unfoldable pub layoutsAt : ℕ → Book → List ℕ → ℕ → Read Book
+layoutsAt zero met s at = choose (eqb at (length s)) (λ _. ok met at) (λ _. no 17 0)
+layoutsAt (suc k) met s at =
+    choose (eqb at (length s)) (λ _. ok met at)
+    (λ _. layoutAt s at then λ l next.
+    choose (isNone (find (l .number) met)) (λ _. layoutsAt k (met ++ l ∷ []) s next) (λ _. no 17 0))
+
+-- Every fault of a book is refusal 17 at 0.
+abbrev pub as17 : {A : Type 0} → Read A → Read A
+as17 (ok a next) = ok a next
+as17 (no n p) = no 17 0
+
+-- The book in lent octets, of which so many are used: at least 32,768 lent, at most 32,768 used, at most 64 layouts.
+unfoldable pub bookOf : List ℕ → ℕ → Read Book
+bookOf octets used =
+    choose (leb 32768 (length octets) && leb used 32768) (λ _. as17 (layoutsAt 64 [] (take used octets) 0)) (λ _. no 17 0)
+
+-- The book that lent octets hold, and that they do hold one.
+unfoldable pub bookIn : List ℕ → ℕ → Book
+bookIn octets used = valueOr [] (bookOf octets used)
+
+abbrev pub IsBook : List ℕ → ℕ → Type 0
+IsBook octets used = bookOf octets used ≡ ok (bookIn octets used) used
+
+-- A layout seen again under its number adds nothing where it is equal from its number to its last type, else it is 10 at its number; a new one that would be the 65th, or pass 32,768 octets, is 11 there.
+abbrev pub learnAt : Book → Layout → ℕ → Option Layout → Read Book
+learnAt book l at (some m) = choose (same (layoutImage m) (layoutImage l)) (λ _. ok book at) (λ _. no 10 at)
+learnAt book l at none =
+    choose (ltb (length book) 64 && leb (length (bookImage book) + length (layoutImage l)) 32768) (λ _. ok (book ++ l ∷ []) at) (λ _. no 11 at)
+
+-- The book with a layout learnt whose number stands at a place.
+unfoldable pub learn : Book → Layout → ℕ → Read Book
+learn book l at = learnAt book l at (find (l .number) book)

@@ -1,0 +1,176 @@
+-- The equations of reading that a function answering places cites: accepted, cut short, or over a limit.
+-- Each is its definition at one outcome of its tests; `on`, `stop` and `made` carry an end through what follows a field.
+use Prim.Native.Nat.{ℕ, zero, suc, _+_, _-_, _≤_, _<_}
+use mathlib.Core.Path.{_≡_, refl, ap, _∙_, sym}
+use mathlib.Core.List.{List}
+use mathlib.Core.Bool.{Bool, true, false}
+use lib.ListN.{length}
+use lib.Dec.{leb, eqb}
+use borrow.Author.Tests.{le-leb, lt-leb, leb-true, eq-eqb, ne-eqb, eqb-true}
+use native.Mathlib.Omega.{arith}
+use Rattle.octets.specs.Reading.{Read, ok, no, _then_, choose, ends, isOk, be, part, Room, document, stated, reach, overrun, numberIn, octetsIn, textIn, number, text, count, exactly, run}
+use Rattle.octets.specs.Answers.{Within}
+use Rattle.octets.specs.declared.Ended.{Ended}
+use Rattle.octets.specs.declared.Ended.the-variants.{End, Refused}
+
+-- What follows a reading goes by the place behind it, where the place alone is asked.
+pub on : {A B : Type 0} (r : Read A) (f : A → ℕ → Read B) (g : ℕ → Read ℕ) (n : ℕ) → ((a : A) (m : ℕ) → ends (f a m) ≡ g m)
+    → ends r ≡ ok n n → ends (r then f) ≡ g n
+on (ok a m) f g n h e = let q : m ≡ n = cc in h a m ∙ ap g q
+on (no k p) f g n h e = absurd (let z : _≡_ {A = ℕ} 0 1 = cc in omega arith)
+
+pub stop : {A B : Type 0} (r : Read A) (f : A → ℕ → Read B) (k p : ℕ) → ends r ≡ no k p → ends (r then f) ≡ no k p
+stop (no j q) f k p e = e
+stop (ok a m) f k p e = absurd (let z : _≡_ {A = ℕ} 0 1 = cc in omega arith)
+
+-- A reading whose value is made into another.
+pub made : {A B : Type 0} (r : Read A) (h : A → B) → ends (r then λ a end. ok (h a) end) ≡ ends r
+made (ok a m) h = refl
+made (no k p) h = refl
+
+-- An end that is known says that there is a value, and a refusal that there is none.
+pub ended : {A : Type 0} (r : Read A) (n : ℕ) → ends r ≡ ok n n → (a : A) × (r ≡ ok a n)
+ended (ok a m) n e = let q : m ≡ n = cc in (a, ap (ok a) q)
+ended (no k p) n e = absurd (let z : _≡_ {A = ℕ} 0 1 = cc in omega arith)
+
+pub refused : {A : Type 0} (r : Read A) (k p : ℕ) → ends r ≡ no k p → r ≡ no k p
+refused (no j q) k p e = let a : j ≡ k = cc in let b : q ≡ p = cc in cc
+refused (ok a m) k p e = absurd (let z : _≡_ {A = ℕ} 0 1 = cc in omega arith)
+
+-- Whether a reading is accepted shows in its end.
+pub ends-ok : {A : Type 0} (r : Read A) → isOk (ends r) ≡ isOk r
+ends-ok (ok a n) = refl
+ends-ok (no n p) = refl
+
+pub ok-alike : {A B : Type 0} (r : Read A) (q : Read B) → ends r ≡ ends q → isOk r ≡ true → isOk q ≡ true
+ok-alike r q e t = sym (ends-ok q) ∙ (ap isOk (sym e) ∙ (ends-ok r ∙ t))
+
+-- The first part of what is accepted is accepted, and so is a test on the way.
+pub first-ok : {A B : Type 0} (r : Read A) (f : A → ℕ → Read B) → isOk (r then f) ≡ true → isOk r ≡ true
+first-ok (ok a n) f t = refl
+first-ok (no n p) f t = t
+
+pub chosen-ok : {A : Type 0} (b : Bool) (x : Unit {0} → Read A) (n p : ℕ) → isOk (choose b x (λ _. no n p)) ≡ true → b ≡ true
+chosen-ok true x n p t = refl
+chosen-ok false x n p t = t
+
+-- What passes a room's end is refused, whatever follows and whatever is asked of it.
+pub overrun-then : {A B : Type 0} (room : Room) (at : ℕ) (f : A → ℕ → Read B) → (overrun room at then f) ≡ overrun room at
+overrun-then document at f = refl
+overrun-then (stated end p) at f = refl
+
+pub overrun-ends : (A : Type 0) (room : Room) (at : ℕ) → ends (overrun {A = A} room at) ≡ overrun room at
+overrun-ends A document at = refl
+overrun-ends A (stated end p) at = refl
+
+-- Numbers and length-led octets, once over the room.
+module _ (room : Room) (s : List ℕ) (at : ℕ) where
+  pub number-in : (w : ℕ) → at + w ≤ reach room s → numberIn room w s at ≡ ok (be w s at) (at + w)
+  unfolding numberIn
+  number-in w h = rw (le-leb (at + w) (reach room s) h) refl
+
+  pub number-over : (w : ℕ) → reach room s < at + w → numberIn room w s at ≡ overrun room at
+  unfolding numberIn
+  number-over w h = rw (lt-leb (at + w) (reach room s) h) refl
+
+  pub octets-in : at + 4 ≤ reach room s → at + 4 + be 4 s at ≤ reach room s
+      → octetsIn room s at ≡ ok (part s (at + 4) (be 4 s at)) (at + 4 + be 4 s at)
+  unfolding octetsIn
+  octets-in h g = rw (number-in 4 h, le-leb (at + 4 + be 4 s at) (reach room s) g) refl
+
+  pub octets-cut : reach room s < at + 4 → octetsIn room s at ≡ overrun room at
+  unfolding octetsIn
+  octets-cut h = rw (number-over 4 h) (overrun-then room at _)
+
+  pub octets-over : at + 4 ≤ reach room s → reach room s < at + 4 + be 4 s at → octetsIn room s at ≡ overrun room at
+  unfolding octetsIn
+  octets-over h g = rw (number-in 4 h, lt-leb (at + 4 + be 4 s at) (reach room s) g) refl
+
+  -- A string has the rule of octets.
+  pub text-octets : textIn room s at ≡ octetsIn room s at
+  unfolding textIn
+  text-octets = refl
+
+module _ (s : List ℕ) (at : ℕ) where
+  pub number-ok : (w : ℕ) → at + w ≤ length s → number w s at ≡ ok (be w s at) (at + w)
+  number-ok w h = number-in document s at w h
+
+  pub number-no : (w : ℕ) → length s < at + w → number w s at ≡ no 1 at
+  number-no w h = number-over document s at w h
+
+  pub text-ok : at + 4 ≤ length s → at + 4 + be 4 s at ≤ length s → text s at ≡ ok (part s (at + 4) (be 4 s at)) (at + 4 + be 4 s at)
+  text-ok h g = text-octets document s at ∙ octets-in document s at h g
+
+  pub count-ok : (most : ℕ) → at + 4 ≤ length s → be 4 s at ≤ most → count most s at ≡ ok (be 4 s at) (at + 4)
+  unfolding count
+  count-ok most h g = rw (number-ok 4 h, le-leb (be 4 s at) most g) refl
+
+  pub count-no : (most : ℕ) → length s < at + 4 → count most s at ≡ no 1 at
+  unfolding count
+  count-no most h = rw (number-no 4 h) refl
+
+  pub count-over : (most : ℕ) → at + 4 ≤ length s → most < be 4 s at → count most s at ≡ no 4 at
+  unfolding count
+  count-over most h g = rw (number-ok 4 h, lt-leb (be 4 s at) most g) refl
+
+  pub exactly-ok : (n refusal : ℕ) → at + 4 ≤ length s → be 4 s at ≡ n → exactly n refusal s at ≡ ok (be 4 s at) (at + 4)
+  unfolding exactly
+  exactly-ok n refusal h g = rw (number-ok 4 h, eq-eqb (be 4 s at) n g) refl
+
+  pub exactly-no : (n refusal : ℕ) → length s < at + 4 → exactly n refusal s at ≡ no 1 at
+  unfolding exactly
+  exactly-no n refusal h = rw (number-no 4 h) refl
+
+  pub exactly-other : (n refusal : ℕ) → at + 4 ≤ length s → (be 4 s at ≡ n → ⊥) → exactly n refusal s at ≡ no refusal at
+  unfolding exactly
+  exactly-other n refusal h g = rw (number-ok 4 h, ne-eqb (be 4 s at) n g) refl
+
+  -- What an accepted field tells of the octets.
+  pub number-room : (w : ℕ) → isOk (number w s at) ≡ true → at + w ≤ length s
+  unfolding numberIn
+  number-room w t = leb-true (at + w) (length s) (chosen-ok (leb (at + w) (length s)) (λ _. ok (be w s at) (at + w)) 1 at t)
+
+  pub text-room : isOk (text s at) ≡ true → (at + 4 ≤ length s) × (at + 4 + be 4 s at ≤ length s)
+  unfolding textIn octetsIn
+  text-room t =
+      let h = number-room 4 (first-ok (number 4 s at) _ t) in
+      (h, leb-true (at + 4 + be 4 s at) (length s) (chosen-ok (leb (at + 4 + be 4 s at) (length s)) _ 1 at (rw (number-ok 4 h) at t)))
+
+  pub count-room : (most : ℕ) → isOk (count most s at) ≡ true → (at + 4 ≤ length s) × (be 4 s at ≤ most)
+  unfolding count
+  count-room most t =
+      let h = number-room 4 (first-ok (number 4 s at) _ t) in
+      (h, leb-true (be 4 s at) most (chosen-ok (leb (be 4 s at) most) _ 4 at (rw (number-ok 4 h) at t)))
+
+-- A run goes on behind its first.
+module _ {A : Type 0} (f : ℕ → Read A) (at : ℕ) where
+  pub run-on : (k next : ℕ) → ends (f at) ≡ ok next next → ends (run f (suc k) at) ≡ ends (run f k next)
+  unfolding run
+  run-on k next e = on (f at) _ (λ m. ends (run f k m)) next (λ a m. made (run f k m) _) e
+
+  pub run-stop : (k n p : ℕ) → ends (f at) ≡ no n p → ends (run f (suc k) at) ≡ no n p
+  unfolding run
+  run-stop k n p e = stop (f at) _ n p e
+
+  pub run-none : ends (run f zero at) ≡ ok at at
+  unfolding run
+  run-none = refl
+
+  pub run-first : (k : ℕ) → isOk (run f (suc k) at) ≡ true → isOk (f at) ≡ true
+  unfolding run
+  run-first k t = first-ok (f at) _ t
+
+-- What is behind a place is behind each before it.
+pub behind : (at mid : ℕ) (r : Ended) (n : ℕ) → at ≤ mid → Within mid r n → Within at r n
+behind at mid (End p) n h w = (omega arith, w .1)
+behind at mid (Refused k p) n h w = tt
+
+-- What is left of a count, as one more than what is left behind the next.
+pub left-suc : (n i : ℕ) → i < n → n - i ≡ suc (n - (i + 1))
+left-suc n i h = omega arith
+
+pub none-left : (n i : ℕ) → n ≤ i → n - i ≡ 0
+none-left n i h = omega arith
+
+pub sub-none : (n : ℕ) → n ≡ n - 0
+sub-none n = omega arith

@@ -1,0 +1,89 @@
+-- The fields that every construct is made of.
+use mathlib.Core.Path.{_≡_, refl, sym, ap, _∙_, subst}
+use mathlib.Core.List.{List, [], _∷_, _++_}
+use mathlib.Core.Bool.{Bool, true, false}
+use Prim.Native.Nat.{ℕ, zero, suc, _+_, _^_, _≤_, _<_}
+use native.Mathlib.Omega.{arith}
+use native.Mathlib.Nat.{le-refl}
+use lib.ListN.{length}
+use lib.Dec.{leb, eqb}
+use borrow.Author.Tests.{leb-true, eqb-true, le-leb, eq-eqb}
+use Rattle.octets.specs.Reading.{Read, ok, no, _then_, choose, be, part, Room, document, stated, reach, overrun, numberIn, octetsIn, textIn, number, text, count, exactly}
+use Rattle.octets.specs.Writing.{word, textImage, Each, Octet, Text}
+use Rattle.octets.proofs.Spans.{Spans, join, middle, length-word, word-is, word-spans, word-octets, part-spans, part-is, spans-octets, each-append}
+use Rattle.octets.proofs.Inverse.{Inverse, Answer, Any, after, settle, chosen}
+
+-- No reading succeeds where the room ends.
+roomy : {A : Type 0} (room : Room) (at : ℕ) (t : Bool) (x : Unit {0} → Read A) {a : A} {n : ℕ} → choose t x (λ _. overrun room at) ≡ ok a n
+    → (t ≡ true) × (x tt ≡ ok a n)
+roomy document at t x e = chosen t x 1 at e
+roomy (stated end p) at t x e = chosen t x 13 p e
+
+module _ (s : List ℕ) (room : Room) (fits : reach room s ≤ length s) where
+  pub number-inverse : (w : ℕ) → Inverse s (reach room s) (numberIn room w s) (word w) Any (λ n. n < 256 ^ w)
+  unfolding numberIn
+  number-inverse w =
+      record {
+        back = λ n {at} {next} _ g p.
+            let place : next ≡ at + w = p .place ∙ ap (λ (k : ℕ). at + k) (length-word w n) in
+            rw (le-leb (at + w) (reach room s) (omega (arith, p .inside)), word-is w n g p, place);
+        forth = λ o {a = n} {at} h e.
+            let (t, e₁) = roomy room at (leb (at + w) (reach room s)) (λ _. ok (be w s at) (at + w)) e in
+            let (g, p) = word-spans s (reach room s) w at o (leb-true (at + w) (reach room s) t) fits in
+            settle (Answer s (reach room s) (word w) Any (λ m. m < 256 ^ w) at) e₁ (tt, g, p);
+        octets = λ n _ g. word-octets w n;
+      }
+
+  pub octets-inverse : Inverse s (reach room s) (octetsIn room s) textImage Any Text
+  unfolding octetsIn textImage
+  octets-inverse =
+      record {
+        back = λ xs {at} _ g p.
+            let (p₁, p₂) = middle (word 4 (length xs)) xs p in
+            rw (
+              number-inverse 4 .back (length xs) tt (g .1) p₁,
+              le-leb (at + length (word 4 (length xs)) + length xs) (reach room s) (omega (arith, p₂ .place, p₂ .inside)),
+              part-is p₂,
+              p₂ .place,
+            );
+        forth = λ o {a = xs} {at} h e.
+            after (numberIn room 4 s at) _ e λ n next e₁ e₂.
+            let (u, g, p) = number-inverse 4 .forth o h e₁ in
+            let (t, e₃) = roomy room at (leb (next + n) (reach room s)) (λ _. ok (part s next n) (next + n)) e₂ in
+            let (long, q) = part-spans next n (leb-true (next + n) (reach room s) t) fits in
+            settle (Answer s (reach room s) textImage Any Text at) e₃ (tt, (spans-octets o q, rw long g), join (rw (← long) at p) q);
+        octets = λ xs _ g. each-append (word 4 (length xs)) xs (word-octets 4 (length xs)) (g .0);
+      }
+
+  pub text-inverse : Inverse s (reach room s) (textIn room s) textImage Any Text
+  unfolding textIn
+  text-inverse = octets-inverse
+
+module _ (s : List ℕ) where
+  pub number-whole : (w : ℕ) → Inverse s (length s) (number w s) (word w) Any (λ n. n < 256 ^ w)
+  number-whole w = number-inverse s document (le-refl (length s)) w
+
+  pub text-whole : Inverse s (length s) (text s) textImage Any Text
+  text-whole = text-inverse s document (le-refl (length s))
+
+  -- A number of which more is asked, by a test.
+  tested : (test : ℕ → Bool) (refusal : ℕ) {Good : ℕ → Type 0} → ((n : ℕ) → test n ≡ true → Good n) → ((n : ℕ) → Good n → (n < 256 ^ 4) × (test n ≡ true))
+      → Inverse s (length s) (λ at. number 4 s at then λ n next. choose (test n) (λ _. ok n next) (λ _. no refusal at)) (word 4) Any Good
+  tested test refusal {Good} to from =
+      record {
+        back = λ n _ g p. rw (number-whole 4 .back n tt (from n g .0) p, from n g .1);
+        forth = λ o {a = n} {at} h e.
+            after (number 4 s at) _ e λ m next e₁ e₂.
+            let (u, g, p) = number-whole 4 .forth o h e₁ in
+            let (t, e₃) = chosen (test m) (λ _. ok m next) refusal at e₂ in
+            settle (Answer s (length s) (word 4) Any Good at) e₃ (tt, to m t, p);
+        octets = λ n _ g. word-octets 4 n;
+      }
+
+  pub count-inverse : (most : ℕ) → most < 256 ^ 4 → Inverse s (length s) (count most s) (word 4) Any (λ n. n ≤ most)
+  unfolding count
+  count-inverse most h = tested (λ n. leb n most) 4 (λ n t. leb-true n most t) (λ n g. (omega arith, le-leb n most g))
+
+  pub exactly-inverse : (n refusal : ℕ) → n < 256 ^ 4 → Inverse s (length s) (exactly n refusal s) (word 4) Any (λ m. n ≡ m)
+  unfolding exactly
+  exactly-inverse n refusal h = tested (λ m. eqb m n) refusal (λ m t. sym (eqb-true m n t)) (λ m g. (omega arith, eq-eqb m n (sym g)))

@@ -1,0 +1,5 @@
+pub mod Spans
+pub mod Inverse
+pub mod Fields
+pub mod Ends
+pub mod Copies

@@ -1,0 +1,189 @@
+// Numbers and length-led octets: read at a place, compared where they stand, put into the rest of a lent buffer.
+
+ghost use mathlib.Core.Path.{_≡_};
+ghost use mathlib.Core.List.{_++_};
+ghost use Prim.Native.Nat.{_+_, _≤_, _<_};
+ghost use lib.ListN.{length, take, drop};
+ghost use Rattle.octets.specs.Reading.{Room, reach, be, part, same, ends, octetsIn, text, count};
+ghost use Rattle.octets.specs.Writing.{word, over};
+ghost use Rattle.octets.specs.Answers.{says, counts, reached, Within, Counting, Reaching};
+
+// The place behind what was read, or a refusal by number and place.
+pub enum Ended {
+    End(usize),
+    Refused(u32, usize),
+}
+
+// A count with the place behind it, or a refusal by number and place.
+pub enum Counted {
+    Count(u32, usize),
+    Not(u32, usize),
+}
+
+// The place behind what was read, or that it passes the end of its room.
+pub enum Reached {
+    To(usize),
+    Over,
+}
+
+fn wide(x: u8) -> u32
+    ensures { λ r. ⌜ (r ≡ x) × (r < 256) ⌝ }
+{
+    x as u32
+}
+
+fn wide64(x: u32) -> u64
+    ensures { λ r. ⌜ r ≡ x ⌝ }
+{
+    x as u64
+}
+
+// The number that one octet spells.
+pub fn u8_at(s: &[u8], at: usize) -> u8
+    requires { ⌜ at + 1 ≤ length (now s) ⌝ }
+    ensures { λ r. ⌜ r ≡ be 1 (now (s .entry)) at ⌝ }
+{
+    s[at]
+}
+
+// The number that two octets spell.
+pub fn u16_at(s: &[u8], at: usize) -> u16
+    requires { ⌜ at + 2 ≤ length (now s) ⌝ }
+    ensures { λ r. ⌜ r ≡ be 2 (now (s .entry)) at ⌝ }
+{
+    (wide(s[at]) * 256 + wide(s[at + 1])) as u16
+}
+
+// The number that four octets spell.
+pub fn u32_at(s: &[u8], at: usize) -> u32
+    requires { ⌜ at + 4 ≤ length (now s) ⌝ }
+    ensures { λ r. ⌜ r ≡ be 4 (now (s .entry)) at ⌝ }
+{
+    let a = wide(s[at]);
+    let b = wide(s[at + 1]);
+    let c = wide(s[at + 2]);
+    let d = wide(s[at + 3]);
+    ((a * 256 + b) * 256 + c) * 256 + d
+}
+
+// The number that eight octets spell.
+pub fn u64_at(s: &[u8], at: usize) -> u64
+    requires { ⌜ at + 8 ≤ length (now s) ⌝ }
+    ensures { λ r. ⌜ r ≡ be 8 (now (s .entry)) at ⌝ }
+{
+    let high = wide64(u32_at(s, at));
+    let low = wide64(u32_at(s, at + 4));
+    high * 4294967296 + low
+}
+
+// The place behind length-led octets that may reach to an end: a document's, or a stated row's.
+pub fn octets_reach(s: &[u8], at: usize, end: usize) -> Reached
+    requires { ⌜ (at ≤ end) × (end ≤ length (now s)) × (length (now s) ≤ 1048576) ⌝ }
+    ensures { λ r. ⌜ ((room : Room) → reach room (now (s .entry)) ≡ end → reached room at r ≡ ends (octetsIn room (now (s .entry)) at)) × Reaching at r end ⌝ }
+{
+    if end < at + 4 {
+        return Reached::Over;
+    }
+    let n = u32_at(s, at) as usize;
+    if end < at + 4 + n {
+        return Reached::Over;
+    }
+    Reached::To(at + 4 + n)
+}
+
+// The place behind the string at a place of a document or a book.
+pub fn text_end(s: &[u8], at: usize) -> Ended
+    requires { ⌜ (at ≤ length (now s)) × (length (now s) ≤ 1048576) ⌝ }
+    ensures { λ r. ⌜ (says r ≡ ends (text (now (s .entry)) at)) × Within at r (length (now (s .entry))) ⌝ }
+{
+    let reached = octets_reach(s, at, s.len());
+    match reached {
+        Reached::To(next) => Ended::End(next),
+        Reached::Over => Ended::Refused(1, at),
+    }
+}
+
+// The count at a place, which is at most a limit.
+pub fn count_at(s: &[u8], at: usize, most: u32) -> Counted
+    requires { ⌜ (at ≤ length (now s)) × (length (now s) ≤ 1048576) ⌝ }
+    ensures { λ r. ⌜ (counts r ≡ count most (now (s .entry)) at) × Counting at r (length (now (s .entry))) ⌝ }
+{
+    if s.len() < at + 4 {
+        return Counted::Not(1, at);
+    }
+    let n = u32_at(s, at);
+    if most < n {
+        return Counted::Not(4, at);
+    }
+    Counted::Count(n, at + 4)
+}
+
+// Whether two runs of octets are equal, compared where they stand.
+pub fn octets_same<'a, 'b>(a: &'a [u8], b: &'b [u8]) -> bool
+    ensures { λ r. ⌜ r ≡ same (now (a .entry)) (now (b .entry)) ⌝ }
+{
+    if a.len() != b.len() {
+        return false;
+    }
+    let mut i = 0;
+    while i < a.len() {
+        if a[i] != b[i] {
+            return false;
+        }
+        i += 1;
+    }
+    true
+}
+
+// Whether a fixed octet string stands at a place.
+pub fn stands<'s, 'f>(s: &'s [u8], at: usize, fixed: &'f [u8]) -> bool
+    requires { ⌜ at + length (now fixed) ≤ length (now s) ⌝ }
+    ensures { λ r. ⌜ r ≡ same (part (now (s .entry)) at (length (now (fixed .entry)))) (now (fixed .entry)) ⌝ }
+{
+    let end = at + fixed.len();
+    octets_same(&s[at..end], fixed)
+}
+
+// Octets put at the start of the rest that is lent.
+pub fn copy_in<'a, 'b>(xs: &'a [u8], rest: &'b mut [u8])
+    requires { ⌜ length (now xs) ≤ length (now rest) ⌝ }
+    ensures { λ _. ⌜ now (rest .exit) ≡ now (xs .entry) ++ drop (length (now (xs .entry))) (now (rest .entry)) ⌝ }
+{
+    let mut i = 0;
+    while i < xs.len() {
+        rest[i] = xs[i];
+        i += 1;
+    }
+}
+
+// A number put as w octets at the start of the rest that is lent.
+pub fn put_number(rest: &mut [u8], w: usize, v: u64)
+    requires { ⌜ w ≤ length (now rest) ⌝ }
+    ensures { λ _. ⌜ now (rest .exit) ≡ word w v ++ drop w (now (rest .entry)) ⌝ }
+{
+    let mut i = w;
+    let mut left = v;
+    while 0 < i {
+        i -= 1;
+        rest[i] = (left % 256) as u8;
+        left = left / 256;
+    }
+}
+
+// Octets laid over a lent buffer from a place on; the place behind them.
+pub fn lay<'a, 'b>(buf: &'b mut [u8], at: usize, xs: &'a [u8]) -> usize
+    requires { ⌜ at + length (now xs) ≤ length (now buf) ⌝ }
+    ensures { λ r. ⌜ (r ≡ at + length (now (xs .entry))) × (now (buf .exit) ≡ over (now (buf .entry)) at (now (xs .entry))) ⌝ }
+{
+    copy_in(xs, &mut buf[at..]);
+    at + xs.len()
+}
+
+// A number of w octets laid over a lent buffer from a place on; the place behind it.
+pub fn lay_number(buf: &mut [u8], at: usize, w: usize, v: u64) -> usize
+    requires { ⌜ at + w ≤ length (now buf) ⌝ }
+    ensures { λ r. ⌜ (r ≡ at + w) × (now (buf .exit) ≡ over (now (buf .entry)) at (word w v)) ⌝ }
+{
+    put_number(&mut buf[at..], w, v);
+    at + w
+}

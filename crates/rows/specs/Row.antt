@@ -1,0 +1,105 @@
+-- A row: the number of its layout, whether its length was stated, and its fields.
+use Prim.Native.Nat.{ℕ, _+_, _^_, _<_, _≤_}
+use mathlib.Core.Path.{_≡_}
+use mathlib.Core.List.{List, [], _∷_, _++_}
+use mathlib.Core.Bool.{Bool, true, false}
+use mathlib.Core.Option.{Option, some, none}
+use lib.ListN.{length}
+use lib.Dec.{leb, ltb, eqb}
+use Rattle.octets.specs.Reading.{Read, ok, no, _then_, choose, Room, document, stated, numberIn, octetsIn, textIn, number}
+use Rattle.octets.specs.Writing.{word, textImage, images, Text}
+use Rattle.kinds.specs.declared.Form.{Form}
+use Rattle.kinds.specs.declared.Form.the-variants as form
+use Rattle.kinds.specs.Kinds.{formOf}
+use Rattle.layouts.specs.Layout.{Layout, Attribute}
+use Rattle.layouts.specs.Book.{Book, find}
+
+-- A number by its bits, or octets.
+pub data Value : Type 0 where
+  bits : ℕ → Value
+  held : List ℕ → Value
+
+-- A field: its name and type, which the layout gives, and its value.
+pub record Field : Type 0 where
+  pub attribute : Attribute
+  pub value : Value
+
+pub record Row : Type 0 where
+  pub number : ℕ
+  pub is-stated : Bool
+  pub fields : List Field
+
+-- A value by its form. Refusal 14: a boolean that is not 0 or 1, at that octet.
+unfoldable pub valueIn : Room → Form → List ℕ → ℕ → Read Value
+valueIn room (form.Fixed w) s at = numberIn room w s at then λ n next. ok (bits n) next
+valueIn room form.Truth s at = numberIn room 1 s at then λ n next. choose (leb n 1) (λ _. ok (bits n) next) (λ _. no 14 at)
+valueIn room form.Octets s at = octetsIn room s at then λ xs next. ok (held xs) next
+valueIn room form.Text s at = textIn room s at then λ xs next. ok (held xs) next
+
+-- The values in layout order, each with its attribute.
+unfoldable pub fieldsIn : Room → List Attribute → List ℕ → ℕ → Read (List Field)
+fieldsIn room [] s at = ok [] at
+fieldsIn room (a ∷ others) s at =
+    valueIn room (formOf (a .kind .basic)) s at then λ v next.
+    fieldsIn room others s next then λ rest end. ok (record { attribute = a; value = v } ∷ rest) end
+
+-- The values behind a row's length. FF FF FF FF is unstated; any other length is just the octets of the values, else 13 at the length; one that passes the document's end is 1 there.
+unfoldable pub valuesAt : List Attribute → List ℕ → ℕ → ℕ → Read (List Field)
+valuesAt attributes s length-at size =
+    choose (eqb size 0xffffffff) (λ _. fieldsIn document attributes s (length-at + 4))
+    (λ _. choose (leb (length-at + 4 + size) (length s))
+    (λ _. fieldsIn (stated (length-at + 4 + size) length-at) attributes s (length-at + 4) then λ fields end.
+    choose (eqb end (length-at + 4 + size)) (λ _. ok fields end) (λ _. no 13 length-at))
+    (λ _. no 1 length-at))
+
+-- A row of a layout that was looked up: 12 at its number where there is none, before the length is read.
+abbrev pub named : List ℕ → ℕ → ℕ → ℕ → Option Layout → Read Row
+named s at n length-at none = no 12 at
+named s at n length-at (some l) =
+    number 4 s length-at then λ size _.
+    valuesAt (l .attributes) s length-at size then λ fields end.
+    ok (record { number = n; is-stated = ltb size 0xffffffff; fields = fields }) end
+
+-- A row from its layout's number on, over a book.
+unfoldable pub rowAt : Book → List ℕ → ℕ → Read Row
+rowAt book s at = number 4 s at then λ n length-at. named s at n length-at (find n book)
+
+abbrev pub valueImage : Form → Value → List ℕ
+valueImage (form.Fixed w) (bits n) = word w n
+valueImage (form.Fixed w) (held xs) = []
+valueImage form.Truth (bits n) = word 1 n
+valueImage form.Truth (held xs) = []
+valueImage form.Octets (bits n) = []
+valueImage form.Octets (held xs) = textImage xs
+valueImage form.Text (bits n) = []
+valueImage form.Text (held xs) = textImage xs
+
+unfoldable pub fieldImage : Field → List ℕ
+fieldImage f = valueImage (formOf (f .attribute .kind .basic)) (f .value)
+
+-- A row's length: that of its values, or FF FF FF FF where it is unstated.
+abbrev pub lengthImage : Bool → ℕ → List ℕ
+lengthImage true n = word 4 n
+lengthImage false n = word 4 0xffffffff
+
+-- A row's image from its layout's number on.
+unfoldable pub rowImage : Row → List ℕ
+rowImage r = word 4 (r .number) ++ lengthImage (r .is-stated) (length (images fieldImage (r .fields))) ++ images fieldImage (r .fields)
+
+-- A value that its form has an image for.
+abbrev pub GoodValue : Form → Value → Type 0
+GoodValue (form.Fixed w) (bits n) = n < 256 ^ w
+GoodValue (form.Fixed w) (held xs) = ⊥
+GoodValue form.Truth (bits n) = n ≤ 1
+GoodValue form.Truth (held xs) = ⊥
+GoodValue form.Octets (bits n) = ⊥
+GoodValue form.Octets (held xs) = Text xs
+GoodValue form.Text (bits n) = ⊥
+GoodValue form.Text (held xs) = Text xs
+
+-- Fields that are a layout's, in its order.
+abbrev pub FieldsOf : List Attribute → List Field → Type 0
+FieldsOf [] [] = Unit {0}
+FieldsOf [] (f ∷ fs) = ⊥
+FieldsOf (a ∷ rest) [] = ⊥
+FieldsOf (a ∷ rest) (f ∷ fs) = (f .attribute ≡ a) × GoodValue (formOf (a .kind .basic)) (f .value) × FieldsOf rest fs
