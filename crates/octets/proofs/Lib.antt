@@ -3,3 +3,4 @@ pub mod Inverse
 pub mod Fields
 pub mod Ends
 pub mod Copies
+pub mod Runs

@@ -9,6 +9,8 @@ use lib.ListN.{length, take, drop, getD, length-append, length-drop, take-append
 use lib.Seq.{drop-cons, drop-append-seam, drop-drop, drop-length, getD-drop, length-take-le, take-append-seam}
 use lib.Dec.{lit<}
 use lib.Arith.{digits-lt, digits-div, digits-mod}
+use mir.Val.{Fits}
+use mir.Syntax.{w8}
 use Rattle.octets.specs.Reading.{be, part}
 use Rattle.octets.specs.Writing.{word, Each, Octet}
 
@@ -109,9 +111,10 @@ module _ {A : Type 0} (P : A → Type 0) where
 pub each-append : (x y : List ℕ) → Each Octet x → Each Octet y → Each Octet (x ++ y)
 each-append = each-join Octet
 
-pub each-octet : (s : List ℕ) → ((i : ℕ) → getD s i 0 < 256) → Each Octet s
+-- What is known of a slice of octets, as it is known.
+pub each-octet : (s : List ℕ) → ((i : ℕ) → Fits w8 (getD s i 0)) → Each Octet s
 each-octet [] h = tt
-each-octet (x ∷ s) h = (h 0, each-octet s (λ i. h (suc i)))
+each-octet (x ∷ s) h = (h 0 .fits, each-octet s (λ i. h (suc i)))
 
 pub each-getD : (s : List ℕ) (i : ℕ) → Each Octet s → getD s i 0 < 256
 each-getD [] i e = lit< tt

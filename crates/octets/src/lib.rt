@@ -8,6 +8,9 @@ ghost use Rattle.octets.specs.Reading.{Room, reach, be, part, same, ends
 ghost use Rattle.octets.specs.Writing.{word, over};
 ghost use Rattle.octets.specs.Answers.{says, counts, reached, Within, Counting, Reaching};
 
+// The four octets that stand where a count of elements would, and where a row's length is unstated.
+pub const OPEN: [u8; 4] = *b"\xff\xff\xff\xff";
+
 // The place behind what was read, or a refusal by number and place.
 pub enum Ended {
     End(usize),
