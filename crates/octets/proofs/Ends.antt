@@ -174,3 +174,34 @@ none-left n i h = omega arith
 
 pub sub-none : (n : ℕ) → n ≡ n - 0
 sub-none n = omega arith
+
+-- A refusal of two fields is that of whatever follows them.
+pub stop-both : {A B C : Type 0} (r : Read A) (f : A → ℕ → Read B) (g : A → ℕ → B → ℕ → Read C) (n p : ℕ) → ends (r then f) ≡ no n p
+    → (r then λ a m. f a m then g a m) ≡ no n p
+stop-both (ok a m) f g n p e = rw (refused (f a m) n p e) refl
+stop-both (no k q) f g n p e = refused (no k q) n p e
+
+-- A count that was read, and a number that had to be one.
+pub count-is : (s : List ℕ) (at most k next : ℕ) → count most s at ≡ ok k next → (k ≤ most) × (next ≡ at + 4) × (number 4 s at ≡ ok k (at + 4))
+count-is s at most k next e =
+    let (h, g) = count-room s at most (ap isOk e) in
+    let f = count-ok s at most h g in
+    let q : be 4 s at ≡ k = cc in
+    let place : at + 4 ≡ next = cc in
+    (omega arith, sym place, number-ok s at 4 h ∙ ap (λ (n : ℕ). ok n (at + 4)) q)
+
+pub exactly-place : (s : List ℕ) (at n refusal m next : ℕ) → exactly n refusal s at ≡ ok m next → next ≡ at + 4
+unfolding exactly
+exactly-place s at n refusal m next e =
+    let h = number-room s at 4 (first-ok (number 4 s at) _ (ap isOk e)) in
+    go (eqb (be 4 s at) n) (rw (number-ok s at 4 h) at e)
+  where
+    go : (t : Bool) → choose t (λ _. ok (be 4 s at) (at + 4)) (λ _. no refusal at) ≡ ok m next → next ≡ at + 4
+    go true e = let q : at + 4 ≡ next = cc in sym q
+    go false e = absurd (let z : _≡_ {A = ℕ} 0 1 = cc in omega arith)
+
+pub number-place : (w : ℕ) (s : List ℕ) (at n next : ℕ) → number w s at ≡ ok n next → next ≡ at + w
+number-place w s at n next e =
+    let f = number-ok s at w (number-room s at w (ap isOk e)) in
+    let q : at + w ≡ next = cc in
+    sym q

@@ -1,0 +1,196 @@
+-- The equations of the document id, of the two lists as runs of strings, and of a whole header by its parts.
+use Prim.Native.Nat.{ℕ, zero, suc, _+_, _*_, _≤_, _<_}
+use mathlib.Core.Path.{_≡_, refl, sym, ap, _∙_, subst}
+use mathlib.Core.List.{List}
+use native.Mathlib.Omega.{arith}
+use native.Mathlib.Nat.{zero-mul, mul-one}
+use lib.ListN.{length}
+use lib.Dec.{leb}
+use borrow.Author.Tests.{le-leb, lt-leb}
+use Rattle.octets.specs.Reading.{Read, ok, no, _then_, choose, ends, part, number, text, count, exactly, run}
+use Rattle.octets.proofs.Inverse.{after, chosen}
+use Rattle.octets.proofs.Ends.{stop, stop-both, ended, run-on, run-stop, run-none, count-is, exactly-place, number-place}
+use Rattle.octets.proofs.Runs.{run-length}
+use Rattle.headers.specs.Header.{namespaceAt, idAt, headerFrom}
+use Rattle.headers.specs.Answers.{Accepted}
+
+module _ (s : List ℕ) (at : ℕ) where
+  pub id-unsized : (n p : ℕ) → ends (exactly 16 5 s at) ≡ no n p → ends (idAt s at) ≡ no n p
+  unfolding idAt
+  id-unsized n p e = stop (exactly 16 5 s at) _ n p e
+
+  sized : (next : ℕ) → ends (exactly 16 5 s at) ≡ ok next next
+      → idAt s at ≡ choose (leb (next + 16) (length s)) (λ _. ok (part s next 16) (next + 16)) (λ _. no 1 at)
+  unfolding idAt
+  sized next e = let (m, f) = ended (exactly 16 5 s at) next e in rw f refl
+
+  pub id-cut : (next : ℕ) → ends (exactly 16 5 s at) ≡ ok next next → length s < next + 16 → ends (idAt s at) ≡ no 1 at
+  id-cut next e h = ap ends (sized next e) ∙ rw (lt-leb (next + 16) (length s) h) refl
+
+  pub id-whole : (next : ℕ) → ends (exactly 16 5 s at) ≡ ok next next → next + 16 ≤ length s → ends (idAt s at) ≡ ok (next + 16) (next + 16)
+  id-whole next e h = ap ends (sized next e) ∙ rw (le-leb (next + 16) (length s) h) refl
+
+  -- An id that was read stands behind its length.
+  pub id-place : (id : List ℕ) (next : ℕ) → idAt s at ≡ ok id next → next ≡ at + 20
+  unfolding idAt
+  id-place id next e =
+      after (exactly 16 5 s at) _ e λ m mid e₁ e₂.
+      let p = exactly-place s at 16 5 m mid e₁ in
+      let (t, e₃) = chosen (leb (mid + 16) (length s)) (λ _. ok (part s mid 16) (mid + 16)) 1 at e₂ in
+      let q : mid + 16 ≡ next = cc in
+      omega arith
+
+-- One namespace is two strings, so that k of them end where 2k strings do.
+module _ (s : List ℕ) where
+  abbrev Alike : ℕ → ℕ → ℕ → Type 0
+  Alike k n at = ends (run (namespaceAt s) k at) ≡ ends (run (text s) n at)
+
+  second : (k at next : ℕ) (uri : List ℕ) → ((m : ℕ) → Alike k (k * 2) m) → text s at ≡ ok uri next → (q : Read (List ℕ)) → text s next ≡ q
+      → Alike (suc k) (suc (suc (k * 2))) at
+  unfolding namespaceAt
+  second k at next uri again e (ok short end) f =
+      run-on (namespaceAt s) at k end (rw (e, f) refl)
+      ∙ (again end ∙ sym (run-on (text s) at (suc (k * 2)) next (ap ends e) ∙ run-on (text s) next (k * 2) end (ap ends f)))
+  second k at next uri again e (no n p) f =
+      run-stop (namespaceAt s) at k n p (rw (e, f) refl)
+      ∙ sym (run-on (text s) at (suc (k * 2)) next (ap ends e) ∙ run-stop (text s) next (k * 2) n p (ap ends f))
+
+  first : (k at : ℕ) → ((m : ℕ) → Alike k (k * 2) m) → (r : Read (List ℕ)) → text s at ≡ r → Alike (suc k) (suc (suc (k * 2))) at
+  unfolding namespaceAt
+  first k at again (ok uri next) e = second k at next uri again e (text s next) refl
+  first k at again (no n p) e = run-stop (namespaceAt s) at k n p (rw e refl) ∙ sym (run-stop (text s) at (suc (k * 2)) n p (ap ends e))
+
+  pub namespaces-texts : (k at : ℕ) → Alike k (k * 2) at
+  namespaces-texts zero at = run-none (namespaceAt s) at ∙ rw (zero-mul 2) (sym (run-none (text s) at))
+  namespaces-texts (suc k) at =
+      first k at (namespaces-texts k) (text s at) refl ∙ ap (λ (n : ℕ). ends (run (text s) n at)) (twice k)
+    where
+      twice : (k : ℕ) → suc (suc (k * 2)) ≡ suc k * 2
+      twice k = omega arith
+
+  -- The two lists as the code reads them: a count, and strings.
+  namespaces-list : (at : ℕ) → ends (count 16 s at then λ k next. run (namespaceAt s) k next) ≡ ends (count 16 s at then λ k next. run (text s) (k * 2) next)
+  namespaces-list at = go (count 16 s at)
+    where
+      go : (r : Read ℕ) → ends (r then λ k next. run (namespaceAt s) k next) ≡ ends (r then λ k next. run (text s) (k * 2) next)
+      go (ok k next) = namespaces-texts k next
+      go (no n p) = refl
+
+  services-list : (at : ℕ) → ends (count 16 s at then λ k next. run (text s) k next) ≡ ends (count 16 s at then λ k next. run (text s) (k * 1) next)
+  services-list at = go (count 16 s at)
+    where
+      go : (r : Read ℕ) → ends (r then λ k next. run (text s) k next) ≡ ends (r then λ k next. run (text s) (k * 1) next)
+      go (ok k next) = ap (λ (n : ℕ). ends (run (text s) n next)) (sym (mul-one k))
+      go (no n p) = refl
+
+  -- A list that was read: its count and its items.
+  pub record Listed {A : Type 0} (one : ℕ → Read A) (at end : ℕ) : Type 0 where
+    pub items : List A
+    pub counts : count 16 s at ≡ ok (length items) (at + 4)
+    pub number : number 4 s at ≡ ok (length items) (at + 4)
+    pub reads : run one (length items) (at + 4) ≡ ok items end
+
+  listed : {A : Type 0} (one : ℕ → Read A) (at end : ℕ) → ends (count 16 s at then λ k next. run one k next) ≡ ok end end → Listed one at end
+  listed {A} one at end e =
+      let (xs, f) = ended (count 16 s at then λ k next. run one k next) end e in
+      after (count 16 s at) _ f λ k next e₁ e₂.
+      let c = count-is s at 16 k next e₁ in
+      let long : k ≡ length xs = sym (run-length one k next end xs e₂) in
+      record {
+        items = xs;
+        counts = e₁ ∙ (ap (ok k) (c .1) ∙ ap (λ (n : ℕ). ok n (at + 4)) long);
+        number = c .2 ∙ ap (λ (n : ℕ). ok n (at + 4)) long;
+        reads = subst (λ (p : ℕ). run one (length xs) p ≡ ok xs end) (c .1) (subst (λ (n : ℕ). run one n next ≡ ok xs end) long e₂);
+      }
+
+  -- What stands before the lists.
+  pub record Fronted (start namespaces : ℕ) : Type 0 where
+    pub version : ℕ
+    pub is-four : exactly 4 3 s 0 ≡ ok version 4
+    pub recorder : List ℕ
+    pub records : text s 4 ≡ ok recorder start
+    pub time : ℕ
+    pub starts : number 8 s start ≡ ok time (start + 8)
+    pub default : List ℕ
+    pub defaults : text s (start + 8) ≡ ok default namespaces
+
+  pub front : (start namespaces : ℕ) → ends (exactly 4 3 s 0 then λ _ next. text s next) ≡ ok start start
+      → ends (number 8 s start then λ _ next. text s next) ≡ ok namespaces namespaces → Fronted start namespaces
+  front start namespaces e f =
+      let (recorder, e₀) = ended (exactly 4 3 s 0 then λ _ next. text s next) start e in
+      let (default, f₀) = ended (number 8 s start then λ _ next. text s next) namespaces f in
+      after (exactly 4 3 s 0) _ e₀ λ version a e₁ e₂.
+      after (number 8 s start) _ f₀ λ time c f₁ f₂.
+      let p : a ≡ 4 = exactly-place s 0 4 3 version a e₁ in
+      let q : c ≡ start + 8 = number-place 8 s start time c f₁ in
+      record {
+        version = version;
+        is-four = e₁ ∙ ap (ok version) p;
+        recorder = recorder;
+        records = subst (λ (n : ℕ). text s n ≡ ok recorder start) p e₂;
+        time = time;
+        starts = f₁ ∙ ap (ok time) q;
+        default = default;
+        defaults = subst (λ (n : ℕ). text s n ≡ ok default namespaces) q f₂;
+      }
+
+  -- A header is refused where the first of its parts is.
+  module _ (n p : ℕ) where
+    pub refused-front : ends (exactly 4 3 s 0 then λ _ next. text s next) ≡ no n p → headerFrom s 0 ≡ no n p
+    unfolding headerFrom
+    refused-front e = stop-both (exactly 4 3 s 0) _ _ n p e
+
+    pub refused-default : (start : ℕ) → ends (exactly 4 3 s 0 then λ _ next. text s next) ≡ ok start start
+        → ends (number 8 s start then λ _ next. text s next) ≡ no n p → headerFrom s 0 ≡ no n p
+    unfolding headerFrom
+    refused-default start e f =
+        let (recorder, e₀) = ended (exactly 4 3 s 0 then λ _ next. text s next) start e in
+        after (exactly 4 3 s 0) _ e₀ λ version a e₁ e₂.
+        rw (e₁, e₂) (stop-both (number 8 s start) _ _ n p f)
+
+    module _ (start namespaces : ℕ) (f : Fronted start namespaces) where
+      pub refused-namespaces : ends (count 16 s namespaces then λ k next. run (text s) (k * 2) next) ≡ no n p → headerFrom s 0 ≡ no n p
+      unfolding headerFrom
+      refused-namespaces e =
+          rw (f .is-four, f .records, f .starts, f .defaults) (stop-both (count 16 s namespaces) _ _ n p (namespaces-list namespaces ∙ e))
+
+      module _ (services : ℕ) (l : Listed (namespaceAt s) namespaces services) where
+        pub refused-services : ends (count 16 s services then λ k next. run (text s) (k * 1) next) ≡ no n p → headerFrom s 0 ≡ no n p
+        unfolding headerFrom
+        refused-services e =
+            rw (f .is-four, f .records, f .starts, f .defaults, l .counts, l .reads) (stop-both (count 16 s services) _ _ n p (services-list services ∙ e))
+
+        pub refused-close : (id : ℕ) → Listed (text s) services id → ends (idAt s id then λ _ next. exactly 0xffffffff 6 s next) ≡ no n p → headerFrom s 0 ≡ no n p
+        unfolding headerFrom
+        refused-close id m e =
+            rw (f .is-four, f .records, f .starts, f .defaults, l .counts, l .reads, m .counts, m .reads) (stop-both (idAt s id) _ _ n p e)
+
+  pub namespaces-listed : (at end : ℕ) → ends (count 16 s at then λ k next. run (text s) (k * 2) next) ≡ ok end end → Listed (namespaceAt s) at end
+  namespaces-listed at end e = listed (namespaceAt s) at end (namespaces-list at ∙ e)
+
+  pub services-listed : (at end : ℕ) → ends (count 16 s at then λ k next. run (text s) (k * 1) next) ≡ ok end end → Listed (text s) at end
+  services-listed at end e = listed (text s) at end (services-list at ∙ e)
+
+  -- A header whose parts are all accepted.
+  pub accepted : (start namespaces services id end : ℕ) → Fronted start namespaces → Listed (namespaceAt s) namespaces services → Listed (text s) services id
+      → ends (idAt s id then λ _ next. exactly 0xffffffff 6 s next) ≡ ok end end
+      → Accepted s (record { start = start; namespaces = namespaces; services = services; id = id; end = end })
+  unfolding headerFrom
+  accepted start namespaces services id end f l m e =
+      let (four, e₀) = ended (idAt s id then λ _ next. exactly 0xffffffff 6 s next) end e in
+      after (idAt s id) _ e₀ λ value next e₁ e₂.
+      record {
+        header = record { recorder = f .recorder; start = f .time; default = f .default; others = l .items; services = m .items; id = value };
+        reads = rw (f .is-four, f .records, f .starts, f .defaults, l .counts, l .reads, m .counts, m .reads, e₁, e₂) refl;
+        located =
+            record {
+              recorder = f .records;
+              start = f .starts;
+              default = f .defaults;
+              namespaces = l .number;
+              others = l .reads;
+              counted = m .number;
+              services = m .reads;
+              id = e₁ ∙ ap (ok value) (id-place s id value next e₁);
+            };
+      }
