@@ -19,7 +19,7 @@ use Rattle.octets.proofs.Copies.{both-true}
 use Rattle.layouts.specs.Layout.{Layout, layoutAt, layoutImage, GoodLayout}
 use Rattle.layouts.specs.Book.{Book, find, isNone, Distinct, bookImage, layoutsAt, as17, bookOf, bookIn, IsBook}
 use Rattle.layouts.proofs.Layouts.{layout-inverse, layout-long}
-use Rattle.layouts.proofs.Find.{distinct-snoc, distinct-mid, absent}
+use Rattle.layouts.proofs.Finding.{distinct-snoc, distinct-mid, absent}
 
 -- Layouts inside the limits, of different numbers, that fit a book.
 pub record GoodBook (book : Book) : Type 0 where
@@ -57,7 +57,7 @@ pub record Layouts (s : List ℕ) (k : ℕ) (met : Book) (at : ℕ) (book : Book
   pub whole : end ≡ length s
 
 module _ (s : List ℕ) where
-  layouts-end : (k : ℕ) (met : Book) (at : ℕ) → at ≡ length s → layoutsAt k met s at ≡ ok met at
+  pub layouts-end : (k : ℕ) (met : Book) (at : ℕ) → at ≡ length s → layoutsAt k met s at ≡ ok met at
   unfolding layoutsAt
   layouts-end zero met at e = rw (eq-eqb at (length s) e)
   layouts-end (suc k) met at e = rw (eq-eqb at (length s) e)

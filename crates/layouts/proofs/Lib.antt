@@ -1,4 +1,8 @@
 pub mod Layouts
-pub mod Find
+pub mod Finding
 pub mod Books
-pub mod Learn
+pub mod Growing
+pub mod Places
+pub mod Walks
+pub mod Checks
+pub mod Lends

@@ -1,0 +1,249 @@
+// Layouts and the book: a layout's end and parts at a place, a lent book checked, searched and added to.
+
+ghost use mathlib.Core.Path.{_≡_};
+ghost use mathlib.Core.Bool.{true};
+ghost use mathlib.Core.List.{[]};
+ghost use Prim.Native.Nat.{ℕ, _+_, _-_, _≤_};
+ghost use lib.ListN.{length, take};
+ghost use Rattle.octets.specs.Reading.{ok, ends, isOk, run, same};
+ghost use Rattle.octets.specs.Answers.{says, Within};
+ghost use Rattle.kinds.specs.Kinds.{kindAt};
+ghost use Rattle.layouts.specs.Layout.{Layout, attributeAt, layoutAt, layoutImage};
+ghost use Rattle.layouts.specs.Book.{Book, bookOf, bookIn, IsBook, layoutsAt};
+ghost use Rattle.layouts.specs.Answers.{among, Image, Holds, Looks, Finds, Reads, Learns, Nth, Has};
+use kinds::Kinded;
+use octets::Counted;
+use octets::Ended;
+
+// Where a number was looked up: the place of its layout, or how many layouts there are, none of them its.
+pub enum Looked {
+    There(usize),
+    Missing(usize),
+}
+
+// The place of a layout in a book.
+pub enum Found {
+    At(usize),
+    Nothing,
+}
+
+// A layout met: known already, new with the octets that the book uses then, or refused by number.
+pub enum Learning {
+    Known,
+    New(usize),
+    Refused(u32),
+}
+
+// The place behind the type at a place.
+fn kind_end(s: &[u8], at: usize) -> Ended
+    requires { ⌜ (at ≤ length (now s)) × (length (now s) ≤ 1048576) ⌝ }
+    ensures { λ r. ⌜ (says r ≡ ends (kindAt (now (s .entry)) at)) × Within at r (length (now (s .entry))) ⌝ }
+{
+    let kind = kinds::kind_at(s, at);
+    match kind {
+        Kinded::At(k) => Ended::End(at + 4),
+        Kinded::Refused(n, p) => Ended::Refused(n, p),
+    }
+}
+
+// The place behind the attribute at a place.
+fn attribute_end(s: &[u8], at: usize) -> Ended
+    requires { ⌜ (at ≤ length (now s)) × (length (now s) ≤ 1048576) ⌝ }
+    ensures { λ r. ⌜ (says r ≡ ends (attributeAt (now (s .entry)) at)) × Within at r (length (now (s .entry))) ⌝ }
+{
+    let name = octets::text_end(s, at);
+    match name {
+        Ended::Refused(n, p) => Ended::Refused(n, p),
+        Ended::End(next) => kind_end(s, next),
+    }
+}
+
+// The place behind the run of attributes at a place.
+fn attributes_end(s: &[u8], at: usize, count: u32) -> Ended
+    requires { ⌜ (at ≤ length (now s)) × (length (now s) ≤ 1048576) ⌝ }
+    ensures { λ r. ⌜ (says r ≡ ends (run (attributeAt (now (s .entry))) count at)) × Within at r (length (now (s .entry))) ⌝ }
+{
+    let mut pos = at;
+    let mut i: u32 = 0;
+    while i < count {
+        let one = attribute_end(s, pos);
+        match one {
+            Ended::Refused(n, p) => {
+                return Ended::Refused(n, p);
+            }
+            Ended::End(next) => {
+                pos = next;
+            }
+        }
+        i += 1;
+    }
+    Ended::End(pos)
+}
+
+// The place behind the layout whose number stands at a place of a document or a book.
+pub fn layout_end(s: &[u8], at: usize) -> Ended
+    requires { ⌜ (at ≤ length (now s)) × (length (now s) ≤ 1048576) ⌝ }
+    ensures { λ r. ⌜ (says r ≡ ends (layoutAt (now (s .entry)) at)) × Within at r (length (now (s .entry))) ⌝ }
+{
+    if s.len() < at + 4 {
+        return Ended::Refused(1, at);
+    }
+    let name = octets::text_end(s, at + 4);
+    match name {
+        Ended::Refused(n, p) => Ended::Refused(n, p),
+        Ended::End(counted) => {
+            let count = octets::count_at(s, counted, 64);
+            match count {
+                Counted::Not(n, p) => Ended::Refused(n, p),
+                Counted::Count(k, first) => attributes_end(s, first, k),
+            }
+        }
+    }
+}
+
+// The place behind an attribute that is known to be accepted.
+pub fn attribute_skip(s: &[u8], at: usize) -> usize
+    requires { ⌜ (length (now s) ≤ 1048576) × (isOk (attributeAt (now s) at) ≡ true) ⌝ }
+    ensures { λ r. ⌜ ends (attributeAt (now (s .entry)) at) ≡ ok r r ⌝ }
+{
+    at + 4 + (octets::u32_at(s, at) as usize) + 4
+}
+
+// The place behind a layout that is known to be accepted: lengths alone are read.
+pub fn layout_skip(s: &[u8], at: usize) -> usize
+    requires { ⌜ (length (now s) ≤ 1048576) × (isOk (layoutAt (now s) at) ≡ true) ⌝ }
+    ensures { λ r. ⌜ ends (layoutAt (now (s .entry)) at) ≡ ok r r ⌝ }
+{
+    let mid = at + 4 + 4 + (octets::u32_at(s, at + 4) as usize);
+    let k = octets::u32_at(s, mid);
+    let mut pos = mid + 4;
+    let mut i: u32 = 0;
+    while i < k {
+        pos = attribute_skip(s, pos);
+        i += 1;
+    }
+    pos
+}
+
+// Looks a number up in octets that are the image of layouts.
+pub fn look_in(s: &[u8], number: u32) -> Looked
+    requires { ⌜ (length (now s) ≤ 1048576) × Holds (now s) ⌝ }
+    ensures { λ r. ⌜ ((book : Book) → Image (now (s .entry)) book → Looks (now (s .entry)) number book r) ⌝ }
+{
+    let mut pos = 0;
+    let mut k: usize = 0;
+    while pos < s.len() {
+        if octets::u32_at(s, pos) == number {
+            return Looked::There(pos);
+        }
+        pos = layout_skip(s, pos);
+        k += 1;
+    }
+    Looked::Missing(k)
+}
+
+// Finds the layout of a number in a book that is known to be good.
+pub fn find(book: &[u8], used: usize, number: u32) -> Found
+    requires { ⌜ IsBook (now book) used ⌝ }
+    ensures { λ r. ⌜ Finds (take used (now (book .entry))) number (bookIn (now (book .entry)) used) r ⌝ }
+{
+    let looked = look_in(&book[..used], number);
+    match looked {
+        Looked::There(p) => Found::At(p),
+        Looked::Missing(k) => Found::Nothing,
+    }
+}
+
+// Whether a number is among those met.
+fn is_among(met: &[u32], number: u32) -> bool
+    ensures { λ r. ⌜ r ≡ among number (now (met .entry)) ⌝ }
+{
+    let mut i = 0;
+    while i < met.len() {
+        if number == met[i] {
+            return true;
+        }
+        i += 1;
+    }
+    false
+}
+
+// Whether octets are whole valid layouts of different numbers, at most 64: each layout is read once, and its number kept to compare.
+fn are_layouts(s: &[u8]) -> bool
+    requires { ⌜ length (now s) ≤ 1048576 ⌝ }
+    ensures { λ r. ⌜ r ≡ isOk (layoutsAt 64 [] (now (s .entry)) 0) ⌝ }
+{
+    let mut met = [0u32; 64];
+    let mut pos = 0;
+    let mut k: usize = 0;
+    while pos < s.len() {
+        if 64 <= k {
+            return false;
+        }
+        let Ended::End(next) = layout_end(s, pos) else {
+            return false;
+        };
+        let number = octets::u32_at(s, pos);
+        if is_among(&met[..k], number) {
+            return false;
+        }
+        met[k] = number;
+        pos = next;
+        k += 1;
+    }
+    true
+}
+
+// Whether lent octets, of which so many are used, hold a book.
+pub fn is_book(book: &[u8], used: usize) -> bool
+    ensures { λ r. ⌜ r ≡ isOk (bookOf (now (book .entry)) used) ⌝ }
+{
+    if book.len() < 32768 {
+        return false;
+    }
+    if 32768 < used {
+        return false;
+    }
+    are_layouts(&book[..used])
+}
+
+// Whether the layout at a place of a book is the one from a place of a document to its end, octet by octet where they stand.
+fn same_layout<'d, 'b>(doc: &'d [u8], at: usize, end: usize, s: &'b [u8], p: usize) -> bool
+    requires { ⌜ (at ≤ end) × (end ≤ length (now doc)) × (length (now s) ≤ 1048576) × Reads (now s) p ⌝ }
+    ensures { λ r. ⌜ ((l m : Layout) (q : ℕ) → layoutAt (now (doc .entry)) at ≡ ok l end → layoutAt (now (s .entry)) p ≡ ok m q → r ≡ same (layoutImage m) (layoutImage l)) ⌝ }
+{
+    let q = layout_skip(s, p);
+    octets::octets_same(&s[p..q], &doc[at..end])
+}
+
+// Learns the layout from a place of a document to its end: a new one's octets are put behind the used ones.
+pub fn learn<'d, 'b>(
+    doc: &'d [u8],
+    at: usize,
+    end: usize,
+    book: &'b mut [u8],
+    used: usize,
+) -> Learning
+    requires { ⌜ (at ≤ end) × (end ≤ length (now doc)) × (ends (layoutAt (now doc) at) ≡ ok end end) × IsBook (now book) used ⌝ }
+    ensures { λ r. ⌜ ((l : Layout) → layoutAt (now (doc .entry)) at ≡ ok l end → Learns (now (book .entry)) (now (book .exit)) (bookIn (now (book .entry)) used) l at r) ⌝ }
+{
+    let looked = look_in(&book[..used], octets::u32_at(doc, at));
+    match looked {
+        Looked::There(p) => {
+            if same_layout(doc, at, end, &book[..used], p) {
+                Learning::Known
+            } else {
+                Learning::Refused(10)
+            }
+        }
+        Looked::Missing(k) => {
+            if 64 <= k {
+                return Learning::Refused(11);
+            }
+            if 32768 - used < end - at {
+                return Learning::Refused(11);
+            }
+            Learning::New(octets::lay(book, used, &doc[at..end]))
+        }
+    }
+}

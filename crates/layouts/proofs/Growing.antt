@@ -15,7 +15,7 @@ use Rattle.octets.proofs.Spans.{each-join}
 use Rattle.octets.proofs.Inverse.{no-ok, ok-value}
 use Rattle.layouts.specs.Layout.{Layout, layoutImage, GoodLayout}
 use Rattle.layouts.specs.Book.{Book, find, isNone, bookImage, learnAt, learn, Distinct}
-use Rattle.layouts.proofs.Find.{none-some, some-same, First, first, find-here, find-nil, find-front, find-behind, Within, within-front, within-snoc, distinct-snoc, each-find, total, total-within, total-length, total-image}
+use Rattle.layouts.proofs.Finding.{none-some, some-same, First, first, find-here, find-nil, find-front, find-behind, Within, within-front, within-snoc, distinct-snoc, each-find, total, total-within, total-length, total-image}
 use Rattle.layouts.proofs.Layouts.{layout-once}
 use Rattle.layouts.proofs.Books.{GoodBook, image-nil, image-snoc}
 

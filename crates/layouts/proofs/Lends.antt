@@ -1,0 +1,74 @@
+-- Learning by octets: what a lent book answers of a layout in a document, what its octets are then, and that it is a good book again.
+-- The used octets are the book's image, so a layout's octets behind them make the image of the book with it.
+use Prim.Native.Nat.{ℕ, _+_, _-_, _≤_, _<_}
+use mathlib.Core.Path.{_≡_, refl, ap, _∙_, sym, subst}
+use mathlib.Core.List.{List, [], _∷_, _++_, append-assoc}
+use mathlib.Core.Bool.{Bool, true, false, _&&_}
+use mathlib.Core.Option.{some, none}
+use mathlib.Core.Logic.{inl, inr}
+use lib.ListN.{length, take, drop, length-append, length-drop, take-append-drop}
+use lib.Seq.{length-take-le, take-append-seam}
+use lib.Dec.{leb, ltb}
+use borrow.Author.Tests.{le-ltb, le-leb, lt-leb}
+use native.Mathlib.Omega.{arith}
+use Rattle.octets.specs.Reading.{Read, ok, no, choose, ends, part, same}
+use Rattle.octets.specs.Writing.{Each, Octet, over}
+use Rattle.octets.proofs.Inverse.{reads-forth}
+use Rattle.layouts.specs.Layout.{Layout, layoutAt, layoutImage, GoodLayout}
+use Rattle.layouts.specs.Book.{Book, find, bookImage, bookOf, layoutsAt, bookIn, IsBook, learn}
+use Rattle.layouts.specs.Answers.{Learns}
+use Rattle.layouts.specs.declared.Learning.{Learning}
+use Rattle.layouts.specs.declared.Learning.the-variants.{Known, New, Refused}
+use Rattle.layouts.proofs.Layouts.{layout-inverse}
+use Rattle.layouts.proofs.Books.{GoodBook, Lent, book-back, image-snoc}
+use Rattle.layouts.proofs.Growing.{Learnt, learnt, learn-new, good-snoc}
+use Rattle.layouts.proofs.Walks.{lent-book}
+
+-- A layout's octets where it stands.
+pub layout-part : (s : List ℕ) (at next : ℕ) (l : Layout) → Each Octet s → at ≤ length s → layoutAt s at ≡ ok l next
+    → GoodLayout l × (at ≤ next) × (next ≤ length s) × (take (next - at) (drop at s) ≡ layoutImage l)
+unfolding part
+layout-part s at next l o h e = reads-forth layout-inverse s l at next o h e
+
+-- A reading that is accepted ends at one place.
+pub one-end : {A : Type 0} (r : Read A) {a : A} {n m : ℕ} → r ≡ ok a n → ends r ≡ ok m m → m ≡ n
+one-end r e f = cc (ap ends e, f)
+
+-- What learning answers, by what was found.
+module _ (book : Book) (l : Layout) (at : ℕ) where
+  pub learn-same : (m : Layout) → find (l .number) book ≡ some m → same (layoutImage m) (layoutImage l) ≡ true → learn book l at ≡ ok book at
+  unfolding learn
+  learn-same m f t = rw (f, t) refl
+
+  pub learn-other : (m : Layout) → find (l .number) book ≡ some m → same (layoutImage m) (layoutImage l) ≡ false → learn book l at ≡ no 10 at
+  unfolding learn
+  learn-other m f t = rw (f, t) refl
+
+  pub learn-many : find (l .number) book ≡ none → 64 ≤ length book → learn book l at ≡ no 11 at
+  unfolding learn
+  learn-many f h = rw (f, le-ltb (length book) 64 h) refl
+
+  pub learn-long : find (l .number) book ≡ none → 32768 < length (bookImage book) + length (layoutImage l) → learn book l at ≡ no 11 at
+  unfolding learn
+  learn-long f h = rw (f, lt-leb (length (bookImage book) + length (layoutImage l)) 32768 h) (never (ltb (length book) 64))
+    where
+      never : (t : Bool) → choose {A = Read Book} (t && false) (λ _. ok (book ++ l ∷ []) at) (λ _. no 11 at) ≡ no 11 at
+      never true = refl
+      never false = refl
+
+-- The layout whose octets are those given, learnt by a lent book that has none of its number.
+module _ (octets new : List ℕ) (used at : ℕ) (book : Book) (l : Layout) (h : Lent octets used book) (is : new ≡ layoutImage l) (f : find (l .number) book ≡ none) where
+  image-length : length (layoutImage l) ≡ length new
+  image-length = ap length (sym is)
+
+  pub no-room : 32768 - used < length new → learn book l at ≡ no 11 at
+  no-room g = learn-long book l at f (omega (arith, h .size, h .most, image-length))
+
+  pub new-learnt : length book < 64 → used + length new ≤ 32768 → (exit : List ℕ) (v : ℕ) → v ≡ used + length new → exit ≡ over octets used new
+      → Learns octets exit book l at (New v)
+  unfolding over
+  new-learnt few g exit v e x = (
+    learn-new book l at f few (omega (arith, h .size, image-length)),
+    rw (image-snoc book l, length-append (bookImage book) (layoutImage l)) (omega (arith, h .size, image-length)),
+    x ∙ rw (e, image-snoc book l, h .image, ← is, append-assoc) refl,
+  )

@@ -1,0 +1,68 @@
+-- `layouts::attributes_end` meets its contract. The invariant: reading the run from its start is reading what is left of it from here.
+-- The measure is what is left. Assumes nothing.
+use borrow.Author.Needs.{needs}
+use native.Mathlib.Omega.{arith}
+use Prim.Native.Nat.{ℕ, suc, _+_, _-_, _≤_, _<_}
+use mathlib.Core.Path.{_≡_, refl, sym, _∙_, ap}
+use lib.ListN.{length}
+use denote.Ref.{now}
+use Rattle.octets.specs.Reading.{run, ends}
+use Rattle.layouts.specs.Layout.{attributeAt}
+use Rattle.octets.specs.Answers.{says}
+use Rattle.octets.proofs.Ends.{run-on, run-stop, run-none, left-suc, none-left, sub-none}
+use Rattle.layouts.proofs.attributes_end.Statement.{statement}
+use Rattle.layouts.proofs.attributes_end.Tie as tie
+
+abbrev Inv-loop : tie.InvT-loop
+Inv-loop s at count pos₀ i₀ pos i =
+    (i ≤ count) × (at ≤ pos) × (pos ≤ length s) × (ends (run (attributeAt s) count at) ≡ ends (run (attributeAt s) (count - i) pos))
+
+abbrev μ-loop : tie.MeasureT-loop
+μ-loop s at count pos₀ i₀ pos i = count - i
+
+loop-holds : tie.Need-loop-holds Inv-loop μ-loop
+loop-holds c =
+    let a = c .before .args in
+    (search needs, search needs, c .before .pre .0, ap (λ (k : ℕ). ends (run (attributeAt (now (a .s))) k (a .at))) (sub-none (a .count)))
+
+returns : tie.Need-returns Inv-loop μ-loop
+returns c =
+    let a = c .before .before .before .before .before .before .before .args in
+    let l = c .before .before .before .before .before .loop in
+    let h = sym (c .before .before .before .attribute-end .ensures .0) ∙ ap says (c .before .one .given .1) in (
+      sym
+          (l .inv .3 ∙ ap (λ (k : ℕ). ends (run (attributeAt (now (a .s))) k (l .pos))) (left-suc (a .count) (l .i) (omega arith))
+          ∙ run-stop (attributeAt (now (a .s))) (l .pos) _ _ _ h),
+      tt,
+    )
+
+loop-again : tie.Need-loop-again Inv-loop μ-loop
+loop-again c =
+    let a = c .before .before .before .before .before .before .before .args in
+    let l = c .before .before .before .before .before .loop in
+    let e = c .before .one2 .given .1 in
+    let next = c .before .one2 .given .0 .0 in
+    let h = sym (c .before .before .before .attribute-end .ensures .0) ∙ ap says e in
+    let w = rw e at (c .before .before .before .attribute-end .ensures .1) in (
+      omega arith,
+      omega arith,
+      w .1,
+      l .inv .3 ∙ ap (λ (k : ℕ). ends (run (attributeAt (now (a .s))) k (l .pos))) (left-suc (a .count) (l .i) (omega arith))
+          ∙ run-on (attributeAt (now (a .s))) (l .pos) (a .count - (l .i + 1)) next h,
+    )
+
+returns-2 : tie.Need-returns-2 Inv-loop μ-loop
+returns-2 c =
+    let a = c .before .before .before .args in
+    let l = c .before .loop in (
+      sym
+          (l .inv .3 ∙ ap (λ (k : ℕ). ends (run (attributeAt (now (a .s))) k (l .pos))) (none-left (a .count) (l .i) (c .loop-test .left))
+          ∙ run-none (attributeAt (now (a .s))) (l .pos)),
+      search needs,
+    )
+
+pub attributes-end-spec : {M : Type 1} → statement M
+attributes-end-spec =
+    tie.close
+    (tie.spec Inv-loop μ-loop loop-holds (λ c κs. search needs) (λ c. search needs) returns (λ c. search needs) (λ c. omega arith) (λ c. omega arith)
+    loop-again returns-2)

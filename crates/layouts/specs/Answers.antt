@@ -1,0 +1,78 @@
+-- What the answers about layouts and books say.
+use Prim.Native.Nat.{ℕ, _+_, _<_}
+use mathlib.Core.Path.{_≡_}
+use mathlib.Core.List.{List, [], _∷_, _++_}
+use mathlib.Core.Bool.{Bool, true, false}
+use mathlib.Core.Option.{some, none}
+use lib.ListN.{length, drop}
+use lib.Dec.{eqb}
+use Rattle.octets.specs.Reading.{Read, ok, no, choose}
+use Rattle.octets.specs.Writing.{Each}
+use Rattle.layouts.specs.Layout.{Attribute, Layout, attributeAt, layoutAt, GoodLayout}
+use Rattle.layouts.specs.Book.{Book, find, bookImage, learn}
+use Rattle.layouts.specs.declared.Looked.{Looked}
+use Rattle.layouts.specs.declared.Looked.the-variants.{There, Missing}
+use Rattle.layouts.specs.declared.Found.{Found}
+use Rattle.layouts.specs.declared.Found.the-variants.{At, Nothing}
+use Rattle.layouts.specs.declared.Learning.{Learning}
+use Rattle.layouts.specs.declared.Learning.the-variants.{Known, New, Refused}
+
+-- Whether a number is among some.
+abbrev pub among : ℕ → List ℕ → Bool
+among n [] = false
+among n (m ∷ rest) = choose (eqb n m) (λ _. true) (λ _. among n rest)
+
+-- Octets that are the image of layouts inside the limits.
+pub record Image (s : List ℕ) (book : Book) : Type 0 where
+  pub is : bookImage book ≡ s
+  pub good : Each GoodLayout book
+
+pub record Holds (s : List ℕ) : Type 0 where
+  pub book : Book
+  pub image : Image s book
+
+-- At a place stands the layout that a book has under a number.
+pub record Stands (s : List ℕ) (n : ℕ) (book : Book) (p : ℕ) : Type 0 where
+  pub layout : Layout
+  pub next : ℕ
+  pub found : find n book ≡ some layout
+  pub reads : layoutAt s p ≡ ok layout next
+
+-- The place of the layout of a number; where there is none, how many layouts there are.
+abbrev pub Looks : List ℕ → ℕ → Book → Looked → Type 0
+Looks s n book (There p) = Stands s n book p
+Looks s n book (Missing k) = (find n book ≡ none) × (length book ≡ k)
+
+-- The place of the layout of a number in a book's octets, or that the book has none.
+abbrev pub Finds : List ℕ → ℕ → Book → Found → Type 0
+Finds s n book (At p) = Stands s n book p
+Finds s n book Nothing = find n book ≡ none
+
+-- A layout stands at a place.
+pub record Reads (s : List ℕ) (p : ℕ) : Type 0 where
+  pub layout : Layout
+  pub next : ℕ
+  pub reads : layoutAt s p ≡ ok layout next
+
+-- What learning a layout at a place answers, and what the lent octets hold then: known or refused, they are as they were; new, the layout's octets stand right behind the used ones and all behind them is as it was.
+abbrev pub Learns : List ℕ → List ℕ → Book → Layout → ℕ → Learning → Type 0
+Learns entry exit book l at Known = (learn book l at ≡ ok book at) × (exit ≡ entry)
+Learns entry exit book l at (New used) =
+    (learn book l at ≡ ok (book ++ l ∷ []) at) × (used ≡ length (bookImage (book ++ l ∷ [])))
+    × (exit ≡ bookImage (book ++ l ∷ []) ++ drop used entry)
+Learns entry exit book l at (Refused n) = (learn book l at ≡ no n at) × (exit ≡ entry)
+
+-- A layout of more than n attributes stands at a place.
+pub record Has (s : List ℕ) (at n : ℕ) : Type 0 where
+  pub layout : Layout
+  pub end : ℕ
+  pub reads : layoutAt s at ≡ ok layout end
+  pub more : n < length (layout .attributes)
+
+-- The attribute of an index stands at a place.
+pub record Nth (s : List ℕ) (all : List Attribute) (n p : ℕ) : Type 0 where
+  pub attribute : Attribute
+  pub more : List Attribute
+  pub next : ℕ
+  pub is : drop n all ≡ attribute ∷ more
+  pub reads : attributeAt s p ≡ ok attribute next
