@@ -21,7 +21,7 @@ use Rattle.layouts.specs.declared.Learning.{Learning}
 use Rattle.layouts.specs.declared.Learning.the-variants.{Known, New, Refused}
 use Rattle.layouts.proofs.Layouts.{layout-inverse}
 use Rattle.layouts.proofs.Books.{GoodBook, Lent, book-back, image-snoc}
-use Rattle.layouts.proofs.Growing.{Learnt, learnt, learn-new, good-snoc}
+use Rattle.layouts.proofs.Growing.{learn-new, grown}
 use Rattle.layouts.proofs.Walks.{lent-book}
 
 -- A layout's octets where it stands.
@@ -72,3 +72,33 @@ module _ (octets new : List ℕ) (used at : ℕ) (book : Book) (l : Layout) (h :
     rw (image-snoc book l, length-append (bookImage book) (layoutImage l)) (omega (arith, h .size, image-length)),
     x ∙ rw (e, image-snoc book l, h .image, ← is, append-assoc) refl,
   )
+
+-- A book of which none is used is empty.
+pub empty-book : (octets : List ℕ) → 32768 ≤ length octets → IsBook octets 0 × (bookIn octets 0 ≡ [])
+unfolding bookIn bookOf layoutsAt
+empty-book octets h = (rw (le-leb 32768 (length octets) h) refl, rw (le-leb 32768 (length octets) h) refl)
+
+-- Lent octets that are as they were hold the book that they held.
+pub kept-book : (entry exit : List ℕ) (used : ℕ) → exit ≡ entry → IsBook entry used → IsBook exit used × (bookIn exit used ≡ bookIn entry used)
+kept-book entry exit used x e = (rw x e, rw x refl)
+
+-- What a lent book holds that learnt: learning a layout leaves the lent octets as many, and a new one makes them a good book with it behind the others.
+module _ (entry exit : List ℕ) (used at : ℕ) (l : Layout) (o : Each Octet entry) (is : IsBook entry used) (g : GoodLayout l) where
+  new-good : learn (bookIn entry used) l at ≡ ok (bookIn entry used ++ l ∷ []) at → GoodBook (bookIn entry used ++ l ∷ [])
+  new-good e = grown (bookIn entry used) l at (bookIn entry used ++ l ∷ []) at (lent-book entry used o is .good) g e .good
+
+  pub learns-length : (r : Learning) → Learns entry exit (bookIn entry used) l at r → length exit ≡ length entry
+  learns-length Known h = ap length (h .1)
+  learns-length (New v) h =
+      ap length (h .2) ∙ rw (length-append (bookImage (bookIn entry used ++ l ∷ [])) (drop v entry), length-drop v entry)
+      (omega (arith, h .1, new-good (h .0) .small, lent-book entry used o is .room))
+  learns-length (Refused n) h = ap length (h .1)
+
+  pub new-book : (v : ℕ) → Learns entry exit (bookIn entry used) l at (New v) → IsBook exit v × (bookIn exit v ≡ bookIn entry used ++ l ∷ [])
+  unfolding bookIn
+  new-book v h =
+      let c : Book = bookIn entry used ++ l ∷ [] in
+      let room : 32768 ≤ length exit = omega (arith, learns-length (New v) h, lent-book entry used o is .room) in
+      let front : take (length (bookImage c)) exit ≡ bookImage c = ap (take (length (bookImage c))) (h .2) ∙ take-append-seam (bookImage c) (drop v entry) in
+      let back : bookOf exit v ≡ ok c v = rw (h .1) (book-back c exit (new-good (h .0)) room front) in
+      (rw back refl, rw back refl)
