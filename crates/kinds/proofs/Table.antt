@@ -8,13 +8,13 @@ use mathlib.Core.Logic.{_⊎_, inl, inr}
 use Prim.Native.Nat.{ℕ, _+_, _*_, _/_, _%_, _^_, _≤_, _<_}
 use native.Mathlib.Omega.{arith}
 use lib.ListN.{length}
-use lib.Dec.{leb, ltb, eqb, lit<}
+use lib.Dec.{leb, ltb, eqb, lit≤}
 use lib.Arith.{digits-div, digits-mod}
 use borrow.Author.Tests.{eqb-true, ltb-true, le-leb, lt-leb, lt-ltb, le-ltb, ne-eqb}
 use Rattle.octets.specs.Reading.{Read, ok, no, _then_, choose, be, number, isOk, ends}
 use Rattle.octets.specs.Writing.{word}
 use Rattle.octets.proofs.Spans.{word-octets}
-use Rattle.octets.proofs.Inverse.{Inverse, Answer, Any, after, settle, chosen, refused}
+use Rattle.octets.proofs.Inverse.{Inverse, Answer, Any, after, settle, chosen, refused, ok-value}
 use Rattle.octets.proofs.Fields.{number-whole}
 use Rattle.octets.proofs.Ends.{number-ok, number-no, number-room, first-ok}
 use Rattle.kinds.specs.Kinds.{basics, numberOf, codeOf, among, basicOf, known, kindOf, kindAt}
@@ -23,21 +23,21 @@ use Rattle.kinds.specs.declared.Basic.the-variants.{Int, UnsignedInt, Lo
 use Rattle.kinds.specs.declared.Kind.{Kind}
 
 -- The table of types, both ways.
-pub code-known : (b : Basic) → (codeOf b < 256) × (basicOf (codeOf b) ≡ some b)
+pub code-known : (b : Basic) → (0x21 ≤ codeOf b) × (codeOf b ≤ 0x2d) × (basicOf (codeOf b) ≡ some b)
 unfolding basicOf among
-code-known Int = (lit< tt, refl)
-code-known UnsignedInt = (lit< tt, refl)
-code-known Long = (lit< tt, refl)
-code-known UnsignedLong = (lit< tt, refl)
-code-known Float = (lit< tt, refl)
-code-known Double = (lit< tt, refl)
-code-known HexBinary = (lit< tt, refl)
-code-known String = (lit< tt, refl)
-code-known Boolean = (lit< tt, refl)
-code-known Byte = (lit< tt, refl)
-code-known UnsignedByte = (lit< tt, refl)
-code-known Short = (lit< tt, refl)
-code-known UnsignedShort = (lit< tt, refl)
+code-known Int = (lit≤ tt, lit≤ tt, refl)
+code-known UnsignedInt = (lit≤ tt, lit≤ tt, refl)
+code-known Long = (lit≤ tt, lit≤ tt, refl)
+code-known UnsignedLong = (lit≤ tt, lit≤ tt, refl)
+code-known Float = (lit≤ tt, lit≤ tt, refl)
+code-known Double = (lit≤ tt, lit≤ tt, refl)
+code-known HexBinary = (lit≤ tt, lit≤ tt, refl)
+code-known String = (lit≤ tt, lit≤ tt, refl)
+code-known Boolean = (lit≤ tt, lit≤ tt, refl)
+code-known Byte = (lit≤ tt, lit≤ tt, refl)
+code-known UnsignedByte = (lit≤ tt, lit≤ tt, refl)
+code-known Short = (lit≤ tt, lit≤ tt, refl)
+code-known UnsignedShort = (lit≤ tt, lit≤ tt, refl)
 
 found : (code : ℕ) (bs : List Basic) (b : Basic) → among code bs ≡ some b → codeOf b ≡ code
 unfolding among
@@ -64,7 +64,8 @@ module _ (s : List ℕ) where
   kind-inverse =
       record {
         back = λ k _ g p.
-            let (c, is) = code-known (k .basic) in
+            let (low, high, is) = code-known (k .basic) in
+            let c : codeOf (k .basic) < 256 = omega arith in
             let t : ℕ = numberOf k in
             rw (
               number-whole s 4 .back t tt (omega arith) p,
@@ -120,7 +121,7 @@ module _ (at t next : ℕ) where
   kind-none g e = rw (lt-leb (2 ^ 31) t (omega arith), lt-ltb t 0x10000 g, e) refl
 
   pub kind-some : (b : Basic) → t < 0x10000 → codeOf b ≡ t % 256 → kindOf at t next ≡ ok (record { derived = t / 256; basic = b }) next
-  kind-some b g e = rw (lt-leb (2 ^ 31) t (omega arith), lt-ltb t 0x10000 g, ← e, code-known b .1) refl
+  kind-some b g e = rw (lt-leb (2 ^ 31) t (omega arith), lt-ltb t 0x10000 g, ← e, code-known b .2) refl
 
 -- A type at a place, from its number.
 module _ (s : List ℕ) (at : ℕ) where
@@ -148,3 +149,21 @@ unfolding kindAt
 kind-is s at t =
     let h = number-room s at 4 (first-ok (number 4 s at) _ t) in
     (h, rw (number-ok s at 4 h) (kind-next at (be 4 s at) (at + 4) (rw (number-ok s at 4 h) at t)))
+
+-- The low octet of a type that was read is its basic type's, which the table has.
+pub kind-code : (s : List ℕ) (at : ℕ) {k : Kind} {next : ℕ} → kindAt s at ≡ ok k next
+    → (be 4 s at % 256 ≡ codeOf (k .basic)) × (0x21 ≤ be 4 s at % 256) × (be 4 s at % 256 ≤ 0x2d)
+unfolding kindAt
+kind-code s at {k} e =
+    let h = number-room s at 4 (first-ok (number 4 s at) _ (ap isOk e)) in
+    let t : ℕ = be 4 s at in
+    let (t₁, e₁) = refused (leb (2 ^ 31) t) 9 at _ (rw (number-ok s at 4 h) at e) in
+    let (t₂, e₂) = chosen (ltb t 0x10000) (λ _. known at t (at + 4) (basicOf (t % 256))) 8 at e₁ in
+    let (b, f, e₃) = known-ok at t (at + 4) (basicOf (t % 256)) e₂ in
+    let basic : b ≡ k .basic = ap (λ (x : Kind). x .basic) (ok-value refl e₃) in
+    let code : codeOf b ≡ t % 256 = code-of-basic (t % 256) b f in
+    (sym code ∙ ap codeOf basic, omega (arith, code-known b .0), omega (arith, code-known b .1))
+
+-- One code is one basic type.
+pub code-once : (b c : Basic) → codeOf b ≡ codeOf c → b ≡ c
+code-once b c e = let is : _≡_ {A = Option Basic} (some b) (some c) = sym (code-known b .2) ∙ (ap basicOf e ∙ code-known c .2) in cc

@@ -120,7 +120,7 @@ pub fn form_of(b: Basic) -> Form
 }
 
 // The basic type of a low octet that the table has.
-fn basic_of(code: u32) -> Basic
+pub fn basic_of(code: u32) -> Basic
     requires { ⌜ (0x21 ≤ code) × (code ≤ 0x2d) ⌝ }
     ensures { λ r. ⌜ codeOf r ≡ code ⌝ }
 {

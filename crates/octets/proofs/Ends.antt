@@ -205,3 +205,8 @@ number-place w s at n next e =
     let f = number-ok s at w (number-room s at w (ap isOk e)) in
     let q : at + w ≡ next = cc in
     sym q
+
+-- The value of a reading that is accepted, and the place behind it.
+pub value-is : {A : Type 0} (r : Read A) → isOk r ≡ true → (a : A) × (next : ℕ) × (r ≡ ok a next)
+value-is (ok a next) t = (a, next, refl)
+value-is (no n p) t = absurd (let z : _≡_ {A = ℕ} 0 1 = cc in omega arith)
