@@ -18,7 +18,7 @@ use Rattle.layouts.specs.Book.{Book, find, isNone, layoutsAt, as17, book
 use Rattle.layouts.specs.Answers.{among}
 use Rattle.layouts.proofs.Finding.{absent}
 use Rattle.layouts.proofs.Books.{layouts-end, layouts-more, book-forth}
-use Rattle.layouts.proofs.Places.{layout-is, layout-fields}
+use Rattle.layouts.proofs.Parts.{layout-number}
 
 -- A number is among others where it is the first or among the rest.
 module _ (n : ℕ) (met : List ℕ) (i : ℕ) (h : i < length met) where
@@ -94,13 +94,13 @@ module _ (s : List ℕ) where
           met-again t =
               let (l, r) = ended (layoutAt s pos) next e in
               let g : isNone (find (l .number) (m .met)) ≡ false =
-              ap (λ (n : ℕ). isNone (find n (m .met))) (sym (q ∙ layout-fields s pos r .number)) ∙ met-known number (m .met) (m .kept) t in
+              ap (λ (n : ℕ). isNone (find n (m .met))) (sym (q ∙ layout-number s pos r .1)) ∙ met-known number (m .met) (m .kept) t in
               rw (m .same, left-suc, ne-eqb pos (length s) (λ z. omega arith), r, g) refl
 
           pub met-on : k < length seen → among number (take k seen) ≡ false → Met s (set seen k number) (k + 1) next
           met-on long t =
               let (l, r) = ended (layoutAt s pos) next e in
-              let same : number ≡ l .number = q ∙ layout-fields s pos r .number in
+              let same : number ≡ l .number = q ∙ layout-number s pos r .1 in
               let g : find (l .number) (m .met) ≡ none =
               ap (λ (n : ℕ). find n (m .met)) (sym same) ∙ absent (find number (m .met)) (met-new number (m .met) (m .kept) t) in
               record {

@@ -30,10 +30,6 @@ pub layout-part : (s : List ℕ) (at next : ℕ) (l : Layout) → Each Octet s �
 unfolding part
 layout-part s at next l o h e = reads-forth layout-inverse s l at next o h e
 
--- A reading that is accepted ends at one place.
-pub one-end : {A : Type 0} (r : Read A) {a : A} {n m : ℕ} → r ≡ ok a n → ends r ≡ ok m m → m ≡ n
-one-end r e f = cc (ap ends e, f)
-
 -- What learning answers, by what was found.
 module _ (book : Book) (l : Layout) (at : ℕ) where
   pub learn-same : (m : Layout) → find (l .number) book ≡ some m → same (layoutImage m) (layoutImage l) ≡ true → learn book l at ≡ ok book at

@@ -3,6 +3,7 @@ pub mod Finding
 pub mod Books
 pub mod Growing
 pub mod Places
+pub mod Parts
 pub mod Walks
 pub mod Checks
 pub mod Lends

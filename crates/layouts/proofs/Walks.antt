@@ -2,11 +2,10 @@
 use Prim.Native.Nat.{ℕ, _+_, _≤_, _<_}
 use mathlib.Core.Path.{_≡_, refl, ap, _∙_, sym, subst}
 use mathlib.Core.List.{List, [], _∷_}
-use mathlib.Core.Bool.{true}
 use mathlib.Core.Option.{some, none}
 use lib.ListN.{length, take}
 use native.Mathlib.Omega.{arith}
-use Rattle.octets.specs.Reading.{ok, ends, isOk, be}
+use Rattle.octets.specs.Reading.{ok, ends, be}
 use Rattle.octets.specs.Writing.{Each, Octet}
 use Rattle.octets.proofs.Spans.{Spans, middle, all-spans}
 use Rattle.layouts.specs.Layout.{Layout, layoutAt, layoutImage, GoodLayout}
@@ -15,7 +14,7 @@ use Rattle.layouts.specs.Answers.{Image, Stands}
 use Rattle.layouts.proofs.Layouts.{layout-inverse, layout-long}
 use Rattle.layouts.proofs.Finding.{find-here, find-skip, find-nil}
 use Rattle.layouts.proofs.Books.{Lent, book-forth, image-nil, image-cons}
-use Rattle.layouts.proofs.Places.{layout-is, layout-fields}
+use Rattle.layouts.proofs.Parts.{layout-number}
 
 -- The layouts from a place on, of a book of which k were passed, none of them of the number.
 pub record Left (s : List ℕ) (n : ℕ) (book : Book) (pos k : ℕ) : Type 0 where
@@ -61,8 +60,8 @@ module _ (s : List ℕ) (n : ℕ) (book : Book) where
             layout = l;
             next = pos + length (layoutImage l);
             reads = reads;
-            number = layout-fields s pos reads .number;
-            room = omega (arith, layout-is s pos (ap isOk reads) .head);
+            number = layout-number s pos reads .1;
+            room = layout-number s pos reads .0;
             later = omega (arith, layout-long l);
             inside = p₁ .inside;
             found = λ q. e ∙ find-here n l rest q;

@@ -2,15 +2,17 @@
 
 ghost use mathlib.Core.Path.{_≡_};
 ghost use mathlib.Core.Bool.{true};
-ghost use mathlib.Core.List.{[]};
+ghost use mathlib.Core.List.{List, [], _∷_};
 ghost use Prim.Native.Nat.{ℕ, _+_, _-_, _≤_};
-ghost use lib.ListN.{length, take};
-ghost use Rattle.octets.specs.Reading.{ok, ends, isOk, run, same};
+ghost use lib.ListN.{length, take, drop};
+ghost use Rattle.octets.specs.Reading.{ok, ends, isOk, text, run, same};
 ghost use Rattle.octets.specs.Answers.{says, Within};
 ghost use Rattle.kinds.specs.Kinds.{kindAt};
-ghost use Rattle.layouts.specs.Layout.{Layout, attributeAt, layoutAt, layoutImage};
+ghost use Rattle.layouts.specs.Layout.{Attribute, Layout, attributeAt, layoutAt, layoutImage};
 ghost use Rattle.layouts.specs.Book.{Book, bookOf, bookIn, IsBook, layoutsAt};
 ghost use Rattle.layouts.specs.Answers.{among, Image, Holds, Looks, Finds, Reads, Learns, Nth, Has};
+use kinds::Basic;
+use kinds::Kind;
 use kinds::Kinded;
 use octets::Counted;
 use octets::Ended;
@@ -101,12 +103,38 @@ pub fn layout_end(s: &[u8], at: usize) -> Ended
     }
 }
 
+// The place behind a name that is known to be accepted.
+pub fn name_end(s: &[u8], at: usize) -> usize
+    requires { ⌜ (length (now s) ≤ 1048576) × (isOk (text (now s) at) ≡ true) ⌝ }
+    ensures { λ r. ⌜ (ends (text (now (s .entry)) at) ≡ ok r r) × (at + 4 ≤ r) × (r ≤ length (now (s .entry))) ⌝ }
+{
+    at + 4 + (octets::u32_at(s, at) as usize)
+}
+
+// The octets of a name that is known to be accepted.
+pub fn name_part<'s>(s: &'s [u8], at: usize) -> &'s [u8]
+    requires { ⌜ (length (now s) ≤ 1048576) × (isOk (text (now s) at) ≡ true) ⌝ }
+    ensures { λ r. ⌜ ((xs : List ℕ) (next : ℕ) → text (now (s .entry)) at ≡ ok xs next → now r ≡ xs) ⌝ }
+{
+    let stop = name_end(s, at);
+    let start = at + 4;
+    return &s[start..stop];
+}
+
 // The place behind an attribute that is known to be accepted.
 pub fn attribute_skip(s: &[u8], at: usize) -> usize
     requires { ⌜ (length (now s) ≤ 1048576) × (isOk (attributeAt (now s) at) ≡ true) ⌝ }
     ensures { λ r. ⌜ ends (attributeAt (now (s .entry)) at) ≡ ok r r ⌝ }
 {
-    at + 4 + (octets::u32_at(s, at) as usize) + 4
+    name_end(s, at) + 4
+}
+
+// The place of the count of attributes of a layout that is known to be accepted: right behind its type name.
+pub fn attributes_at(s: &[u8], at: usize) -> usize
+    requires { ⌜ (length (now s) ≤ 1048576) × (isOk (layoutAt (now s) at) ≡ true) ⌝ }
+    ensures { λ r. ⌜ (ends (text (now (s .entry)) (at + 4)) ≡ ok r r) × (r + 4 ≤ length (now (s .entry))) ⌝ }
+{
+    name_end(s, at + 4)
 }
 
 // The place behind a layout that is known to be accepted: lengths alone are read.
@@ -114,7 +142,7 @@ pub fn layout_skip(s: &[u8], at: usize) -> usize
     requires { ⌜ (length (now s) ≤ 1048576) × (isOk (layoutAt (now s) at) ≡ true) ⌝ }
     ensures { λ r. ⌜ ends (layoutAt (now (s .entry)) at) ≡ ok r r ⌝ }
 {
-    let mid = at + 4 + 4 + (octets::u32_at(s, at + 4) as usize);
+    let mid = attributes_at(s, at);
     let k = octets::u32_at(s, mid);
     let mut pos = mid + 4;
     let mut i: u32 = 0;
@@ -246,4 +274,75 @@ pub fn learn<'d, 'b>(
             Learning::New(octets::lay(book, used, &doc[at..end]))
         }
     }
+}
+
+// The number of a layout that is known to be accepted.
+pub fn layout_number(s: &[u8], at: usize) -> u32
+    requires { ⌜ isOk (layoutAt (now s) at) ≡ true ⌝ }
+    ensures { λ r. ⌜ ((l : Layout) (end : ℕ) → layoutAt (now (s .entry)) at ≡ ok l end → r ≡ l .number) ⌝ }
+{
+    octets::u32_at(s, at)
+}
+
+// The type name of a layout that is known to be accepted.
+pub fn type_name<'s>(s: &'s [u8], at: usize) -> &'s [u8]
+    requires { ⌜ (length (now s) ≤ 1048576) × (isOk (layoutAt (now s) at) ≡ true) ⌝ }
+    ensures { λ r. ⌜ ((l : Layout) (end : ℕ) → layoutAt (now (s .entry)) at ≡ ok l end → now r ≡ l .type-name) ⌝ }
+{
+    name_part(s, at + 4)
+}
+
+// The count of attributes of a layout that is known to be accepted.
+pub fn attribute_count(s: &[u8], at: usize) -> u32
+    requires { ⌜ (length (now s) ≤ 1048576) × (isOk (layoutAt (now s) at) ≡ true) ⌝ }
+    ensures { λ r. ⌜ ((l : Layout) (end : ℕ) → layoutAt (now (s .entry)) at ≡ ok l end → r ≡ length (l .attributes)) ⌝ }
+{
+    octets::u32_at(s, attributes_at(s, at))
+}
+
+// The place of attribute n of a layout that is known to be accepted and has more than n.
+pub fn attribute_place(s: &[u8], at: usize, n: u32) -> usize
+    requires { ⌜ (length (now s) ≤ 1048576) × Has (now s) at n ⌝ }
+    ensures { λ r. ⌜ ((l : Layout) (end : ℕ) → layoutAt (now (s .entry)) at ≡ ok l end → Nth (now (s .entry)) (l .attributes) n r) ⌝ }
+{
+    let mut pos = attributes_at(s, at) + 4;
+    let mut i: u32 = 0;
+    while i < n {
+        pos = attribute_skip(s, pos);
+        i += 1;
+    }
+    pos
+}
+
+// The name of attribute n.
+pub fn attribute_name<'s>(s: &'s [u8], at: usize, n: u32) -> &'s [u8]
+    requires { ⌜ (length (now s) ≤ 1048576) × Has (now s) at n ⌝ }
+    ensures { λ r. ⌜ ((l : Layout) (end : ℕ) (a : Attribute) (more : List Attribute) → layoutAt (now (s .entry)) at ≡ ok l end → drop n (l .attributes) ≡ a ∷ more → now r ≡ a .name) ⌝ }
+{
+    let place = attribute_place(s, at, n);
+    name_part(s, place)
+}
+
+// The type of an attribute that is known to be accepted at a place: a refusal does not come about.
+pub fn kind_here(s: &[u8], at: usize) -> Kind
+    requires { ⌜ (length (now s) ≤ 1048576) × (isOk (attributeAt (now s) at) ≡ true) ⌝ }
+    ensures { λ r. ⌜ ((a : Attribute) (next : ℕ) → attributeAt (now (s .entry)) at ≡ ok a next → r ≡ a .kind) ⌝ }
+{
+    let kind = kinds::kind_at(s, name_end(s, at));
+    match kind {
+        Kinded::At(k) => k,
+        Kinded::Refused(n, p) => Kind {
+            derived: 0,
+            basic: Basic::Int,
+        },
+    }
+}
+
+// The type of attribute n.
+pub fn attribute_kind(s: &[u8], at: usize, n: u32) -> Kind
+    requires { ⌜ (length (now s) ≤ 1048576) × Has (now s) at n ⌝ }
+    ensures { λ r. ⌜ ((l : Layout) (end : ℕ) (a : Attribute) (more : List Attribute) → layoutAt (now (s .entry)) at ≡ ok l end → drop n (l .attributes) ≡ a ∷ more → r ≡ a .kind) ⌝ }
+{
+    let place = attribute_place(s, at, n);
+    kind_here(s, place)
 }

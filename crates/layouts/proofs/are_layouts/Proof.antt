@@ -8,11 +8,11 @@ use mathlib.Core.List.{List}
 use lib.ListN.{length, take, length-set, length-replicate}
 use lib.Seq.{length-take-le}
 use denote.Ref.{now}
-use Rattle.octets.specs.Reading.{ok, ends, isOk}
+use Rattle.octets.specs.Reading.{ok, ends}
 use Rattle.octets.specs.Answers.{says}
 use Rattle.octets.proofs.Ends.{ended}
 use Rattle.layouts.specs.Layout.{layoutAt}
-use Rattle.layouts.proofs.Places.{layout-is}
+use Rattle.layouts.proofs.Parts.{layout-number}
 use Rattle.layouts.proofs.Checks.{Met, met-start, met-end, met-full, met-refused, met-again, met-on}
 use Rattle.layouts.proofs.are_layouts.Statement.{statement}
 use Rattle.layouts.proofs.are_layouts.Tie as tie
@@ -69,7 +69,7 @@ u32-at-requires : tie.Need-u32-at-requires Inv-loop μ-loop
 u32-at-requires c κs =
     let o = c .before in
     let t = Of o in
-    omega (arith, layout-is (S t) (Pos t) (ap isOk (ended (layoutAt (S t) (Pos t)) _ (next-at o) .1)) .head)
+    layout-number (S t) (Pos t) (ended (layoutAt (S t) (Pos t)) _ (next-at o) .1) .0
 
 returns-3 : tie.Need-returns-3 Inv-loop μ-loop
 returns-3 c =

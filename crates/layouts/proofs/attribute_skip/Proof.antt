@@ -1,20 +1,23 @@
--- `layouts::attribute_skip` meets its contract: what is accepted fits. Assumes nothing.
-use borrow.Author.Needs.{needs}
+-- `layouts::attribute_skip` meets its contract: an attribute's type is the four octets behind its name. Assumes nothing.
 use native.Mathlib.Omega.{arith}
-use mathlib.Core.Path.{_≡_}
+use Prim.Native.Nat.{ℕ}
+use mathlib.Core.Path.{_≡_, ap, _∙_}
 use denote.Ref.{now}
-use Rattle.layouts.proofs.Places.{Attributed, attribute-is}
+use Rattle.octets.specs.Reading.{ok, ends}
+use Rattle.layouts.specs.Layout.{attributeAt}
+use Rattle.layouts.proofs.Parts.{accepted, attribute-named, attribute-fields}
 use Rattle.layouts.proofs.attribute_skip.Statement.{statement}
 use Rattle.layouts.proofs.attribute_skip.Tie as tie
 
-is : (s : tie.Start) → Attributed (now (s .args .s)) (s .args .at)
-is s = attribute-is (now (s .args .s)) (s .args .at) (s .pre .1)
+name-end-requires : tie.Need-name-end-requires
+name-end-requires c κs = let s = c .before in (s .pre .0, attribute-named (now (s .args .s)) (s .args .at) (s .pre .1))
 
 returns : tie.Need-returns
-returns c = rw (c .u32-at .ensures) (is (c .before .before) .is)
+returns c =
+    let s = c .before .before in
+    let (a, next, e) = accepted (attributeAt (now (s .args .s)) (s .args .at)) (s .pre .1) in
+    let d = attribute-fields (now (s .args .s)) (s .args .at) (c .name-end .result) (c .name-end .ensures .0) e in
+    ap ends e ∙ ap (λ (n : ℕ). ok n n) (d .place)
 
 pub attribute-skip-spec : {M : Type 1} → statement M
-attribute-skip-spec =
-    tie.close
-    (tie.spec (λ c. omega (arith, is (c .before) .head)) (λ c κs. is (c .before) .head) (λ c. search needs) (λ c. omega (arith, is (c .before .before) .whole))
-    (λ c. omega (arith, is (c .before .before) .whole)) returns)
+attribute-skip-spec = tie.close (tie.spec name-end-requires (λ c. omega arith) returns)

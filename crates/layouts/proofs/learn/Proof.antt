@@ -7,7 +7,7 @@ use mathlib.Core.List.{List}
 use lib.ListN.{length, take, drop, length-drop}
 use lib.Seq.{length-take-le}
 use denote.Ref.{now}
-use Rattle.octets.specs.Reading.{ok, isOk}
+use Rattle.octets.specs.Reading.{ok}
 use Rattle.octets.proofs.Ends.{ended}
 use Rattle.octets.proofs.Spans.{each-octet}
 use Rattle.layouts.specs.Layout.{Layout, layoutAt, layoutImage}
@@ -16,7 +16,7 @@ use Rattle.layouts.specs.Answers.{Image, Looks, Learns}
 use Rattle.layouts.specs.declared.Looked.{Looked}
 use Rattle.layouts.specs.declared.Learning.the-variants.{New}
 use Rattle.layouts.proofs.Books.{Lent}
-use Rattle.layouts.proofs.Places.{layout-is, layout-fields}
+use Rattle.layouts.proofs.Parts.{layout-number}
 use Rattle.layouts.proofs.Walks.{lent-book, book-image}
 use Rattle.layouts.proofs.Lends.{layout-part, learn-same, learn-other, learn-many, no-room, new-learnt}
 use Rattle.layouts.proofs.learn.Statement.{statement}
@@ -77,7 +77,7 @@ module _ (k : Known) where
 looked-up : (c : tie.After-look-in) (l : Layout) (x : Looked) → Reads (c .before .before .before) l → c .look-in .result ≡ x → Says (c .before .before .before) l x
 looked-up c l x e q =
     let k = c .before .before .before in
-    subst (λ (n : ℕ). Looks (take (Used k) (Octets k)) n (Held k) x) (c .before .u32-at .ensures ∙ layout-fields (Doc k) (At k) e .number)
+    subst (λ (n : ℕ). Looks (take (Used k) (Octets k)) n (Held k) x) (c .before .u32-at .ensures ∙ layout-number (Doc k) (At k) e .1)
     (subst (λ (y : Looked). Looks (take (Used k) (Octets k)) (c .before .u32-at .result) (Held k) y) q (c .look-in .ensures (Held k) (image k)))
 
 same-layout-requires : tie.Need-same-layout-requires
@@ -138,7 +138,7 @@ learn-spec =
     (tie.spec
     (λ c. omega (arith, lent c .room, lent c .most))
     (λ c. sym (used-length (c .before)))
-    (λ c κs. omega (arith, layout-is (Doc (c .before)) (At (c .before)) (ap isOk (layout (c .before) .1)) .head))
+    (λ c κs. layout-number (Doc (c .before)) (At (c .before)) (layout (c .before) .1) .0)
     (λ c κs. let k = c .before .before in (omega (arith, lent k .most, used-length k), record { book = Held k; image = image k }))
     (λ c. search needs)
     (λ c. let k = c .before .before .before .before .before .before in omega (arith, lent k .room, lent k .most))

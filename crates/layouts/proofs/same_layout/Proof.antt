@@ -9,8 +9,8 @@ use denote.Ref.{now}
 use Rattle.octets.specs.Reading.{isOk, same}
 use Rattle.octets.proofs.Spans.{each-octet}
 use Rattle.layouts.specs.Layout.{layoutImage}
-use Rattle.layouts.proofs.Places.{layout-is}
-use Rattle.layouts.proofs.Lends.{layout-part, one-end}
+use Rattle.layouts.proofs.Parts.{one-end, layout-number}
+use Rattle.layouts.proofs.Lends.{layout-part}
 use Rattle.layouts.proofs.same_layout.Statement.{statement}
 use Rattle.layouts.proofs.same_layout.Tie as tie
 
@@ -19,7 +19,7 @@ inside f =
     let a = f .before .before .before .args in
     let r = f .before .before .before .pre .3 in
     let s = now (a .s) in
-    let w = layout-part s (a .p) (r .next) (r .layout) (each-octet s (f .before .shared-slice-known2 .given)) (omega (arith, layout-is s (a .p) (ap isOk (r .reads)) .head)) (r .reads) in
+    let w = layout-part s (a .p) (r .next) (r .layout) (each-octet s (f .before .shared-slice-known2 .given)) (omega (arith, layout-number s (a .p) (r .reads))) (r .reads) in
     let q : f .layout-skip .result ≡ r .next = one-end _ (r .reads) (f .layout-skip .ensures) in
     (omega (arith, w .1), omega (arith, w .2))
 
@@ -32,7 +32,7 @@ returns c = λ l m q e f.
     let doc = now (a .doc) in
     let last : o .layout-skip .result ≡ q = one-end _ f (o .layout-skip .ensures) in
     let i = k .before .before .pre in
-    let p = layout-is s (a .p) (ap isOk f) .head in
+    let p = layout-number s (a .p) f in
     c .octets-same .ensures
     ∙ (ap (λ (x : List ℕ). same x (take (a .end - a .at) (drop (a .at) doc)))
     (ap (λ (n : ℕ). take (n - a .p) (drop (a .p) s)) last ∙ layout-part s (a .p) q m (each-octet s (k .shared-slice-known2 .given)) (omega arith) f .3)

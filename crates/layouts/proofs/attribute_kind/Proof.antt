@@ -1,0 +1,23 @@
+-- `layouts::attribute_kind` meets its contract, by the type of the attribute at attribute n's place. Assumes nothing.
+use borrow.Author.Needs.{needs}
+use mathlib.Core.Path.{_≡_, ap, _∙_}
+use denote.Ref.{now}
+use Rattle.octets.specs.Reading.{isOk}
+use Rattle.layouts.specs.Layout.{Attribute}
+use Rattle.layouts.proofs.attribute_kind.Statement.{statement}
+use Rattle.layouts.proofs.attribute_kind.Tie as tie
+
+kind-here-requires : tie.Need-kind-here-requires
+kind-here-requires c κs =
+    let s = c .before .before in
+    let h = s .pre .1 in
+    (s .pre .0, ap isOk (c .attribute-place .ensures (h .layout) (h .end) (h .reads) .reads))
+
+returns : tie.Need-returns
+returns c = λ l end a more e q.
+    let n = c .before .attribute-place .ensures l end e in
+    let same : n .attribute ≡ a = cc (n .is, q) in
+    c .kind-here .ensures (n .attribute) (n .next) (n .reads) ∙ ap (λ (x : Attribute). x .kind) same
+
+pub attribute-kind-spec : {M : Type 1} → statement M
+attribute-kind-spec = tie.close (tie.spec (λ c κs. search needs) kind-here-requires returns)

@@ -1,0 +1,26 @@
+-- `layouts::type_name` meets its contract: a layout's type name stands behind its number. Assumes nothing.
+use native.Mathlib.Omega.{arith}
+use mathlib.Core.Path.{_≡_}
+use denote.Ref.{now}
+use Rattle.layouts.specs.Layout.{layoutAt}
+use Rattle.layouts.proofs.Parts.{accepted, layout-named, layout-number, layout-text}
+use Rattle.layouts.proofs.type_name.Statement.{statement}
+use Rattle.layouts.proofs.type_name.Tie as tie
+
+add-name-part : tie.Need-add-name-part
+add-name-part c =
+    let s = c .before in
+    let (l, end, e) = accepted (layoutAt (now (s .args .s)) (s .args .at)) (s .pre .1) in
+    omega (arith, layout-number (now (s .args .s)) (s .args .at) e .0)
+
+name-part-requires : tie.Need-name-part-requires
+name-part-requires c κs = let s = c .before in (s .pre .0, layout-named (now (s .args .s)) (s .args .at) (s .pre .1))
+
+returns : tie.Need-returns
+returns c = λ l end e.
+    let a = c .before .before .args in
+    let (mid, named) = layout-text (now (a .s)) (a .at) e in
+    c .name-part .ensures (l .type-name) mid named
+
+pub type-name-spec : {M : Type 1} → statement M
+type-name-spec = tie.close (tie.spec add-name-part name-part-requires returns)
