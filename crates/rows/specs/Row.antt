@@ -43,14 +43,17 @@ fieldsIn room (a ∷ others) s at =
     valueIn room (formOf (a .kind .basic)) s at then λ v next.
     fieldsIn room others s next then λ rest end. ok (record { attribute = a; value = v } ∷ rest) end
 
--- The values behind a row's length. FF FF FF FF is unstated; any other length is just the octets of the values, else 13 at the length; one that passes the document's end is 1 there.
+-- The values of a stated row, from its length to the end that it states: 13 at the length where they do not reach just that end.
+abbrev pub filled : List Attribute → List ℕ → ℕ → ℕ → Read (List Field)
+filled attributes s length-at end =
+    fieldsIn (stated end length-at) attributes s (length-at + 4) then λ fields last.
+    choose (eqb last end) (λ _. ok fields last) (λ _. no 13 length-at)
+
+-- The values behind a row's length. FF FF FF FF is unstated; any other length is just the octets of the values; one that passes the document's end is 1 at the length.
 unfoldable pub valuesAt : List Attribute → List ℕ → ℕ → ℕ → Read (List Field)
 valuesAt attributes s length-at size =
     choose (eqb size 0xffffffff) (λ _. fieldsIn document attributes s (length-at + 4))
-    (λ _. choose (leb (length-at + 4 + size) (length s))
-    (λ _. fieldsIn (stated (length-at + 4 + size) length-at) attributes s (length-at + 4) then λ fields end.
-    choose (eqb end (length-at + 4 + size)) (λ _. ok fields end) (λ _. no 13 length-at))
-    (λ _. no 1 length-at))
+    (λ _. choose (leb (length-at + 4 + size) (length s)) (λ _. filled attributes s length-at (length-at + 4 + size)) (λ _. no 1 length-at))
 
 -- A row of a layout that was looked up: 12 at its number where there is none, before the length is read.
 abbrev pub named : List ℕ → ℕ → ℕ → ℕ → Option Layout → Read Row

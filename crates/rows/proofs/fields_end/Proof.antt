@@ -1,0 +1,138 @@
+-- `rows::fields_end` meets its contract. The invariant: the values of all attributes end where those of the attributes that are left do, from here.
+-- The measure is what is left. Assumes nothing.
+use borrow.Author.Needs.{needs}
+use native.Mathlib.Omega.{arith}
+use Prim.Native.Nat.{ℕ, suc, _+_, _-_, _≤_, _<_}
+use denote.Ref.{now}
+use mathlib.Core.Path.{_≡_, refl, sym, ap, _∙_, subst}
+use mathlib.Core.List.{List}
+use mathlib.Core.Bool.{true}
+use lib.ListN.{length}
+use Rattle.octets.specs.Reading.{ok, ends, isOk, Room, reach, run}
+use Rattle.octets.proofs.Inverse.{ok-place}
+use Rattle.octets.proofs.Ends.{left-suc, none-left, sub-none}
+use Rattle.kinds.specs.declared.Form.{Form}
+use Rattle.kinds.specs.Kinds.{formOf}
+use Rattle.layouts.specs.Layout.{Attribute, attributeAt}
+use Rattle.rows.specs.declared.Valued.{Valued}
+use Rattle.rows.specs.Row.{valueIn}
+use Rattle.rows.specs.Answers.{valued}
+use Rattle.rows.proofs.Values.{Left, left-all, Next, left-next, left-none}
+use Rattle.rows.proofs.fields_end.Statement.{statement}
+use Rattle.rows.proofs.fields_end.Tie as tie
+
+abbrev Inv-loop : tie.InvT-loop
+Inv-loop doc at end book first count pos₀ place₀ i₀ pos place i =
+    (i ≤ count) × (at ≤ pos) × (pos ≤ end)
+    × ((xs : List Attribute) (last : ℕ) → run (attributeAt book) count first ≡ ok xs last → Left book doc end xs at (count - i) place last pos)
+
+abbrev μ-loop : tie.MeasureT-loop
+μ-loop doc at end book first count pos₀ place₀ i₀ pos place i = count - i
+
+loop-holds : tie.Need-loop-holds Inv-loop μ-loop
+loop-holds c =
+    let a = c .before .before .args in (
+      search needs,
+      search needs,
+      c .before .before .pre .0,
+      λ xs last e. left-all (now (a .book)) (now (a .doc)) (a .end) xs (a .at) last (a .count - 0) (a .first) (subst (λ (k : ℕ). run (attributeAt (now (a .book))) k (a .first) ≡ ok xs last) (sub-none (a .count)) e),
+    )
+
+-- The turn by names.
+abbrev Turn : Type 0
+Turn = tie.In-loop Inv-loop μ-loop
+
+abbrev Start : Turn → tie.Start Inv-loop μ-loop
+Start t = t .before .before .before .before
+
+abbrev Doc : Turn → List ℕ
+Doc t = now (Start t .args .doc)
+
+abbrev Book : Turn → List ℕ
+Book t = now (Start t .args .book)
+
+abbrev End : Turn → ℕ
+End t = Start t .args .end
+
+abbrev Pos : Turn → ℕ
+Pos t = t .before .loop .pos
+
+abbrev Place : Turn → ℕ
+Place t = t .before .loop .place
+
+abbrev More : Turn → ℕ
+More t = Start t .args .count - (t .before .loop .i + 1)
+
+-- The attribute here, of any that are read and of those that are required.
+next-of : (t : Turn) (xs : List Attribute) (last : ℕ) → run (attributeAt (Book t)) (Start t .args .count) (Start t .args .first) ≡ ok xs last
+    → Next (Book t) (Doc t) (End t) xs (Start t .args .at) last (More t) (Place t) (Pos t)
+next-of t xs last e =
+    left-next (Book t) (Doc t) (End t) xs (Start t .args .at) last (More t) (Place t) (Pos t)
+    (subst (λ (k : ℕ). Left (Book t) (Doc t) (End t) xs (Start t .args .at) k (Place t) last (Pos t)) (left-suc (Start t .args .count) (t .before .loop .i) (t .loop-test .taken)) (t .before .loop .inv .3 xs last e))
+
+accepted : (t : Turn) → isOk (attributeAt (Book t) (Place t)) ≡ true
+accepted t = let r = Start t .pre .4 in ap isOk (next-of t (r .list) (r .end) (r .reads) .reads)
+
+-- The value here, by the form that was found.
+abbrev Answered : Type 0
+Answered = tie.After-value-end Inv-loop μ-loop
+
+abbrev Of : Answered → Turn
+Of v = v .before .before .before
+
+answered : (v : Answered) (x : Valued) → v .value-end .result ≡ x → (a : Attribute) (next : ℕ) → attributeAt (Book (Of v)) (Place (Of v)) ≡ ok a next
+    → (room : Room) → reach room (Doc (Of v)) ≡ End (Of v) → ends (valueIn room (formOf (a .kind .basic)) (Doc (Of v)) (Pos (Of v))) ≡ valued room x
+answered v x e a next r room h =
+    let form = v .before .before .form-at .ensures .0 a next r in
+    ap (λ (f : Form). ends (valueIn room f (Doc (Of v)) (Pos (Of v)))) (sym form) ∙ (sym (v .value-end .ensures .0 room h) ∙ ap (valued room) e)
+
+loop-again : tie.Need-loop-again Inv-loop μ-loop
+loop-again c =
+    let v = c .before .before .before in
+    let t = Of v in
+    let w = rw (c .before .one .given .1) at (v .value-end .ensures .1) in (
+      omega (arith, t .loop-test .taken),
+      omega (arith, w, t .before .loop .inv .1),
+      w .1,
+      λ xs last e.
+          let n = next-of t xs last e in
+          let place : n .next ≡ v .before .attribute-skip .result = ok-place (ap ends (n .reads)) (v .before .attribute-skip .ensures) in
+          subst (λ (p : ℕ). Left (Book t) (Doc t) (End t) xs (Start t .args .at) (More t) p last (c .before .one .given .0 .0)) place
+          (n .on _ (answered v _ (c .before .one .given .1) (n .attribute) (n .next) (n .reads))),
+    )
+
+returns : tie.Need-returns Inv-loop μ-loop
+returns c =
+    let v = c .before .before .before in (
+      λ xs last e room h.
+          let n = next-of (Of v) xs last e in
+          sym (n .over room h _ (answered v _ (c .before .one2 .given .1) (n .attribute) (n .next) (n .reads) room h)),
+      tt,
+    )
+
+returns-2 : tie.Need-returns-2 Inv-loop μ-loop
+returns-2 c =
+    let v = c .before .before .before in (
+      λ xs last e room h.
+          let n = next-of (Of v) xs last e in
+          sym (n .stops room h 14 _ (answered v _ (c .before .one3 .given .1) (n .attribute) (n .next) (n .reads) room h)),
+      tt,
+    )
+
+returns-3 : tie.Need-returns-3 Inv-loop μ-loop
+returns-3 c =
+    let l = c .before .loop in
+    let a = c .before .before .before .before .args in (
+      λ xs last e room h.
+          sym (left-none (now (a .book)) (now (a .doc)) (a .end) xs (a .at) last (l .place) (l .pos)
+          (subst (λ (k : ℕ). Left (now (a .book)) (now (a .doc)) (a .end) xs (a .at) k (l .place) last (l .pos)) (none-left (a .count) (l .i) (c .loop-test .left)) (l .inv .3 xs last e)) room h),
+      (l .inv .1, l .inv .2),
+    )
+
+pub fields-end-spec : {M : Type 1} → statement M
+fields-end-spec =
+    tie.close
+    (tie.spec Inv-loop μ-loop loop-holds (λ c κs. (Start c .pre .3, accepted c)) (λ c κs. (Start (c .before) .pre .3, accepted (c .before)))
+    (λ c. search needs)
+    (λ c κs. let t = c .before .before in (t .before .loop .inv .2, Start t .pre .1, Start t .pre .2, c .before .form-at .ensures .1)) (λ c. search needs)
+    (λ c. omega arith) loop-again (λ c. search needs) returns (λ c. search needs) returns-2 returns-3)
