@@ -97,7 +97,7 @@ unfolding elementAt
 finish-step s at rows b f end k e = rw (k, e)
 
 -- A row's layout: found where it was read, and all that the row takes of its book.
-named-number : (s : List ℕ) (at n p : ℕ) (o : Option Layout) (r : Row) (end : ℕ) → named s at n p o ≡ ok r end → (r .number ≡ n) × ((l : Layout) × (o ≡ some l))
+pub named-number : (s : List ℕ) (at n p : ℕ) (o : Option Layout) (r : Row) (end : ℕ) → named s at n p o ≡ ok r end → (r .number ≡ n) × ((l : Layout) × (o ≡ some l))
 named-number s at n p none r end e = absurd (no-ok refl e)
 named-number s at n p (some l) r end e =
     then-ok (number 4 s p) _ e λ size _ _ e2. then-ok (valuesAt (l .attributes) s p size) _ e2 λ fields x _ e3.

@@ -33,14 +33,22 @@ finishAt rows s at =
     (λ _. number 8 s next then λ time end. choose (eqb end (length s)) (λ _. ok (finish n time) end) (λ _. no 16 end))
     (λ _. no 15 at)
 
--- One element over a book in hand. Refusal 7: a kind that is not 1, 2 or 3, at the kind. A layout's last type is read before it is learnt.
+-- A layout from its number on: its last type is read before it is learnt.
+abbrev pub layoutElement : List ℕ → ℕ → ℕ → Book → Read Stepped
+layoutElement s at rows book =
+    layoutAt s at then λ l end. learn book l at then λ learnt _. ok (record { element = item (layout l); rows = rows; book = learnt }) end
+
+-- A row from its layout's number on: one row more is passed.
+abbrev pub rowElement : List ℕ → ℕ → ℕ → Book → Read Stepped
+rowElement s at rows book = rowAt book s at then λ r end. ok (record { element = item (row r); rows = rows + 1; book = book }) end
+
+abbrev pub endElement : List ℕ → ℕ → ℕ → Book → Read Stepped
+endElement s at rows book = finishAt rows s at then λ f end. ok (record { element = f; rows = rows; book = book }) end
+
+-- One element over a book in hand, by its four-octet kind. Refusal 7: a kind that is not 1, 2 or 3, at the kind.
 unfoldable pub elementAt : List ℕ → ℕ → ℕ → Book → Read Stepped
 elementAt s at rows book =
     number 4 s at then λ kind next.
-    choose (eqb kind 1)
-    (λ _. layoutAt s next then λ l end. learn book l next then λ learnt _. ok (record { element = item (layout l); rows = rows; book = learnt }) end)
-    (λ _. choose (eqb kind 2)
-    (λ _. rowAt book s next then λ r end. ok (record { element = item (row r); rows = rows + 1; book = book }) end)
-    (λ _. choose (eqb kind 3)
-    (λ _. finishAt rows s next then λ f end. ok (record { element = f; rows = rows; book = book }) end)
-    (λ _. no 7 at)))
+    choose (eqb kind 1) (λ _. layoutElement s next rows book)
+    (λ _. choose (eqb kind 2) (λ _. rowElement s next rows book)
+    (λ _. choose (eqb kind 3) (λ _. endElement s next rows book) (λ _. no 7 at)))

@@ -1,3 +1,4 @@
 pub mod Element
 pub mod Steps
 pub mod Document
+pub mod Answers

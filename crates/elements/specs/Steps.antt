@@ -1,13 +1,22 @@
 -- One step over a lent book, and the readings that steps make.
 use Prim.Native.Nat.{ℕ, zero, suc, _+_}
-use mathlib.Core.List.{List, [], _∷_}
+use mathlib.Core.List.{List, [], _∷_, _++_}
 use mathlib.Core.Bool.{Bool, true, false}
-use lib.ListN.{length}
+use lib.ListN.{length, drop}
 use lib.Dec.{leb}
 use Rattle.octets.specs.Reading.{Read, ok, no, _then_, choose}
-use Rattle.layouts.specs.Book.{Book, bookOf}
+use Rattle.layouts.specs.Book.{Book, bookImage, bookOf}
 use Rattle.headers.specs.Header.{Header, headerAt}
 use Rattle.elements.specs.Element.{Item, layout, row, Element, item, finish, Stepped, elementAt}
+
+-- Lent octets with a book at their start; what is behind it is as it was.
+abbrev pub holding : Book → List ℕ → List ℕ
+holding book octets = bookImage book ++ drop (length (bookImage book)) octets
+
+-- What a step leaves in the lent octets: the book behind it, and after a refusal all as it was.
+abbrev pub leaves : List ℕ → Read Stepped → List ℕ
+leaves octets (ok st next) = holding (st .book) octets
+leaves octets (no n p) = octets
 
 -- What stands before every step: 2 for the document, then 17 for the book and the rows passed.
 unfoldable pub lentBook : List ℕ → ℕ → List ℕ → ℕ → Read Book
@@ -63,3 +72,8 @@ rowsOf (p ∷ rest) = asRow (p .element) + rowsOf rest
 -- The whole check: the row count, or that reading's refusal.
 unfoldable pub whole : List ℕ → Read ℕ
 whole s = reading s then λ r end. ok (rowsOf (r .elements)) end
+
+-- The rows counted from a place on, behind those passed: what the whole check answers of the elements from there.
+abbrev pub counted : ℕ → Read (List Placed) → Read ℕ
+counted rows (ok elements end) = ok (rows + rowsOf elements) end
+counted rows (no n p) = no n p

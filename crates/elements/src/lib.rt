@@ -1,0 +1,169 @@
+// One element over a book that is known to be good, and the run to the end.
+
+ghost use mathlib.Core.Path.{_≡_};
+ghost use mathlib.Core.Bool.{true};
+ghost use Prim.Native.Nat.{ℕ, _+_, _≤_};
+ghost use lib.ListN.{length};
+ghost use Rattle.octets.specs.Reading.{ok, isOk};
+ghost use Rattle.layouts.specs.Layout.{Layout, layoutAt};
+ghost use Rattle.layouts.specs.Book.{Book, bookImage, IsBook, bookIn};
+ghost use Rattle.layouts.specs.Answers.{Image, Holds};
+ghost use Rattle.elements.specs.Element.{item, layout, layoutElement, rowElement, endElement, elementAt};
+ghost use Rattle.elements.specs.Steps.{leaves};
+ghost use Rattle.elements.specs.Answers.{tells, stepOf};
+use layouts::Learning;
+use layouts::Looked;
+use octets::Ended;
+use rows::Rowed;
+
+// What an element says: a layout's number and count of attributes; a row's number, whether its length is stated, and its count of fields; the end's count and time.
+pub enum Met {
+    Layout(u32, u32),
+    Row(u32, bool, u32),
+    End(u32, u64),
+}
+
+// An element with the next place, the rows passed and the octets of the book that are used then.
+pub struct Step {
+    pub met: Met,
+    pub next: usize,
+    pub rows: usize,
+    pub used: usize,
+}
+
+pub enum Stepping {
+    Done(Step),
+    Refused(u32, usize),
+}
+
+// A count of rows with the place behind them, or a refusal by number and place.
+pub enum Counting {
+    Rows(usize, usize),
+    Refused(u32, usize),
+}
+
+// The end from its count on: its count is that of the rows passed, and nothing follows it.
+fn end_step(doc: &[u8], at: usize, rows: usize, used: usize) -> Stepping
+    requires { ⌜ (at ≤ length (now doc)) × (length (now doc) ≤ 1048576) ⌝ }
+    ensures { λ r. ⌜ ((book : Book) → length (bookImage book) ≡ used → r ≡ tells (endElement (now (doc .entry)) at rows book)) ⌝ }
+{
+    if doc.len() < at + 4 {
+        return Stepping::Refused(1, at);
+    }
+    let count = octets::u32_at(doc, at);
+    if count as usize != rows {
+        return Stepping::Refused(15, at);
+    }
+    if doc.len() < at + 4 + 8 {
+        return Stepping::Refused(1, at + 4);
+    }
+    let time = octets::u64_at(doc, at + 4);
+    let next = at + 4 + 8;
+    if next != doc.len() {
+        return Stepping::Refused(16, next);
+    }
+    Stepping::Done(Step {
+        met: Met::End(count, time),
+        next,
+        rows,
+        used,
+    })
+}
+
+// A row from its layout's number on, over the used octets of a book.
+fn row_step<'d, 'b>(doc: &'d [u8], at: usize, rows: usize, book: &'b [u8]) -> Stepping
+    requires { ⌜ (at ≤ length (now doc)) × (length (now doc) ≤ 1048576) × (rows ≤ 1048576) × (length (now book) ≤ 32768) × Holds (now book) ⌝ }
+    ensures { λ r. ⌜ ((b : Book) → Image (now (book .entry)) b → r ≡ tells (rowElement (now (doc .entry)) at rows b)) ⌝ }
+{
+    if doc.len() < at + 4 {
+        return Stepping::Refused(1, at);
+    }
+    let number = octets::u32_at(doc, at);
+    let looked = layouts::look_in(book, number);
+    match looked {
+        Looked::Missing(k) => Stepping::Refused(12, at),
+        Looked::There(place) => {
+            let row = rows::row_end(doc, at, book, place);
+            match row {
+                Rowed::Refused(n, p) => Stepping::Refused(n, p),
+                Rowed::Row(stated, count, next) => Stepping::Done(Step {
+                    met: Met::Row(number, stated, count),
+                    next,
+                    rows: rows + 1,
+                    used: book.len(),
+                }),
+            }
+        }
+    }
+}
+
+// What a layout that was read says.
+fn layout_told(doc: &[u8], at: usize, next: usize, rows: usize, used: usize) -> Step
+    requires { ⌜ (length (now doc) ≤ 1048576) × (isOk (layoutAt (now doc) at) ≡ true) ⌝ }
+    ensures { λ r. ⌜ ((l : Layout) (end : ℕ) → layoutAt (now (doc .entry)) at ≡ ok l end → (b : Book) → length (bookImage b) ≡ used → r ≡ stepOf (record { element = item (layout l); rows = rows; book = b }) next) ⌝ }
+{
+    Step {
+        met: Met::Layout(
+            layouts::layout_number(doc, at),
+            layouts::attribute_count(doc, at),
+        ),
+        next,
+        rows,
+        used,
+    }
+}
+
+// A layout from its number on, learnt by the book.
+fn layout_step<'d, 'b>(
+    doc: &'d [u8],
+    at: usize,
+    rows: usize,
+    book: &'b mut [u8],
+    used: usize,
+) -> Stepping
+    requires { ⌜ (at ≤ length (now doc)) × (length (now doc) ≤ 1048576) × IsBook (now book) used ⌝ }
+    ensures { λ r. ⌜ (r ≡ tells (layoutElement (now (doc .entry)) at rows (bookIn (now (book .entry)) used))) × (now (book .exit) ≡ leaves (now (book .entry)) (layoutElement (now (doc .entry)) at rows (bookIn (now (book .entry)) used))) ⌝ }
+{
+    let end = layouts::layout_end(doc, at);
+    match end {
+        Ended::Refused(n, p) => Stepping::Refused(n, p),
+        Ended::End(next) => {
+            let learnt = layouts::learn(doc, at, next, book, used);
+            match learnt {
+                Learning::Refused(n) => Stepping::Refused(n, at),
+                Learning::Known => Stepping::Done(layout_told(doc, at, next, rows, used)),
+                Learning::New(more) => Stepping::Done(layout_told(doc, at, next, rows, more)),
+            }
+        }
+    }
+}
+
+// One element at any place, over a book that is known to be good.
+pub fn element<'d, 'b>(
+    doc: &'d [u8],
+    at: usize,
+    rows: usize,
+    book: &'b mut [u8],
+    used: usize,
+) -> Stepping
+    requires { ⌜ (length (now doc) ≤ 1048576) × (rows ≤ 1048576) × IsBook (now book) used ⌝ }
+    ensures { λ r. ⌜ (r ≡ tells (elementAt (now (doc .entry)) at rows (bookIn (now (book .entry)) used))) × (now (book .exit) ≡ leaves (now (book .entry)) (elementAt (now (doc .entry)) at rows (bookIn (now (book .entry)) used))) ⌝ }
+{
+    if doc.len() < at {
+        return Stepping::Refused(1, at);
+    }
+    if doc.len() < at + 4 {
+        return Stepping::Refused(1, at);
+    }
+    let kind = octets::u32_at(doc, at);
+    if kind == 1 {
+        return layout_step(doc, at + 4, rows, book, used);
+    }
+    if kind == 2 {
+        return row_step(doc, at + 4, rows, &book[..used]);
+    }
+    if kind == 3 {
+        return end_step(doc, at + 4, rows, used);
+    }
+    Stepping::Refused(7, at)
+}

@@ -1,0 +1,144 @@
+-- The equations of one element that functions over a book cite: which branch is taken, what it answers, and what it leaves in the lent octets.
+use Prim.Native.Nat.{ℕ, _+_, _≤_, _<_}
+use mathlib.Core.Path.{_≡_, refl, sym, ap, _∙_}
+use mathlib.Core.List.{List, [], _∷_, _++_}
+use mathlib.Core.Bool.{Bool}
+use mathlib.Core.Option.{Option, some, none}
+use native.Mathlib.Omega.{arith}
+use lib.ListN.{length, take, drop, take-append-drop}
+use borrow.Author.Tests.{eq-eqb, ne-eqb}
+use Rattle.octets.specs.Reading.{Read, ok, no, _then_, choose, ends, be, number}
+use Rattle.octets.specs.Writing.{Each, Octet}
+use Rattle.octets.proofs.Ends.{number-ok, number-no, refused}
+use Rattle.layouts.specs.Layout.{Layout, layoutAt}
+use Rattle.layouts.specs.Book.{Book, find, bookImage, bookIn, IsBook, learn}
+use Rattle.layouts.proofs.Books.{Lent}
+use Rattle.layouts.proofs.Walks.{lent-book}
+use Rattle.rows.specs.Row.{Row, named, rowAt}
+use Rattle.rows.specs.Answers.{Shape, shape}
+use Rattle.elements.specs.Element.{Element, item, layout, row, finish, Stepped, finishAt, layoutElement, rowElement, endElement, elementAt}
+use Rattle.elements.specs.Steps.{holding, leaves}
+use Rattle.elements.specs.Answers.{tells}
+use Rattle.elements.specs.declared.Met.the-variants as met
+use Rattle.elements.specs.declared.Stepping.the-variants.{Done, Refused}
+use Rattle.elements.proofs.Went.{named-number}
+
+-- The end, from its count on.
+module _ (s : List ℕ) (at rows : ℕ) (book : Book) where
+  pub end-cut : length s < at + 4 → endElement s at rows book ≡ no 1 at
+  unfolding finishAt
+  end-cut h = rw (number-no s at 4 h) refl
+
+  module _ (h : at + 4 ≤ length s) where
+    pub end-other : (be 4 s at ≡ rows → ⊥) → endElement s at rows book ≡ no 15 at
+    unfolding finishAt
+    end-other e = rw (number-ok s at 4 h, ne-eqb (be 4 s at) rows e) refl
+
+    module _ (e : be 4 s at ≡ rows) where
+      pub end-untimed : length s < at + 4 + 8 → endElement s at rows book ≡ no 1 (at + 4)
+      unfolding finishAt
+      end-untimed g = rw (number-ok s at 4 h, eq-eqb (be 4 s at) rows e, number-no s (at + 4) 8 g) refl
+
+      pub end-more : at + 4 + 8 ≤ length s → (at + 4 + 8 ≡ length s → ⊥) → endElement s at rows book ≡ no 16 (at + 4 + 8)
+      unfolding finishAt
+      end-more g f = rw (number-ok s at 4 h, eq-eqb (be 4 s at) rows e, number-ok s (at + 4) 8 g, ne-eqb (at + 4 + 8) (length s) f) refl
+
+      pub end-whole : at + 4 + 8 ≡ length s
+          → endElement s at rows book ≡ ok (record { element = finish (be 4 s at) (be 8 s (at + 4)); rows = rows; book = book }) (at + 4 + 8)
+      unfolding finishAt
+      end-whole f = rw (number-ok s at 4 h, eq-eqb (be 4 s at) rows e, number-ok s (at + 4) 8 (omega arith), eq-eqb (at + 4 + 8) (length s) f) refl
+
+-- A row, from its layout's number on.
+module _ (s : List ℕ) (at rows : ℕ) (book : Book) where
+  pub row-cut : length s < at + 4 → rowElement s at rows book ≡ no 1 at
+  unfolding rowAt
+  row-cut h = rw (number-no s at 4 h) refl
+
+  pub row-unknown : at + 4 ≤ length s → find (be 4 s at) book ≡ none → rowElement s at rows book ≡ no 12 at
+  unfolding rowAt
+  row-unknown h f = rw (number-ok s at 4 h, f) refl
+
+  module _ (l : Layout) (h : at + 4 ≤ length s) (f : find (be 4 s at) book ≡ some l) where
+    row-of : rowAt book s at ≡ named s at (be 4 s at) (at + 4) (some l)
+    unfolding rowAt
+    row-of = rw (number-ok s at 4 h, f) refl
+
+    pub row-refused : (n p : ℕ) → shape (named s at (be 4 s at) (at + 4) (some l)) ≡ no n p → rowElement s at rows book ≡ no n p
+    row-refused n p e = rw (row-of, unshaped (named s at (be 4 s at) (at + 4) (some l)) e) refl
+      where
+        unshaped : (r : Read Row) → shape r ≡ no n p → r ≡ no n p
+        unshaped (no m q) e = let a : m ≡ n = cc in let b : q ≡ p = cc in cc
+        unshaped (ok x end) e = absurd (let z : _≡_ {A = ℕ} 0 1 = cc in omega arith)
+
+    pub row-told : (stated : Bool) (count next : ℕ) → shape (named s at (be 4 s at) (at + 4) (some l)) ≡ ok (record { is-stated = stated; count = count }) next
+        → tells (rowElement s at rows book) ≡ Done (record { met = met.Row (be 4 s at) stated count; next = next; rows = rows + 1; used = length (bookImage book) })
+    row-told stated count next e = rw row-of (shaped (named s at (be 4 s at) (at + 4) (some l)) refl e)
+      where
+        shaped : (r : Read Row) → named s at (be 4 s at) (at + 4) (some l) ≡ r → shape r ≡ ok (record { is-stated = stated; count = count }) next
+            → tells (r then λ x end. ok (record { element = item (row x); rows = rows + 1; book = book }) end)
+            ≡ Done (record { met = met.Row (be 4 s at) stated count; next = next; rows = rows + 1; used = length (bookImage book) })
+        shaped (no m q) is e = absurd (let z : _≡_ {A = ℕ} 0 1 = cc in omega arith)
+        shaped (ok x end) is e =
+            let same : _≡_ {A = Shape} (record { is-stated = x .is-stated; count = length (x .fields) }) (record { is-stated = stated; count = count }) = cc in
+            let place : end ≡ next = cc in
+            let a : x .is-stated ≡ stated = ap (λ (y : Shape). y .is-stated) same in
+            let b : length (x .fields) ≡ count = ap (λ (y : Shape). y .count) same in
+            let n : x .number ≡ be 4 s at = named-number s at (be 4 s at) (at + 4) (some l) x end is .0 in
+            rw (n, a, b, place) refl
+
+-- A layout, from its number on.
+module _ (s : List ℕ) (at rows : ℕ) (book : Book) where
+  pub layout-refused : (n p : ℕ) → ends (layoutAt s at) ≡ no n p → layoutElement s at rows book ≡ no n p
+  layout-refused n p e = rw (refused (layoutAt s at) n p e) refl
+
+  module _ (l : Layout) (next : ℕ) (e : layoutAt s at ≡ ok l next) where
+    pub layout-unlearnt : (n p : ℕ) → learn book l at ≡ no n p → layoutElement s at rows book ≡ no n p
+    layout-unlearnt n p f = rw (e, f) refl
+
+    pub layout-learnt : (more : Book) (x : ℕ) → learn book l at ≡ ok more x
+        → layoutElement s at rows book ≡ ok (record { element = item (layout l); rows = rows; book = more }) next
+    layout-learnt more x f = rw (e, f) refl
+
+-- One element, by its kind.
+module _ (s : List ℕ) (at rows : ℕ) (book : Book) where
+  pub element-cut : length s < at + 4 → elementAt s at rows book ≡ no 1 at
+  unfolding elementAt
+  element-cut h = rw (number-no s at 4 h) refl
+
+  module _ (h : at + 4 ≤ length s) where
+    pub element-layout : be 4 s at ≡ 1 → elementAt s at rows book ≡ layoutElement s (at + 4) rows book
+    unfolding elementAt
+    element-layout e = rw (number-ok s at 4 h, e) refl
+
+    pub element-row : be 4 s at ≡ 2 → elementAt s at rows book ≡ rowElement s (at + 4) rows book
+    unfolding elementAt
+    element-row e = rw (number-ok s at 4 h, e) refl
+
+    pub element-end : be 4 s at ≡ 3 → elementAt s at rows book ≡ endElement s (at + 4) rows book
+    unfolding elementAt
+    element-end e = rw (number-ok s at 4 h, e) refl
+
+    pub element-other : (be 4 s at ≡ 1 → ⊥) → (be 4 s at ≡ 2 → ⊥) → (be 4 s at ≡ 3 → ⊥) → elementAt s at rows book ≡ no 7 at
+    unfolding elementAt
+    element-other a b c = rw (number-ok s at 4 h, ne-eqb (be 4 s at) 1 a, ne-eqb (be 4 s at) 2 b, ne-eqb (be 4 s at) 3 c) refl
+
+-- Lent octets that hold a book hold it as they are, so that what keeps the book keeps them.
+pub holding-same : (octets : List ℕ) (used : ℕ) → Each Octet octets → IsBook octets used → holding (bookIn octets used) octets ≡ octets
+holding-same octets used o is =
+    let l = lent-book octets used o is in
+    rw (l .size, l .image) (take-append-drop used octets)
+
+module _ (octets : List ℕ) (used : ℕ) (o : Each Octet octets) (is : IsBook octets used) where
+  pub row-leaves : (s : List ℕ) (at rows : ℕ) → leaves octets (rowElement s at rows (bookIn octets used)) ≡ octets
+  row-leaves s at rows = go (rowAt (bookIn octets used) s at)
+    where
+      go : (r : Read Row) → leaves octets (r then λ x end. ok (record { element = item (row x); rows = rows + 1; book = bookIn octets used }) end) ≡ octets
+      go (ok x end) = holding-same octets used o is
+      go (no n p) = refl
+
+  pub end-leaves : (s : List ℕ) (at rows : ℕ) → leaves octets (endElement s at rows (bookIn octets used)) ≡ octets
+  end-leaves s at rows = go (finishAt rows s at)
+    where
+      go : (r : Read Element) → leaves octets (r then λ x end. ok (record { element = x; rows = rows; book = bookIn octets used }) end) ≡ octets
+      go (ok x end) = holding-same octets used o is
+      go (no n p) = refl

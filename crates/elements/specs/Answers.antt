@@ -1,0 +1,38 @@
+-- What the answers about an element say.
+use Prim.Native.Nat.{ℕ, _≤_}
+use mathlib.Core.Path.{_≡_}
+use mathlib.Core.List.{List}
+use mathlib.Core.Bool.{Bool}
+use lib.ListN.{length}
+use Rattle.octets.specs.Reading.{Read, ok, no, _then_}
+use Rattle.layouts.specs.Layout.{Layout}
+use Rattle.layouts.specs.Book.{Book, bookImage, bookIn, IsBook}
+use Rattle.rows.specs.Row.{Row}
+use Rattle.elements.specs.Element as element
+use Rattle.elements.specs.Steps.{leaves}
+use Rattle.elements.specs.declared.Met.{Met}
+use Rattle.elements.specs.declared.Met.the-variants as met
+use Rattle.elements.specs.declared.Step.{Step}
+use Rattle.elements.specs.declared.Stepping.{Stepping}
+use Rattle.elements.specs.declared.Stepping.the-variants.{Done, Refused}
+use Rattle.elements.specs.declared.Counting.{Counting}
+use Rattle.elements.specs.declared.Counting.the-variants as counting
+
+-- What an element says: a layout's number and count of attributes, a row's number, whether its length is stated and its count of fields, the end's count and the bits of its time.
+abbrev pub metOf : element.Element → Met
+metOf (element.item (element.layout l)) = met.Layout (l .number) (length (l .attributes))
+metOf (element.item (element.row r)) = met.Row (r .number) (r .is-stated) (length (r .fields))
+metOf (element.finish n t) = met.End n t
+
+-- What a step says: the element, the next place, the new row count and the new used count.
+abbrev pub stepOf : element.Stepped → ℕ → Step
+stepOf st next = record { met = metOf (st .element); next = next; rows = st .rows; used = length (bookImage (st .book)) }
+
+-- The one answer to what was read.
+abbrev pub tells : Read element.Stepped → Stepping
+tells (ok st next) = Done (stepOf st next)
+tells (no n p) = Refused n p
+
+abbrev pub countSays : Counting → Read ℕ
+countSays (counting.Rows n end) = ok n end
+countSays (counting.Refused n p) = no n p
