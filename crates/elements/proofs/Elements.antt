@@ -40,7 +40,7 @@ abbrev pub endImage : ℕ → ℕ → List ℕ
 endImage rows time = word 4 3 ++ (word 4 rows ++ word 8 time)
 
 -- What an element was read from.
-data Came (s : List ℕ) (at rows : ℕ) (book : Book) : Stepped → ℕ → Type 0 where
+pub data Came (s : List ℕ) (at rows : ℕ) (book : Book) : Stepped → ℕ → Type 0 where
   a-layout : {l : Layout} {learnt : Book} {next : ℕ} → GoodLayout l → learn book l 0 ≡ ok learnt 0 → Spans s (length s) at next (word 4 1 ++ layoutImage l)
       → Came s at rows book (record { element = item (layout l); rows = rows; book = learnt }) next
   a-row : {r : Row} {next : ℕ} → GoodRow book r → Spans s (length s) at next (word 4 2 ++ rowImage r)
@@ -96,7 +96,7 @@ module _ (s : List ℕ) (short : length s ≤ 1048576) where
       let (p₁, p₂) = middle (word 4 3) (word 4 rows ++ word 8 time) p in
       rw (number-whole s 4 .back 3 tt (lit< tt) p₁, finish-back rows time small g whole p₂)
 
-  element-forth : (at rows : ℕ) (book : Book) {end : ℕ} {st : Stepped} → Each Octet s → at ≤ length s → elementAt s at rows book ≡ ok st end
+  pub element-forth : (at rows : ℕ) (book : Book) {end : ℕ} {st : Stepped} → Each Octet s → at ≤ length s → elementAt s at rows book ≡ ok st end
       → Came s at rows book st end
   unfolding elementAt
   element-forth at rows book o h e =

@@ -1,3 +1,4 @@
 pub mod Elements
 pub mod Went
 pub mod Told
+pub mod Going

@@ -1,5 +1,6 @@
 -- One step of reading, taken apart: what each accepted step rests on.
 use Prim.Native.Nat.{ℕ, _+_}
+use native.Mathlib.Omega.{arith}
 use mathlib.Core.Path.{_≡_, refl, _∙_, ap, subst}
 use mathlib.Core.List.{List}
 use mathlib.Core.Bool.{Bool, true, false}
@@ -12,6 +13,7 @@ use Rattle.layouts.specs.Layout.{Layout, layoutAt}
 use Rattle.layouts.specs.Book.{Book, find, learn}
 use Rattle.rows.specs.Row.{Row, valuesAt, named, rowAt}
 use Rattle.elements.specs.Element.{layout, row, Element, item, finish, Stepped, finishAt, elementAt}
+use Rattle.elements.specs.Steps.{asRow}
 use Rattle.octets.proofs.Inverse.{no-ok, ok-value, ok-place}
 
 -- An accepted reading of a field and what follows it; a choice.
@@ -124,3 +126,12 @@ module _ (b : Book) (s : List ℕ) (at : ℕ) (r : Row) (end : ℕ) (e : rowAt b
       let h = named-number s at n p (find n b) r end e2 in
       let q : find n c ≡ none = subst (λ (k : ℕ). find k c ≡ none) (h .0) lacks in
       rw (e1, q)
+
+-- A row counts, and nothing else does.
+pub step-rows : (s : List ℕ) (at rows : ℕ) (b : Book) (st : Stepped) (next : ℕ) → elementAt s at rows b ≡ ok st next → st .rows ≡ rows + asRow (st .element)
+step-rows s at rows b st next e = go (went s at rows b st next e)
+  where
+    go : Went s at rows b st next → st .rows ≡ rows + asRow (st .element)
+    go (at-layout l x k h g el ro) = rw el (omega arith)
+    go (at-row r k h el ro bo) = rw el (omega arith)
+    go (at-finish n t k h el ro bo) = rw el (omega arith)

@@ -2,7 +2,7 @@
 use Prim.Native.Nat.{ℕ, _≤_}
 use mathlib.Core.Path.{_≡_}
 use mathlib.Core.List.{List}
-use mathlib.Core.Bool.{Bool}
+use mathlib.Core.Bool.{Bool, true, false}
 use lib.ListN.{length}
 use Rattle.octets.specs.Reading.{Read, ok, no, _then_}
 use Rattle.layouts.specs.Layout.{Layout}
@@ -23,6 +23,11 @@ abbrev pub metOf : element.Element → Met
 metOf (element.item (element.layout l)) = met.Layout (l .number) (length (l .attributes))
 metOf (element.item (element.row r)) = met.Row (r .number) (r .is-stated) (length (r .fields))
 metOf (element.finish n t) = met.End n t
+
+abbrev pub isLastMet : Met → Bool
+isLastMet (met.Layout n k) = false
+isLastMet (met.Row n stated k) = false
+isLastMet (met.End n t) = true
 
 -- What a step says: the element, the next place, the new row count and the new used count.
 abbrev pub stepOf : element.Stepped → ℕ → Step

@@ -2,6 +2,7 @@
 
 ghost use mathlib.Core.Path.{_≡_};
 ghost use mathlib.Core.Bool.{true};
+ghost use mathlib.Core.List.{[]};
 ghost use Prim.Native.Nat.{ℕ, _+_, _≤_};
 ghost use lib.ListN.{length};
 ghost use Rattle.octets.specs.Reading.{ok, isOk};
@@ -9,8 +10,8 @@ ghost use Rattle.layouts.specs.Layout.{Layout, layoutAt};
 ghost use Rattle.layouts.specs.Book.{Book, bookImage, IsBook, bookIn};
 ghost use Rattle.layouts.specs.Answers.{Image, Holds};
 ghost use Rattle.elements.specs.Element.{item, layout, layoutElement, rowElement, endElement, elementAt};
-ghost use Rattle.elements.specs.Steps.{leaves};
-ghost use Rattle.elements.specs.Answers.{tells, stepOf};
+ghost use Rattle.elements.specs.Steps.{leaves, elementsFrom, counted};
+ghost use Rattle.elements.specs.Answers.{tells, stepOf, isLastMet, countSays};
 use layouts::Learning;
 use layouts::Looked;
 use octets::Ended;
@@ -166,4 +167,43 @@ pub fn element<'d, 'b>(
         return end_step(doc, at + 4, rows, used);
     }
     Stepping::Refused(7, at)
+}
+
+// Whether an element is the end.
+fn is_end(met: Met) -> bool
+    ensures { λ r. ⌜ r ≡ isLastMet met ⌝ }
+{
+    match met {
+        Met::Layout(number, count) => false,
+        Met::Row(number, stated, count) => false,
+        Met::End(count, time) => true,
+    }
+}
+
+// The rows from a place to the end, over a book of its own that is empty there and never checked again.
+pub fn rows_from(doc: &[u8], at: usize) -> Counting
+    requires { ⌜ (at ≤ length (now doc)) × (length (now doc) ≤ 1048576) ⌝ }
+    ensures { λ r. ⌜ countSays r ≡ counted 0 (elementsFrom (length (now (doc .entry)) + 1) (now (doc .entry)) at 0 []) ⌝ }
+{
+    let mut book = [0u8; 32768];
+    let mut pos = at;
+    let mut rows: usize = 0;
+    let mut used: usize = 0;
+    loop {
+        let one = element(doc, pos, rows, &mut book, used);
+        match one {
+            Stepping::Refused(n, p) => {
+                return Counting::Refused(n, p);
+            }
+            Stepping::Done(step) => {
+                pos = step.next;
+                rows = step.rows;
+                used = step.used;
+                let met = step.met;
+                if is_end(met) {
+                    return Counting::Rows(rows, pos);
+                }
+            }
+        }
+    }
 }

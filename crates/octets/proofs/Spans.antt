@@ -5,7 +5,7 @@ use Prim.Native.Nat.{ℕ, zero, suc, _+_, _*_, _/_, _%_, _^_, _≤_, _<_}
 use native.Mathlib.Numerals.{add-one}
 use native.Mathlib.Omega.{arith}
 use native.Mathlib.Nat.{add-zero, add-suc, add-assoc, mul-assoc, zero-add, le-refl, pow-zero, pow-suc, div-lt-iff-lt-mul}
-use lib.ListN.{length, take, drop, getD, length-append, length-drop, take-append-drop}
+use lib.ListN.{length, take, drop, getD, replicate, length-append, length-drop, take-append-drop}
 use lib.Seq.{drop-cons, drop-append-seam, drop-drop, drop-length, getD-drop, length-take-le, take-append-seam}
 use lib.Dec.{lit<}
 use lib.Arith.{digits-lt, digits-div, digits-mod}
@@ -171,3 +171,7 @@ pub word-be : (w : ℕ) (s : List ℕ) (at : ℕ) → Each Octet s → at + w �
 word-be w s at e h =
     let (small, p) = word-spans s (length s) w at e h (le-refl (length s)) in
     (small, sym (ap (part s at) (sym (length-word w (be w s at))) ∙ part-is p))
+
+pub each-replicate : (n x : ℕ) → x < 256 → Each Octet (replicate n x)
+each-replicate zero x h = tt
+each-replicate (suc n) x h = (h, each-replicate n x h)

@@ -1,0 +1,173 @@
+-- A run of elements on the way: the book behind an accepted element is good again, and what is counted from the start is what is counted from here.
+use Prim.Native.Nat.{ℕ, zero, suc, _+_, _-_, _≤_, _<_}
+use mathlib.Core.Path.{_≡_, refl, sym, ap, _∙_, subst}
+use mathlib.Core.List.{List, [], _∷_, _++_}
+use mathlib.Core.Bool.{Bool, true, false}
+use native.Mathlib.Omega.{arith}
+use lib.ListN.{length, take, drop, length-append, length-drop}
+use lib.Seq.{take-append-seam}
+use Rattle.octets.specs.Reading.{Read, ok, no, _then_, choose}
+use Rattle.octets.specs.Writing.{word, images, Each, Octet}
+use Rattle.octets.proofs.Spans.{Spans, length-word, each-append, each-drop}
+use Rattle.layouts.specs.Layout.{Layout, layoutImage, GoodLayout}
+use Rattle.layouts.specs.Book.{Book, bookImage, bookOf, bookIn, IsBook, learn}
+use Rattle.layouts.proofs.Layouts.{layout-octets}
+use Rattle.layouts.proofs.Books.{GoodBook, Lent, book-back, image-nil, image-cons}
+use Rattle.layouts.proofs.Walks.{lent-book}
+use Rattle.layouts.proofs.Lends.{empty-book}
+use Rattle.layouts.proofs.Growing.{grown}
+use Rattle.rows.specs.Row.{rowImage}
+use Rattle.elements.specs.Element.{Element, item, layout, row, finish, Stepped, elementAt}
+use Rattle.elements.specs.Steps.{holding, leaves, Placed, isLast, elementsFrom, asRow, rowsOf, counted}
+use Rattle.elements.specs.Answers.{metOf, isLastMet, stepOf, tells}
+use Rattle.elements.specs.declared.Step.{Step}
+use Rattle.elements.specs.declared.Stepping.the-variants.{Done, Refused}
+use Rattle.elements.proofs.Elements.{Came, a-layout, a-row, an-end, element-forth, endImage}
+use Rattle.elements.proofs.Went.{step-rows}
+
+-- What an answer says of the reading.
+pub done : (r : Read Stepped) (step : Step) → tells r ≡ Done step → (st : Stepped) × (next : ℕ) × (r ≡ ok st next) × (stepOf st next ≡ step)
+done (ok st next) step e = (st, next, refl, (let same : stepOf st next ≡ step = cc in same))
+done (no n p) step e = absurd (let z : _≡_ {A = ℕ} 0 1 = cc in omega arith)
+
+pub refusing : (r : Read Stepped) (n p : ℕ) → tells r ≡ Refused n p → r ≡ no n p
+refusing (ok st next) n p e = absurd (let z : _≡_ {A = ℕ} 0 1 = cc in omega arith)
+refusing (no m q) n p e = let a : m ≡ n = cc in let b : q ≡ p = cc in cc
+
+pub last-met : (e : Element) → isLastMet (metOf e) ≡ isLast e
+last-met (item (layout l)) = refl
+last-met (item (row r)) = refl
+last-met (finish n t) = refl
+
+-- Where an element that was read ends, and that the book behind it is good.
+behind-kind : (s : List ℕ) (at next kind : ℕ) (xs : List ℕ) → Spans s (length s) at next (word 4 kind ++ xs) → (at + 4 ≤ next) × (next ≤ length s)
+behind-kind s at next kind xs p = (omega (arith, p .place, length-append (word 4 kind) xs, length-word 4 kind), p .inside)
+
+came-place : {s : List ℕ} {at rows : ℕ} {book : Book} {st : Stepped} {next : ℕ} → Came s at rows book st next → (at + 4 ≤ next) × (next ≤ length s)
+came-place {s} {at} {next = next} (a-layout {l} g m p) = behind-kind s at next 1 (layoutImage l) p
+came-place {s} {at} {next = next} (a-row {r} g p) = behind-kind s at next 2 (rowImage r) p
+came-place {s} {at} {rows} {next = next} (an-end {time} g w p) = behind-kind s at next 3 (word 4 rows ++ word 8 time) p
+
+came-book : {s : List ℕ} {at rows : ℕ} {book : Book} {st : Stepped} {next : ℕ} → GoodBook book → Came s at rows book st next → GoodBook (st .book)
+came-book {book = book} good (a-layout {l} {learnt} g m p) = grown book l 0 learnt 0 good g m .good
+came-book good (a-row g p) = good
+came-book good (an-end g w p) = good
+
+module _ (s : List ℕ) (short : length s ≤ 1048576) (o : Each Octet s) (at rows : ℕ) (book : Book) (inside : at ≤ length s) (st : Stepped) (next : ℕ)
+    (e : elementAt s at rows book ≡ ok st next) where
+  pub element-place : (at + 4 ≤ next) × (next ≤ length s)
+  element-place = came-place (element-forth s short at rows book o inside e)
+
+  pub element-book : GoodBook book → GoodBook (st .book)
+  element-book good = came-book good (element-forth s short at rows book o inside e)
+
+-- Lent octets that hold a good book.
+image-octets : (book : Book) → Each GoodLayout book → Each Octet (bookImage book)
+image-octets [] g = rw image-nil tt
+image-octets (l ∷ rest) g = rw (image-cons l rest) (each-append (layoutImage l) (bookImage rest) (layout-octets l (g .0)) (image-octets rest (g .1)))
+
+module _ (book : Book) (octets : List ℕ) (good : GoodBook book) (long : 32768 ≤ length octets) where
+  holding-octets : Each Octet octets → Each Octet (holding book octets)
+  holding-octets o = each-append (bookImage book) (drop (length (bookImage book)) octets) (image-octets book (good .good)) (each-drop Octet (length (bookImage book)) octets o)
+
+  holding-length : length (holding book octets) ≡ length octets
+  holding-length = rw (length-append (bookImage book) (drop (length (bookImage book)) octets), length-drop (length (bookImage book)) octets) (omega (arith, good .small))
+
+  holding-of : bookOf (holding book octets) (length (bookImage book)) ≡ ok book (length (bookImage book))
+  holding-of = book-back book (holding book octets) good (omega (arith, holding-length)) (take-append-seam (bookImage book) (drop (length (bookImage book)) octets))
+
+  pub holding-book : IsBook (holding book octets) (length (bookImage book)) × (bookIn (holding book octets) (length (bookImage book)) ≡ book)
+  unfolding bookIn
+  holding-book = (rw holding-of refl, rw holding-of refl)
+
+-- What is counted, a step at a time.
+module _ (k : ℕ) (s : List ℕ) (at rows : ℕ) (book : Book) where
+  counted-no : (n p : ℕ) → elementAt s at rows book ≡ no n p → counted rows (elementsFrom (suc k) s at rows book) ≡ no n p
+  unfolding elementsFrom
+  counted-no n p e = rw e refl
+
+  module _ (st : Stepped) (next : ℕ) (e : elementAt s at rows book ≡ ok st next) where
+    counted-last : isLast (st .element) ≡ true → counted rows (elementsFrom (suc k) s at rows book) ≡ ok (st .rows) next
+    unfolding elementsFrom
+    counted-last t = rw (e, t) (ap (λ (n : ℕ). ok n next) (sum (asRow (st .element)) (step-rows s at rows book st next e)))
+      where
+        sum : (n : ℕ) → st .rows ≡ rows + n → rows + (n + 0) ≡ st .rows
+        sum n h = omega arith
+
+    counted-more : isLast (st .element) ≡ false → counted rows (elementsFrom (suc k) s at rows book) ≡ counted (st .rows) (elementsFrom k s next (st .rows) (st .book))
+    unfolding elementsFrom
+    counted-more t = rw (e, t) (go (elementsFrom k s next (st .rows) (st .book)))
+      where
+        sum : (n m : ℕ) → st .rows ≡ rows + n → rows + (n + m) ≡ st .rows + m
+        sum n m h = omega arith
+
+        go : (r : Read (List Placed)) → counted rows (r then λ rest end. ok (record { place = at; element = st .element } ∷ rest) end) ≡ counted (st .rows) r
+        go (ok rest end) = ap (λ (n : ℕ). ok n end) (sum (asRow (st .element)) (rowsOf rest) (step-rows s at rows book st next e))
+        go (no n p) = refl
+
+-- A run that began at a place and is now at another, over lent octets that hold the book of the elements passed.
+pub record Going (s : List ℕ) (at : ℕ) (octets : List ℕ) (pos rows used : ℕ) : Type 0 where
+  pub inside : pos ≤ length s
+  pub behind : rows ≤ pos
+  pub size : length octets ≡ 32768
+  pub lent : Each Octet octets
+  pub is : IsBook octets used
+  pub fuel : ℕ
+  pub enough : length s - pos < fuel
+  pub same : counted 0 (elementsFrom (length s + 1) s at 0 []) ≡ counted rows (elementsFrom fuel s pos rows (bookIn octets used))
+
+pub going-start : (s : List ℕ) (at : ℕ) (octets : List ℕ) → at ≤ length s → Each Octet octets → length octets ≡ 32768 → Going s at octets at 0 0
+going-start s at octets h o size =
+    let (is, none) = empty-book octets (omega arith) in
+    record {
+      inside = h;
+      behind = omega arith;
+      size = size;
+      lent = o;
+      is = is;
+      fuel = length s + 1;
+      enough = omega arith;
+      same = ap (λ (b : Book). counted 0 (elementsFrom (length s + 1) s at 0 b)) (sym none);
+    }
+
+module _ (s : List ℕ) (short : length s ≤ 1048576) (at : ℕ) (octets : List ℕ) (pos rows used : ℕ) where
+  -- The fuel is never out.
+  more-fuel : (g : Going s at octets pos rows used) → (k : ℕ) × (g .fuel ≡ suc k) × (length s - pos ≤ k)
+  more-fuel g = go (g .fuel) (g .enough)
+    where
+      go : (f : ℕ) → length s - pos < f → (k : ℕ) × (f ≡ suc k) × (length s - pos ≤ k)
+      go zero h = absurd (omega arith)
+      go (suc k) h = (k, refl, omega arith)
+
+  here : (g : Going s at octets pos rows used) → counted 0 (elementsFrom (length s + 1) s at 0 []) ≡ counted rows (elementsFrom (suc (more-fuel g .0)) s pos rows (bookIn octets used))
+  here g = g .same ∙ ap (λ (f : ℕ). counted rows (elementsFrom f s pos rows (bookIn octets used))) (more-fuel g .1)
+
+  pub going-refused : Going s at octets pos rows used → (n p : ℕ) → elementAt s pos rows (bookIn octets used) ≡ no n p → counted 0 (elementsFrom (length s + 1) s at 0 []) ≡ no n p
+  going-refused g n p e = here g ∙ counted-no (more-fuel g .0) s pos rows (bookIn octets used) n p e
+
+  module _ (g : Going s at octets pos rows used) (st : Stepped) (next : ℕ) (e : elementAt s pos rows (bookIn octets used) ≡ ok st next) where
+    pub going-end : isLast (st .element) ≡ true → counted 0 (elementsFrom (length s + 1) s at 0 []) ≡ ok (st .rows) next
+    going-end t = here g ∙ counted-last (more-fuel g .0) s pos rows (bookIn octets used) st next e t
+
+    pub going-on : Each Octet s → isLast (st .element) ≡ false → Going s at (holding (st .book) octets) next (st .rows) (length (bookImage (st .book)))
+    going-on o t =
+        let l = lent-book octets used (g .lent) (g .is) in
+        let (far, near) = element-place s short o pos rows (bookIn octets used) (g .inside) st next e in
+        let good = element-book s short o pos rows (bookIn octets used) (g .inside) st next e (l .good) in
+        let (is, same) = holding-book (st .book) octets good (l .room) in
+        let few = few-rows (st .element) in
+        record {
+          inside = near;
+          behind = omega (arith, g .behind, step-rows s pos rows (bookIn octets used) st next e);
+          size = holding-length (st .book) octets good (l .room) ∙ g .size;
+          lent = holding-octets (st .book) octets good (l .room) (g .lent);
+          is = is;
+          fuel = more-fuel g .0;
+          enough = omega (arith, more-fuel g .2, g .inside);
+          same = here g ∙ (counted-more (more-fuel g .0) s pos rows (bookIn octets used) st next e t ∙ ap (λ (b : Book). counted (st .rows) (elementsFrom (more-fuel g .0) s next (st .rows) b)) (sym same));
+        }
+      where
+        few-rows : (x : Element) → asRow x ≤ 1
+        few-rows (item (layout l)) = omega arith
+        few-rows (item (row r)) = omega arith
+        few-rows (finish n m) = omega arith
