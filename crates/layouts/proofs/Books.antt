@@ -1,20 +1,19 @@
 -- A lent book: its octets are the image of a good book, which is read back from them.
 -- Layouts are read one behind another, so both ways go by the layouts that are left.
-use mathlib.Core.Path.{_≡_, refl, sym, ap, _∙_, subst}
+use mathlib.Core.Path.{_≡_, refl, sym, ap, _∙_}
 use mathlib.Core.List.{List, [], _∷_, _++_, append-assoc, append-nil}
-use mathlib.Core.Bool.{Bool, true, false, _&&_}
-use mathlib.Core.Option.{Option, some, none}
-use mathlib.Core.Logic.{inl, inr}
+use mathlib.Core.Bool.{true, _&&_}
+use mathlib.Core.Option.{none}
 use Prim.Native.Nat.{ℕ, zero, suc, _+_, _≤_, _<_}
 use native.Mathlib.Omega.{arith}
-use lib.ListN.{length, length-append, take}
-use lib.Seq.{append-snoc, length-take-le}
+use lib.ListN.{length, take}
+use lib.Seq.{append-snoc, length-take-le, take-append-seam}
 use lib.Dec.{leb, eqb}
 use borrow.Author.Tests.{leb-true, eqb-true, le-leb, eq-eqb, ne-eqb}
-use Rattle.octets.specs.Reading.{Read, ok, no, _then_, choose}
+use Rattle.octets.specs.Reading.{Read, ok, no}
 use Rattle.octets.specs.Writing.{images, Each, Octet}
-use Rattle.octets.proofs.Spans.{Spans, join, middle, all-spans, spans-all, none-spans, none-place, each-take, each-join}
-use Rattle.octets.proofs.Inverse.{Inverse, after, either, settle, chosen}
+use Rattle.octets.proofs.Spans.{Spans, join, middle, all-spans, spans-all, none-spans, none-place, each-take}
+use Rattle.octets.proofs.Inverse.{after, either, settle, chosen}
 use Rattle.octets.proofs.Copies.{both-true}
 use Rattle.layouts.specs.Layout.{Layout, layoutAt, layoutImage, GoodLayout}
 use Rattle.layouts.specs.Book.{Book, find, isNone, Distinct, bookImage, layoutsAt, as17, bookOf, bookIn, IsBook}
@@ -156,3 +155,13 @@ book-forth octets used {book} o e =
       },
       m .whole ∙ long,
     )
+
+-- The used octets of a lent book are the images of its layouts, one after another; and so many layouts inside the limits make a lent book of their images, whatever stands behind them.
+pub book-octets : (octets : List ℕ) (used : ℕ) → Each Octet octets → IsBook octets used
+    → GoodBook (bookIn octets used) × (images layoutImage (bookIn octets used) ≡ take used octets)
+unfolding bookImage
+book-octets octets used o e = let h = book-forth octets used o e .0 in (h .good, h .image)
+
+pub octets-book : (book : Book) (rest : List ℕ) → GoodBook book → 32768 ≤ length (bookImage book ++ rest)
+    → bookOf (bookImage book ++ rest) (length (bookImage book)) ≡ ok book (length (bookImage book))
+octets-book book rest g long = book-back book (bookImage book ++ rest) g long (take-append-seam (bookImage book) rest)

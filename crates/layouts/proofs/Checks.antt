@@ -1,5 +1,5 @@
 -- The laws of checking a lent book: the layouts met are kept by their numbers, and reading on behind them is reading all.
-use Prim.Native.Nat.{ℕ, suc, _+_, _-_, _≤_, _<_}
+use Prim.Native.Nat.{ℕ, _+_, _-_, _≤_, _<_}
 use mathlib.Core.Path.{_≡_, refl, ap, _∙_, sym}
 use mathlib.Core.List.{List, [], _∷_, _++_}
 use mathlib.Core.Bool.{Bool, true, false, not, _&&_}
@@ -10,9 +10,9 @@ use lib.Dec.{leb, eqb}
 use borrow.Author.Tests.{ne-eqb, eq-eqb, le-leb, lt-leb}
 use native.Mathlib.Numerals.{add-one}
 use native.Mathlib.Omega.{arith}
-use Rattle.octets.specs.Reading.{Read, ok, no, _then_, choose, ends, isOk, be, valueOr}
+use Rattle.octets.specs.Reading.{Read, ok, no, choose, ends, isOk, be, valueOr}
 use Rattle.octets.specs.Writing.{Each, Octet}
-use Rattle.octets.proofs.Ends.{ended, refused}
+use Rattle.octets.proofs.Ends.{ended, refused, left-suc, none-left}
 use Rattle.layouts.specs.Layout.{Layout, layoutAt}
 use Rattle.layouts.specs.Book.{Book, find, isNone, layoutsAt, as17, bookOf, bookIn, IsBook}
 use Rattle.layouts.specs.Answers.{among}
@@ -76,16 +76,12 @@ module _ (s : List ℕ) where
       pub met-full : 64 ≤ k → isOk (layoutsAt 64 [] s 0) ≡ false
       unfolding layoutsAt
       met-full f =
-          let none-left : 64 - k ≡ 0 = omega arith in
-          rw (m .same, none-left, ne-eqb pos (length s) (λ z. omega arith)) refl
+          rw (m .same, none-left 64 k f, ne-eqb pos (length s) (λ z. omega arith)) refl
 
       module _ (more : k < 64) where
-        left-suc : 64 - k ≡ suc (64 - (k + 1))
-        left-suc = omega arith
-
         pub met-refused : (n p : ℕ) → ends (layoutAt s pos) ≡ no n p → isOk (layoutsAt 64 [] s 0) ≡ false
         unfolding layoutsAt
-        met-refused n p e = rw (m .same, left-suc, ne-eqb pos (length s) (λ z. omega arith), refused (layoutAt s pos) n p e) refl
+        met-refused n p e = rw (m .same, left-suc 64 k more, ne-eqb pos (length s) (λ z. omega arith), refused (layoutAt s pos) n p e) refl
 
         -- The layout here, whose number is compared with those seen.
         module _ (next number : ℕ) (e : ends (layoutAt s pos) ≡ ok next next) (q : number ≡ be 4 s pos) where
@@ -95,7 +91,7 @@ module _ (s : List ℕ) where
               let (l, r) = ended (layoutAt s pos) next e in
               let g : isNone (find (l .number) (m .met)) ≡ false =
               ap (λ (n : ℕ). isNone (find n (m .met))) (sym (q ∙ layout-number s pos r .1)) ∙ met-known number (m .met) (m .kept) t in
-              rw (m .same, left-suc, ne-eqb pos (length s) (λ z. omega arith), r, g) refl
+              rw (m .same, left-suc 64 k more, ne-eqb pos (length s) (λ z. omega arith), r, g) refl
 
           pub met-on : k < length seen → among number (take k seen) ≡ false → Met s (set seen k number) (k + 1) next
           met-on long t =
@@ -106,7 +102,7 @@ module _ (s : List ℕ) where
               record {
                 met = m .met ++ l ∷ [];
                 kept = rw (add-one k, take-suc-set seen k number long, m .kept, same) (sym (numbers-snoc (m .met) l));
-                same = m .same ∙ ap (λ (n : ℕ). layoutsAt n (m .met) s pos) left-suc ∙ layouts-more s (64 - (k + 1)) (m .met) pos l next h r g;
+                same = m .same ∙ ap (λ (n : ℕ). layoutsAt n (m .met) s pos) (left-suc 64 k more) ∙ layouts-more s (64 - (k + 1)) (m .met) pos l next h r g;
               }
 
 -- Whether lent octets hold a book goes by their lengths and by the layouts in the used ones.

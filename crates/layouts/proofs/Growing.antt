@@ -1,21 +1,21 @@
 -- Learning a layout: what it does to a book, and that a part of an accepted document's book can always learn.
 use Prim.Native.Nat.{ℕ, _+_, _≤_, _<_}
-use mathlib.Core.Path.{_≡_, refl, sym, _∙_, ap, subst}
-use mathlib.Core.List.{List, [], _∷_, _++_}
+use mathlib.Core.Path.{_≡_, refl, sym, _∙_, ap}
+use mathlib.Core.List.{[], _∷_, _++_}
 use mathlib.Core.Bool.{Bool, true, false, _&&_}
 use mathlib.Core.Option.{Option, some, none}
 use mathlib.Core.Logic.{_⊎_, inl, inr}
 use native.Mathlib.Omega.{arith}
 use lib.ListN.{length, length-append}
-use lib.Dec.{eqb, leb, ltb}
-use borrow.Author.Tests.{eqb-true, eq-eqb, leb-true, ltb-true, le-leb, lt-ltb}
-use Rattle.octets.specs.Reading.{Read, ok, no, choose, same}
+use lib.Dec.{leb, ltb}
+use borrow.Author.Tests.{leb-true, ltb-true, le-leb, lt-ltb}
+use Rattle.octets.specs.Reading.{ok, same}
 use Rattle.octets.proofs.Copies.{both-true, same-true, same-refl}
 use Rattle.octets.proofs.Spans.{each-join}
-use Rattle.octets.proofs.Inverse.{no-ok, ok-value}
+use Rattle.octets.proofs.Inverse.{ok-value, chosen}
 use Rattle.layouts.specs.Layout.{Layout, layoutImage, GoodLayout}
 use Rattle.layouts.specs.Book.{Book, find, isNone, bookImage, learnAt, learn, Distinct}
-use Rattle.layouts.proofs.Finding.{none-some, some-same, First, first, find-here, find-nil, find-front, find-behind, Within, within-front, within-snoc, distinct-snoc, each-find, total, total-within, total-length, total-image}
+use Rattle.layouts.proofs.Finding.{some-same, First, first, find-here, find-nil, find-front, find-behind, Within, within-front, within-snoc, distinct-snoc, each-find, total, total-within, total-length, total-image}
 use Rattle.layouts.proofs.Layouts.{layout-once}
 use Rattle.layouts.proofs.Books.{GoodBook, image-nil, image-snoc}
 
@@ -29,20 +29,14 @@ pub learnt : (b : Book) (l : Layout) (at : ℕ) (c : Book) (end : ℕ) → learn
 unfolding learn
 learnt b l at c end e = go (find (l .number) b) refl e
   where
-    known : (m : Layout) → find (l .number) b ≡ some m → (t : Bool) → same (layoutImage m) (layoutImage l) ≡ t
-        → choose {A = Read Book} t (λ _. ok b at) (λ _. no 10 at) ≡ ok c end → Learnt b l c
-    known m f true q e = inl (m, f, same-true _ _ q, ok-value e refl)
-    known m f false q e = absurd (no-ok refl e)
-
-    new : find (l .number) b ≡ none → (t : Bool) → (ltb (length b) 64 && leb (length (bookImage b) + length (layoutImage l)) 32768) ≡ t
-        → choose {A = Read Book} t (λ _. ok (b ++ l ∷ []) at) (λ _. no 11 at) ≡ ok c end → Learnt b l c
-    new f true q e =
-        let both = both-true _ _ q in inr (f, ltb-true _ _ (both .0), leb-true _ _ (both .1), ok-value e refl)
-    new f false q e = absurd (no-ok refl e)
-
     go : (o : Option Layout) → find (l .number) b ≡ o → learnAt b l at o ≡ ok c end → Learnt b l c
-    go (some m) f e = known m f (same (layoutImage m) (layoutImage l)) refl e
-    go none f e = new f (ltb (length b) 64 && leb (length (bookImage b) + length (layoutImage l)) 32768) refl e
+    go (some m) f e =
+        let (t, e₁) = chosen (same (layoutImage m) (layoutImage l)) (λ _. ok b at) 10 at e in
+        inl (m, f, same-true _ _ t, ok-value e₁ refl)
+    go none f e =
+        let (t, e₁) = chosen (ltb (length b) 64 && leb (length (bookImage b) + length (layoutImage l)) 32768) (λ _. ok (b ++ l ∷ []) at) 11 at e in
+        let (few, small) = both-true _ _ t in
+        inr (f, ltb-true _ _ few, leb-true _ _ small, ok-value e₁ refl)
 
 pub learn-known : (b : Book) (l : Layout) (at : ℕ) (m : Layout) → find (l .number) b ≡ some m → layoutImage m ≡ layoutImage l → learn b l at ≡ ok b at
 unfolding learn
@@ -147,3 +141,29 @@ grown b l at c end g good e = go (learnt b l at c end e)
           keeps = within-front b (l ∷ []);
           has = find-behind (l .number) b (l ∷ []) (h .0) ∙ find-here (l .number) l [] refl;
         })
+
+-- Learning puts at most one image behind the book's.
+pub learnt-image : (b : Book) (l : Layout) (at : ℕ) (c : Book) (end : ℕ) → learn b l at ≡ ok c end
+    → (c ≡ b) ⊎ ((c ≡ b ++ l ∷ []) × (bookImage c ≡ bookImage b ++ layoutImage l))
+learnt-image b l at c end e = go (learnt b l at c end e)
+  where
+    go : Learnt b l c → (c ≡ b) ⊎ ((c ≡ b ++ l ∷ []) × (bookImage c ≡ bookImage b ++ layoutImage l))
+    go (inl h) = inl (h .3)
+    go (inr h) = inr (h .3, ap bookImage (h .3) ∙ image-snoc b l)
+
+-- Find after learning: under the layout's number the layout, under any other what was found before.
+pub find-learnt : (b : Book) (l : Layout) (at : ℕ) (c : Book) (end : ℕ) → GoodBook b → GoodLayout l → learn b l at ≡ ok c end → (n : ℕ)
+    → ((n ≡ l .number) × (find n c ≡ some l)) ⊎ ((n ≡ l .number → ⊥) × (find n c ≡ find n b))
+find-learnt b l at c end g good e n = go (learnt b l at c end e) (first n l [])
+  where
+    has : find (l .number) c ≡ some l
+    has = grown b l at c end g good e .has
+
+    behind : find n (l ∷ []) ≡ find n [] → (o : Option Layout) → find n b ≡ o → find n (b ++ l ∷ []) ≡ find n b
+    behind f none o = find-behind n b (l ∷ []) o ∙ (f ∙ (find-nil n ∙ sym o))
+    behind f (some m) o = find-front n b (l ∷ []) m o ∙ sym o
+
+    go : Learnt b l c → First n l [] → ((n ≡ l .number) × (find n c ≡ some l)) ⊎ ((n ≡ l .number → ⊥) × (find n c ≡ find n b))
+    go w (inl f) = inl (f .0, ap (λ (k : ℕ). find k c) (f .0) ∙ has)
+    go (inl h) (inr f) = inr (f .0, ap (find n) (h .3))
+    go (inr h) (inr f) = inr (f .0, ap (find n) (h .3) ∙ behind (f .1) (find n b) refl)

@@ -2,7 +2,7 @@
 -- A reading that succeeds is taken apart field by field; attribute n stands behind the run of the first n.
 use Prim.Native.Nat.{ℕ, zero, suc, _+_, _≤_, _<_}
 use mathlib.Core.Path.{_≡_, refl, sym, ap, _∙_, subst}
-use mathlib.Core.List.{List, _∷_}
+use mathlib.Core.List.{List}
 use mathlib.Core.Bool.{true}
 use lib.ListN.{length, drop}
 use native.Mathlib.Numerals.{add-one}

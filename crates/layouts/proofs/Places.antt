@@ -1,15 +1,11 @@
 -- The equations of reading an attribute and a layout that a function answering ends cites: each goes by the field that settles the answer.
 use Prim.Native.Nat.{ℕ, _+_, _≤_, _<_}
-use mathlib.Core.Path.{_≡_, refl, sym, ap, _∙_}
+use mathlib.Core.Path.{_≡_, refl, _∙_}
 use mathlib.Core.List.{List}
-use mathlib.Core.Bool.{true}
 use lib.ListN.{length}
-use native.Mathlib.Omega.{arith}
-use Rattle.octets.specs.Reading.{Read, ok, no, _then_, ends, isOk, be, part, number, text, count, run}
-use Rattle.octets.proofs.Ends.{on, stop, made, ok-alike, first-ok, number-ok, number-no, number-room, text-ok, text-room, count-ok, count-room}
-use Rattle.octets.proofs.Inverse.{after}
+use Rattle.octets.specs.Reading.{Read, ok, no, _then_, ends, be, number, text, count, run}
+use Rattle.octets.proofs.Ends.{on, stop, made, number-ok, number-no}
 use Rattle.kinds.specs.Kinds.{kindAt}
-use Rattle.kinds.proofs.Table.{kind-is}
 use Rattle.layouts.specs.Layout.{Layout, attributeAt, layoutAt}
 
 module _ (s : List ℕ) (at : ℕ) where

@@ -1,19 +1,21 @@
 -- What the answers about layouts and books say.
-use Prim.Native.Nat.{ℕ, _+_, _<_}
+use Prim.Native.Nat.{ℕ, _+_, _≤_, _<_}
 use mathlib.Core.Path.{_≡_}
 use mathlib.Core.List.{List, [], _∷_, _++_}
 use mathlib.Core.Bool.{Bool, true, false}
 use mathlib.Core.Option.{some, none}
 use lib.ListN.{length, drop}
 use lib.Dec.{eqb}
-use Rattle.octets.specs.Reading.{Read, ok, no, choose}
+use Rattle.octets.specs.Reading.{ok, no, choose}
 use Rattle.octets.specs.Writing.{Each}
-use Rattle.layouts.specs.Layout.{Attribute, Layout, attributeAt, layoutAt, GoodLayout}
+use Rattle.layouts.specs.Layout.{Attribute, Layout, attributeAt, layoutAt, layoutImage, GoodLayout}
 use Rattle.layouts.specs.Book.{Book, find, bookImage, learn}
 use Rattle.layouts.specs.declared.Looked.{Looked}
 use Rattle.layouts.specs.declared.Looked.the-variants.{There, Missing}
 use Rattle.layouts.specs.declared.Found.{Found}
 use Rattle.layouts.specs.declared.Found.the-variants.{At, Nothing}
+use Rattle.layouts.specs.declared.Judged.{Judged}
+use Rattle.layouts.specs.declared.Judged.the-variants.{Same, Fresh, Bad}
 use Rattle.layouts.specs.declared.Learning.{Learning}
 use Rattle.layouts.specs.declared.Learning.the-variants.{Known, New, Refused}
 
@@ -53,6 +55,12 @@ pub record Reads (s : List ℕ) (p : ℕ) : Type 0 where
   pub layout : Layout
   pub next : ℕ
   pub reads : layoutAt s p ≡ ok layout next
+
+-- What learning a layout at a place is to do to a book that uses so many octets: a new layout fits right behind them.
+abbrev pub Judges : ℕ → Book → Layout → ℕ → Judged → Type 0
+Judges used book l at Same = learn book l at ≡ ok book at
+Judges used book l at (Fresh p) = (learn book l at ≡ ok (book ++ l ∷ []) at) × (p ≡ used) × (used + length (layoutImage l) ≤ 32768)
+Judges used book l at (Bad n) = learn book l at ≡ no n at
 
 -- What learning a layout at a place answers, and what the lent octets hold then: known or refused, they are as they were; new, the layout's octets stand right behind the used ones and all behind them is as it was.
 abbrev pub Learns : List ℕ → List ℕ → Book → Layout → ℕ → Learning → Type 0

@@ -3,14 +3,14 @@
 ghost use mathlib.Core.Path.{_≡_};
 ghost use mathlib.Core.Bool.{true};
 ghost use mathlib.Core.List.{List, [], _∷_};
-ghost use Prim.Native.Nat.{ℕ, _+_, _-_, _≤_};
+ghost use Prim.Native.Nat.{ℕ, _+_, _≤_};
 ghost use lib.ListN.{length, take, drop};
 ghost use Rattle.octets.specs.Reading.{ok, ends, isOk, text, run, same};
 ghost use Rattle.octets.specs.Answers.{says, Within};
 ghost use Rattle.kinds.specs.Kinds.{kindAt};
 ghost use Rattle.layouts.specs.Layout.{Attribute, Layout, attributeAt, layoutAt, layoutImage};
 ghost use Rattle.layouts.specs.Book.{Book, bookOf, bookIn, IsBook, layoutsAt};
-ghost use Rattle.layouts.specs.Answers.{among, Image, Holds, Looks, Finds, Reads, Learns, Nth, Has};
+ghost use Rattle.layouts.specs.Answers.{among, Image, Holds, Looks, Finds, Reads, Judges, Learns, Nth, Has};
 use kinds::Basic;
 use kinds::Kind;
 use kinds::Kinded;
@@ -34,6 +34,13 @@ pub enum Learning {
     Known,
     New(usize),
     Refused(u32),
+}
+
+// How a layout stands to a book: known, new with the place to put it at, or refused by number.
+enum Judged {
+    Same,
+    Fresh(usize),
+    Bad(u32),
 }
 
 // The place behind the type at a place.
@@ -244,6 +251,33 @@ fn same_layout<'d, 'b>(doc: &'d [u8], at: usize, end: usize, s: &'b [u8], p: usi
     octets::octets_same(&s[p..q], &doc[at..end])
 }
 
+// How the layout from a place of a document to its end stands to the used octets of a good book.
+fn judge<'d, 'b>(doc: &'d [u8], at: usize, end: usize, s: &'b [u8]) -> Judged
+    requires { ⌜ (at ≤ end) × (end ≤ length (now doc)) × (ends (layoutAt (now doc) at) ≡ ok end end) × (length (now s) ≤ 32768) × Holds (now s) ⌝ }
+    ensures { λ r. ⌜ ((book : Book) (l : Layout) → Image (now (s .entry)) book → layoutAt (now (doc .entry)) at ≡ ok l end → Judges (length (now (s .entry))) book l at r) ⌝ }
+{
+    let used = s.len();
+    let looked = look_in(s, octets::u32_at(doc, at));
+    match looked {
+        Looked::There(p) => {
+            if same_layout(doc, at, end, s, p) {
+                Judged::Same
+            } else {
+                Judged::Bad(10)
+            }
+        }
+        Looked::Missing(k) => {
+            if 64 <= k {
+                return Judged::Bad(11);
+            }
+            if 32768 - used < end - at {
+                return Judged::Bad(11);
+            }
+            Judged::Fresh(used)
+        }
+    }
+}
+
 // Learns the layout from a place of a document to its end: a new one's octets are put behind the used ones.
 pub fn learn<'d, 'b>(
     doc: &'d [u8],
@@ -255,24 +289,11 @@ pub fn learn<'d, 'b>(
     requires { ⌜ (at ≤ end) × (end ≤ length (now doc)) × (ends (layoutAt (now doc) at) ≡ ok end end) × IsBook (now book) used ⌝ }
     ensures { λ r. ⌜ ((l : Layout) → layoutAt (now (doc .entry)) at ≡ ok l end → Learns (now (book .entry)) (now (book .exit)) (bookIn (now (book .entry)) used) l at r) ⌝ }
 {
-    let looked = look_in(&book[..used], octets::u32_at(doc, at));
-    match looked {
-        Looked::There(p) => {
-            if same_layout(doc, at, end, &book[..used], p) {
-                Learning::Known
-            } else {
-                Learning::Refused(10)
-            }
-        }
-        Looked::Missing(k) => {
-            if 64 <= k {
-                return Learning::Refused(11);
-            }
-            if 32768 - used < end - at {
-                return Learning::Refused(11);
-            }
-            Learning::New(octets::lay(book, used, &doc[at..end]))
-        }
+    let judged = judge(doc, at, end, &book[..used]);
+    match judged {
+        Judged::Same => Learning::Known,
+        Judged::Bad(n) => Learning::Refused(n),
+        Judged::Fresh(place) => Learning::New(octets::lay(book, place, &doc[at..end])),
     }
 }
 

@@ -2,10 +2,10 @@
 -- The measure is how many layouts more a book may have. Assumes nothing.
 use borrow.Author.Needs.{needs}
 use native.Mathlib.Omega.{arith}
-use Prim.Native.Nat.{ℕ, _+_, _-_, _≤_, _<_}
-use mathlib.Core.Path.{_≡_, refl, sym, _∙_, ap}
+use Prim.Native.Nat.{ℕ, _-_, _≤_}
+use mathlib.Core.Path.{_≡_, sym, _∙_, ap}
 use mathlib.Core.List.{List}
-use lib.ListN.{length, take, length-set, length-replicate}
+use lib.ListN.{length, length-set, length-replicate}
 use lib.Seq.{length-take-le}
 use denote.Ref.{now}
 use Rattle.octets.specs.Reading.{ok, ends}

@@ -1,6 +1,6 @@
 -- `layouts::attribute_count` meets its contract: the count that was read is that of the attributes read. Assumes nothing.
 use borrow.Author.Needs.{needs}
-use mathlib.Core.Path.{_≡_, _∙_}
+use mathlib.Core.Path.{_∙_}
 use denote.Ref.{now}
 use Rattle.layouts.proofs.Parts.{layout-fields}
 use Rattle.layouts.proofs.attribute_count.Statement.{statement}

@@ -1,7 +1,7 @@
 -- `layouts::attribute_end` meets its contract: each arm by what `text_end` answered. Assumes nothing.
 use borrow.Author.Needs.{needs}
 use native.Mathlib.Omega.{arith}
-use mathlib.Core.Path.{_≡_, refl, sym, _∙_, ap}
+use mathlib.Core.Path.{refl, sym, _∙_, ap}
 use denote.Ref.{now}
 use lib.ListN.{length}
 use Rattle.octets.specs.Answers.{says}

@@ -1,7 +1,6 @@
 -- `layouts::attribute_kind` meets its contract, by the type of the attribute at attribute n's place. Assumes nothing.
 use borrow.Author.Needs.{needs}
 use mathlib.Core.Path.{_≡_, ap, _∙_}
-use denote.Ref.{now}
 use Rattle.octets.specs.Reading.{isOk}
 use Rattle.layouts.specs.Layout.{Attribute}
 use Rattle.layouts.proofs.attribute_kind.Statement.{statement}

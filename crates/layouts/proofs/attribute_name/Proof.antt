@@ -1,6 +1,6 @@
 -- `layouts::attribute_name` meets its contract: attribute n's name stands first in it. Assumes nothing.
 use borrow.Author.Needs.{needs}
-use mathlib.Core.Path.{_≡_, ap, _∙_, sym}
+use mathlib.Core.Path.{_≡_, ap, _∙_}
 use denote.Ref.{now}
 use Rattle.octets.specs.Reading.{isOk}
 use Rattle.layouts.specs.Layout.{Attribute}

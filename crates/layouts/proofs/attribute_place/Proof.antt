@@ -6,7 +6,7 @@ use mathlib.Core.Path.{_≡_, ap, subst}
 use mathlib.Core.List.{List}
 use lib.ListN.{length}
 use denote.Ref.{now}
-use Rattle.octets.specs.Reading.{ok, ends, isOk, be, run}
+use Rattle.octets.specs.Reading.{ok, ends, isOk, run}
 use Rattle.octets.proofs.Inverse.{ok-value}
 use Rattle.octets.proofs.Ends.{run-none}
 use Rattle.layouts.specs.Layout.{Layout, attributeAt, layoutAt}

@@ -1,7 +1,7 @@
 -- `layouts::attribute_skip` meets its contract: an attribute's type is the four octets behind its name. Assumes nothing.
 use native.Mathlib.Omega.{arith}
 use Prim.Native.Nat.{ℕ}
-use mathlib.Core.Path.{_≡_, ap, _∙_}
+use mathlib.Core.Path.{ap, _∙_}
 use denote.Ref.{now}
 use Rattle.octets.specs.Reading.{ok, ends}
 use Rattle.layouts.specs.Layout.{attributeAt}

@@ -1,6 +1,5 @@
 -- `layouts::attributes_at` meets its contract: behind its type name an accepted layout has its count. Assumes nothing.
 use native.Mathlib.Omega.{arith}
-use mathlib.Core.Path.{_≡_}
 use denote.Ref.{now}
 use Rattle.layouts.specs.Layout.{layoutAt}
 use Rattle.layouts.proofs.Parts.{accepted, layout-named, layout-number, layout-fields}

@@ -1,6 +1,6 @@
 -- `layouts::is_book` meets its contract: by the two lengths, then by the layouts in the used octets. Assumes nothing.
 use native.Mathlib.Omega.{arith}
-use mathlib.Core.Path.{_≡_, sym, _∙_}
+use mathlib.Core.Path.{sym, _∙_}
 use lib.Seq.{length-take-le}
 use denote.Ref.{now}
 use Rattle.layouts.proofs.Checks.{book-short, book-over, book-on}

@@ -1,7 +1,7 @@
 -- `layouts::kind_end` meets its contract, by what `kind_at` answered. Assumes nothing.
 use borrow.Author.Needs.{needs}
 use native.Mathlib.Omega.{arith}
-use mathlib.Core.Path.{_≡_, sym, ap, _∙_}
+use mathlib.Core.Path.{sym, ap, _∙_}
 use Rattle.octets.specs.Reading.{ends}
 use Rattle.kinds.specs.Answers.{kindSays}
 use Rattle.layouts.proofs.kind_end.Statement.{statement}

@@ -1,10 +1,7 @@
 -- `layouts::kind_here` meets its contract: an accepted attribute's type is read behind its name, and is not refused. Assumes nothing.
 use borrow.Author.Needs.{needs}
-use native.Mathlib.Omega.{arith}
-use Prim.Native.Nat.{ℕ}
-use mathlib.Core.Path.{_≡_, sym, ap, _∙_}
+use mathlib.Core.Path.{sym, ap, _∙_}
 use denote.Ref.{now}
-use Rattle.octets.specs.Reading.{Read, ok}
 use Rattle.octets.proofs.Inverse.{no-ok, ok-value}
 use Rattle.kinds.specs.Answers.{kindSays}
 use Rattle.layouts.proofs.Parts.{attribute-named, attribute-fields}

@@ -1,8 +1,7 @@
 -- `layouts::layout_end` meets its contract: each arm by what the callee answered, by a law of `layoutAt`. Assumes nothing.
 use borrow.Author.Needs.{needs}
 use native.Mathlib.Omega.{arith}
-use Prim.Native.Nat.{_+_}
-use mathlib.Core.Path.{_≡_, refl, sym, _∙_, ap}
+use mathlib.Core.Path.{sym, _∙_, ap}
 use lib.ListN.{length}
 use denote.Ref.{now}
 use Rattle.octets.specs.Answers.{says, counts}

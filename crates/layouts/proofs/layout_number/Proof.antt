@@ -1,5 +1,5 @@
 -- `layouts::layout_number` meets its contract: a layout's number stands first. Assumes nothing.
-use mathlib.Core.Path.{_≡_, _∙_}
+use mathlib.Core.Path.{_∙_}
 use denote.Ref.{now}
 use Rattle.layouts.specs.Layout.{layoutAt}
 use Rattle.layouts.proofs.Parts.{accepted, layout-number}

@@ -1,6 +1,5 @@
 -- `layouts::type_name` meets its contract: a layout's type name stands behind its number. Assumes nothing.
 use native.Mathlib.Omega.{arith}
-use mathlib.Core.Path.{_≡_}
 use denote.Ref.{now}
 use Rattle.layouts.specs.Layout.{layoutAt}
 use Rattle.layouts.proofs.Parts.{accepted, layout-named, layout-number, layout-text}
