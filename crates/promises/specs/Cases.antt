@@ -8,9 +8,9 @@ use Rattle.octets.specs.Reading.{Read, ok, no, _then_, part}
 use Rattle.kinds.specs.declared.Basic.{Basic}
 use Rattle.kinds.specs.declared.Basic.the-variants.{UnsignedInt, Byte, Short}
 use Rattle.kinds.specs.Kinds.{signed}
-use Rattle.layouts.specs.Layout.{Attribute, Layout}
-use Rattle.rows.specs.Row.{bits, Row}
-use Rattle.elements.specs.Element.{layout, row, Element, item, finish}
+use Rattle.layouts.specs.Layout.{Attribute}
+use Rattle.rows.specs.Row.{bits}
+use Rattle.elements.specs.Element.{layout, row, item, finish}
 use Rattle.elements.specs.Steps.{Placed, readingFrom, reading, whole}
 
 -- What a case asks.
