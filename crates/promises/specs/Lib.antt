@@ -1,2 +1,4 @@
 pub mod Cases
 pub mod Meaning
+pub mod BySteps
+pub mod Resume
