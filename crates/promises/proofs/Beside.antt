@@ -40,7 +40,7 @@ pub alike-none : (b c : Book) → Alike b c → (n : ℕ) → find n c ≡ none 
 alike-none b c a n e = absent (find n b) (a n ∙ rw e refl)
 
 -- One step over a second book.
-pub record Follows (s : List ℕ) (f : Book) (at rows : ℕ) (st : Stepped) (next : ℕ) (c d : Book) : Type 0 where
+record Follows (s : List ℕ) (f : Book) (at rows : ℕ) (st : Stepped) (next : ℕ) (c d : Book) : Type 0 where
   pub stepped : Stepped
   pub goes : elementAt s at rows c ≡ ok stepped next
   pub element : stepped .element ≡ st .element
@@ -146,7 +146,7 @@ lacks s at rows b st next r c e is none-there = go (went s at rows b st next e)
     go (at-finish n t k h el ro bo) = let z : _≡_ {A = ℕ} 0 1 = cc in absurd (omega arith)
 
 -- The numbers of a run's book are those of its first book and of its layouts.
-pub step-alike : (s : List ℕ) (at rows : ℕ) (b : Book) (st : Stepped) (next : ℕ) → elementAt s at rows b ≡ ok st next → Alike (st .book) (b ++ layoutOf (st .element))
+step-alike : (s : List ℕ) (at rows : ℕ) (b : Book) (st : Stepped) (next : ℕ) → elementAt s at rows b ≡ ok st next → Alike (st .book) (b ++ layoutOf (st .element))
 step-alike s at rows b st next e = go (went s at rows b st next e)
   where
     learning : (l : Layout) → Learnt b l (st .book) → Alike (st .book) (b ++ l ∷ [])

@@ -97,7 +97,7 @@ image-octets d g =
     (each-append (word 4 (rowCount (d .items))) (word 8 (d .end)) (word-octets 4 (rowCount (d .items))) (word-octets 8 (d .end))))))
 
 -- Two meanings of one image are one.
-pub unique : (d e : Document) → Good d → Good e → image d ≡ image e → readingOf d ≡ readingOf e
+unique : (d e : Document) → Good d → Good e → image d ≡ image e → readingOf d ≡ readingOf e
 unique d e g h same = settle (λ (r : Reading) (_ : ℕ). readingOf d ≡ r) (sym (complete d g) ∙ ap reading same ∙ complete e h) refl
 
 -- A reading names its document.

@@ -17,16 +17,16 @@ use Rattle.layouts.specs.Book.{Book, bookImage, bookOf}
 use Rattle.headers.specs.Header.{Header, headerAt}
 use Rattle.elements.specs.Element.{layout, item, Stepped, elementAt}
 use Rattle.elements.specs.Steps.{lentBook, stepAt, Placed, isLast, elementsFrom, readingFrom, Reading, reading, whole}
-use Rattle.promises.specs.BySteps.{Left, holding, left, stepOver, Ending, ended, refused, BySteps, stop, last, more, answer, FromFirst, no-header, then-steps, Holds, OneReading, OneFirst, Appends, Leaves}
+use Rattle.promises.specs.BySteps.{Left, holding, left, stepOver, Ending, ended, refused, BySteps, stop, last, more, answer, FromFirst, no-header, then-steps, Holds, Few, OneReading, OneFirst, Appends, Leaves}
 use Rattle.octets.proofs.Ends.{number-no}
-use Rattle.octets.proofs.Inverse.{ok-value, chosen}
+use Rattle.octets.proofs.Inverse.{ok-value, after, chosen}
 use Rattle.layouts.proofs.Books.{GoodBook, Lent, image-nil, image-snoc, book-back, book-forth}
 use Rattle.layouts.proofs.Learn.{Learnt, learnt, good-nil}
-use Rattle.elements.proofs.Went.{then-ok, Went, at-layout, at-row, at-finish, went}
-use Rattle.promises.proofs.Run.{Spot, behind, placed, Steps, step-rows, Ends, NoEnd, step-gains, step-moves, Few, step-few}
+use Rattle.elements.proofs.Went.{Went, at-layout, at-row, at-finish, went}
+use Rattle.promises.proofs.Run.{Spot, behind, placed, Steps, step-rows, Ends, NoEnd, step-gains, step-moves, step-few}
 
 -- The book in lent octets that hold it.
-pub holds-book : (octets : List ℕ) (used : ℕ) (b : Book) → Holds octets used b → GoodBook b → bookOf octets used ≡ ok b used
+holds-book : (octets : List ℕ) (used : ℕ) (b : Book) → Holds octets used b → GoodBook b → bookOf octets used ≡ ok b used
 holds-book octets used b h good =
     subst (λ (u : ℕ). bookOf octets u ≡ ok b u) (sym (h .size))
     (book-back b octets good (h .room) (subst (λ (u : ℕ). take u octets ≡ bookImage b) (h .size) (h .held)))
@@ -133,7 +133,7 @@ first (stop q) = rw q (refl, refl)
 first (last q t) = rw q (inl (t, refl, refl))
 first (more {rest = rest} q t d) = rw q (inr (t, (rest, d, refl)))
 
-pub once : {s : List ℕ} {at rows used : ℕ} {octets : List ℕ} {ps : List Placed} {e : Ending} → BySteps s at rows octets used ps e
+once : {s : List ℕ} {at rows used : ℕ} {octets : List ℕ} {ps : List Placed} {e : Ending} → BySteps s at rows octets used ps e
     → (qs : List Placed) (f : Ending) → BySteps s at rows octets used qs f → (qs ≡ ps) × (f ≡ e)
 once {s} {at} (stop q) qs f d = subst (First s at qs f) q (first d)
 once {s} {at} (last {next = next} {l = l} q t) qs f d = go (subst (First s at qs f) q (first d))
@@ -154,7 +154,7 @@ lent-ok : (s : List ℕ) (rows : ℕ) (octets : List ℕ) (used : ℕ) {b : Book
 unfolding lentBook
 lent-ok s rows octets used e =
     let (t, e₁) = chosen (leb (length s) 1048576) _ 2 0 e in
-    then-ok (bookOf octets used) _ e₁ λ b end e₂ e₃.
+    after (bookOf octets used) _ e₁ λ b end e₂ e₃.
     let (u, e₄) = chosen (leb rows 1048576) (λ _. ok b end) 17 0 e₃ in
     (leb-true (length s) 1048576 t, e₂ ∙ e₄)
 
@@ -184,7 +184,7 @@ unfolding headerAt
 header-short s e = let (t, _) = chosen (leb (length s) 1048576) _ 2 0 e in leb-true (length s) 1048576 t
 
 -- Nothing in the book, and no row passed.
-pub empty-stands : (s : List ℕ) (at : ℕ) (octets : List ℕ) → length s ≤ 1048576 → 32768 ≤ length octets → Stands s at 0 octets 0 []
+empty-stands : (s : List ℕ) (at : ℕ) (octets : List ℕ) → length s ≤ 1048576 → 32768 ≤ length octets → Stands s at 0 octets 0 []
 empty-stands s at octets short room =
     record { few = omega arith; holds = record { room = room; size = rw image-nil refl; held = rw image-nil refl }; good = good-nil }
 
@@ -229,8 +229,8 @@ pub leaves : (s : List ℕ) (at rows : ℕ) (octets : List ℕ) (used : ℕ) (l 
     → Leaves rows octets used l
 unfolding stepOver stepAt
 leaves s at rows octets used l next o e =
-    then-ok (lentBook s rows octets used then λ b _. elementAt s at rows b) _ e λ st end e₁ e₂.
-    then-ok (lentBook s rows octets used) _ e₁ λ b x e₃ e₄.
+    after (lentBook s rows octets used then λ b _. elementAt s at rows b) _ e λ st end e₁ e₂.
+    after (lentBook s rows octets used) _ e₁ λ b x e₃ e₄.
     let lent : Lent octets used b = book-forth octets used o (lent-ok s rows octets used e₃ .1) .0 in
     subst (Leaves rows octets used) (ok-value refl e₂)
     (record { counts = step-rows s at rows b st end e₄; appends = go st end b lent (went s at rows b st end e₄) })

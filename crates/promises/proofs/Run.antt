@@ -1,6 +1,6 @@
 -- A run of steps over books in hand, as a relation: how it splits, what it counts, what its book gains, and that an accepted reading is one.
 -- Each fact holds of one step by what the step rests on, and of a run by its elements. Assumes nothing.
-use Prim.Native.Nat.{ℕ, zero, suc, _+_, _-_, _≤_}
+use Prim.Native.Nat.{ℕ, zero, suc, _+_, _≤_}
 use mathlib.Core.Path.{_≡_, refl, sym, ap, subst}
 use mathlib.Core.List.{List, [], _∷_, _++_, List·Memᴰ, List·Memᴰ·append-cases, List·Memᴰ·not-nil, List·Memᴰ·eq-of-singleton}
 use mathlib.Core.Bool.{true, false}
@@ -14,15 +14,16 @@ use Rattle.layouts.specs.Layout.{Layout, layoutAt, layoutImage, GoodLayout}
 use Rattle.layouts.specs.Book.{Book, find}
 use Rattle.elements.specs.Element.{layout, row, Element, item, finish, Stepped, elementAt}
 use Rattle.elements.specs.Steps.{Placed, isLast, elementsFrom, asRow, rowsOf}
+use Rattle.promises.specs.BySteps.{Few}
 use Rattle.promises.specs.Resume.{layoutOf, layoutsOf}
 use Rattle.octets.proofs.Ends.{number-room}
-use Rattle.octets.proofs.Inverse.{Answer, Any, no-ok, ok-value, ok-place}
+use Rattle.octets.proofs.Inverse.{Answer, Any, no-ok, ok-value, ok-place, after, either}
 use Rattle.layouts.proofs.Layouts.{layout-inverse}
 use Rattle.layouts.proofs.Find.{Within}
 use Rattle.layouts.proofs.Books.{GoodBook}
 use Rattle.layouts.proofs.Learn.{Grown, grown}
 use Rattle.rows.proofs.Rows.{row-inverse}
-use Rattle.elements.proofs.Went.{then-ok, choice, Went, at-layout, at-row, at-finish, went}
+use Rattle.elements.proofs.Went.{Went, at-layout, at-row, at-finish, went}
 
 -- Where a reading stands.
 pub record Spot : Type 0 where
@@ -92,10 +93,6 @@ pub record Gains (b ls c : Book) : Type 0 where
 
 nothing-gained : (b : Book) → GoodBook b → Gains b [] b
 nothing-gained b good = record { good = good; keeps = λ n m f. f; has = λ m i. absurd (List·Memᴰ·not-nil i) }
-
--- The rows passed and the octets left are no more than the limit: so it stays, since a step that goes on takes more octets than it counts rows.
-abbrev pub Few : List ℕ → ℕ → ℕ → Type 0
-Few s at rows = rows + (length s - at) ≤ 1048576
 
 one-row : (e : Element) → asRow e ≤ 1
 one-row (item (layout l)) = omega arith
@@ -175,11 +172,11 @@ pub ran : (k : ℕ) (s : List ℕ) (at rows : ℕ) (b : Book) (ps : List Placed)
 unfolding elementsFrom
 ran zero s at rows b ps end e = absurd (no-ok refl e)
 ran (suc k) s at rows b ps end e =
-    then-ok (elementAt s at rows b) _ e λ st next e1 e2.
-    choice (isLast (st .element)) _ _ e2
+    after (elementAt s at rows b) _ e λ st next e1 e2.
+    either (isLast (st .element)) _ _ e2
     (λ t e3. let q : ps ≡ placed at st ∷ [] = ok-value e3 refl in let z : end ≡ next = ok-place e3 refl in
     rw (q, z) (record { last = behind st next; steps = (st, next, e1, refl, refl); at-end = refl; ends = t }))
-    (λ t e3. then-ok (elementsFrom k s next (st .rows) (st .book)) _ e3 λ rest stop e4 e5.
+    (λ t e3. after (elementsFrom k s next (st .rows) (st .book)) _ e3 λ rest stop e4 e5.
     let q : ps ≡ placed at st ∷ rest = ok-value e5 refl in let z : end ≡ stop = ok-place e5 refl in
     let again : Ran s (behind st next) rest stop = ran k s next (st .rows) (st .book) rest stop e4 in
     rw (q, z) (record { last = again .last; steps = (st, next, e1, refl, again .steps); at-end = again .at-end; ends = ends-cons (placed at st) rest t (again .ends) }))

@@ -16,14 +16,13 @@ use Rattle.rows.specs.Row.{Row}
 use Rattle.headers.specs.Header.{headerAt}
 use Rattle.elements.specs.Element.{layout, row, Element, item, finish, Stepped, elementAt}
 use Rattle.elements.specs.Steps.{Placed, elementsFrom, Reading, reading, rowsOf}
-use Rattle.promises.specs.BySteps.{ended, refused, BySteps, Holds}
+use Rattle.promises.specs.BySteps.{ended, refused, BySteps, Holds, Few}
 use Rattle.promises.specs.Resume.{layoutOf, layoutsOf, Once, AllIn, CutAt, Taken, Lacking, FirstLacking, Resumed}
-use Rattle.octets.proofs.Inverse.{ok-value, ok-place}
+use Rattle.octets.proofs.Inverse.{ok-value, ok-place, after}
 use Rattle.layouts.proofs.Find.{none-some, absent, some-same, find-number, find-member, member-find, each-find, Within, total-within, total-length, total-image}
 use Rattle.layouts.proofs.Books.{GoodBook}
 use Rattle.layouts.proofs.Learn.{Alike, good-nil}
-use Rattle.elements.proofs.Went.{then-ok}
-use Rattle.promises.proofs.Run.{Spot, Steps, steps-split, steps-rows, Gains, steps-gain, Ends, ends-split, Few, steps-few, Ran, ran}
+use Rattle.promises.proofs.Run.{Spot, Steps, steps-split, steps-rows, Gains, steps-gain, Ends, ends-split, steps-few, Ran, ran}
 use Rattle.promises.proofs.Over.{Stands, header-short, reaches, halts}
 use Rattle.promises.proofs.Beside.{Known, Covered, present, alike-none, Resumes, resumes, lacks, steps-alike, Under, covers}
 
@@ -103,8 +102,8 @@ record AtCut (s : List ℕ) (before : List Placed) (here : Placed) (rest : List 
 at-cut : (s : List ℕ) → Each Octet s → (before : List Placed) (here : Placed) (rest : List Placed) (end : ℕ) → CutAt s before here rest end → AtCut s before here rest end
 unfolding reading
 at-cut s o before here rest end cut =
-    then-ok (headerAt s) _ (cut .accepted) λ h next e1 e2.
-    then-ok (elementsFrom (length s + 1) s next 0 []) _ e2 λ els stop e3 e4.
+    after (headerAt s) _ (cut .accepted) λ h next e1 e2.
+    after (elementsFrom (length s + 1) s next 0 []) _ e2 λ els stop e3 e4.
     let first : Spot = record { at = next; rows = 0; book = [] } in
     let q : before ++ here ∷ rest ≡ els = ap (λ (r : Reading). r .elements) (ok-value e4 refl) in
     let z : end ≡ stop = ok-place e4 refl in

@@ -1,5 +1,5 @@
 -- Reading by steps: each step is given the lent octets and the used count that the step before left.
-use Prim.Native.Nat.{ℕ, _+_, _≤_}
+use Prim.Native.Nat.{ℕ, _+_, _-_, _≤_}
 use mathlib.Core.Path.{_≡_}
 use mathlib.Core.List.{List, [], _∷_, _++_}
 use mathlib.Core.Bool.{true, false}
@@ -61,6 +61,10 @@ pub record Holds (octets : List ℕ) (used : ℕ) (book : Book) : Type 0 where
   pub room : 32768 ≤ length octets
   pub size : used ≡ length (bookImage book)
   pub held : take used octets ≡ bookImage book
+
+-- The rows passed and the octets left are together within the limit of rows. So it is wherever a document's own rows are told, and so it stays, since every row takes more than one octet; where it is not, a later step may be told rows over the limit, which is 17.
+abbrev pub Few : List ℕ → ℕ → ℕ → Type 0
+Few s at rows = rows + (length s - at) ≤ 1048576
 
 -- What is promised of steps from a place over lent octets: they come to an end or a refusal, in one way alone, and that answer is the reading from there.
 pub record OneReading (s : List ℕ) (at rows : ℕ) (octets : List ℕ) (used : ℕ) : Type 0 where

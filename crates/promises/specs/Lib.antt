@@ -2,3 +2,5 @@ pub mod Cases
 pub mod Meaning
 pub mod BySteps
 pub mod Resume
+pub mod Refusals
+pub mod OneAnswer
