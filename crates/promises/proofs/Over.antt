@@ -6,6 +6,7 @@ use mathlib.Core.List.{List, [], _∷_, _++_, append-assoc}
 use mathlib.Core.Bool.{Bool, true, false}
 use mathlib.Core.Logic.{_⊎_, inl, inr}
 use native.Mathlib.Omega.{arith}
+use native.Mathlib.Nat.{add-zero}
 use lib.ListN.{length, take, drop, length-append, length-drop, take-append-drop}
 use lib.Seq.{take-append-seam}
 use lib.Dec.{leb}
@@ -16,10 +17,10 @@ use Rattle.layouts.specs.Layout.{Layout, layoutImage}
 use Rattle.layouts.specs.Book.{Book, bookImage, bookOf}
 use Rattle.headers.specs.Header.{Header, headerAt}
 use Rattle.elements.specs.Element.{layout, item, Stepped, elementAt}
-use Rattle.elements.specs.Steps.{lentBook, stepAt, Placed, isLast, elementsFrom, readingFrom, Reading, reading, whole}
-use Rattle.promises.specs.BySteps.{Left, holding, left, stepOver, Ending, ended, refused, BySteps, stop, last, more, answer, FromFirst, no-header, then-steps, Holds, Few, OneReading, OneFirst, Appends, Leaves}
+use Rattle.elements.specs.Steps.{lentBook, stepAt, Placed, isLast, elementsFrom, readingFrom, Reading, reading, asRow, rowsOf, whole}
+use Rattle.promises.specs.BySteps.{Left, holding, left, stepOver, Ending, ended, refused, BySteps, stop, last, more, answer, FromFirst, no-header, then-steps, Holds, Few, OneReading, OneFirst, Appends, Counted}
 use Rattle.octets.proofs.Ends.{number-no}
-use Rattle.octets.proofs.Inverse.{ok-value, after, chosen}
+use Rattle.octets.proofs.Inverse.{ok-value, ok-place, after, chosen}
 use Rattle.layouts.proofs.Books.{GoodBook, Lent, image-nil, image-snoc, book-back, book-forth}
 use Rattle.layouts.proofs.Learn.{Learnt, learnt, good-nil}
 use Rattle.elements.proofs.Went.{Went, at-layout, at-row, at-finish, went}
@@ -225,15 +226,21 @@ appended octets used b m lent =
     let long : length (bookImage (b ++ m ∷ [])) ≡ used + length (layoutImage m) = ap length (image-snoc b m) ∙ length-append (bookImage b) (layoutImage m) ∙ ap (λ (n : ℕ). n + length (layoutImage m)) (lent .size) in
     (rw (long, image-snoc b m, lent .image) (append-assoc (take used octets) (layoutImage m) (drop (used + length (layoutImage m)) octets)), long)
 
-pub leaves : (s : List ℕ) (at rows : ℕ) (octets : List ℕ) (used : ℕ) (l : Left) (next : ℕ) → Each Octet octets → stepOver s at rows octets used ≡ ok l next
-    → Leaves rows octets used l
+-- An accepted step, as the element over the book that was lent.
+stepped : {C : Type 0} (s : List ℕ) (at rows : ℕ) (octets : List ℕ) (used : ℕ) (l : Left) (next : ℕ) → stepOver s at rows octets used ≡ ok l next
+    → ((b : Book) (x : ℕ) (st : Stepped) → lentBook s rows octets used ≡ ok b x → elementAt s at rows b ≡ ok st next → left octets st ≡ l → C) → C
 unfolding stepOver stepAt
-leaves s at rows octets used l next o e =
+stepped s at rows octets used l next e k =
     after (lentBook s rows octets used then λ b _. elementAt s at rows b) _ e λ st end e₁ e₂.
     after (lentBook s rows octets used) _ e₁ λ b x e₃ e₄.
-    let lent : Lent octets used b = book-forth octets used o (lent-ok s rows octets used e₃ .1) .0 in
-    subst (Leaves rows octets used) (ok-value refl e₂)
-    (record { counts = step-rows s at rows b st end e₄; appends = go st end b lent (went s at rows b st end e₄) })
+    k b x st e₃ (e₄ ∙ ap (ok st) (ok-place refl e₂)) (ok-value refl e₂)
+
+pub appends : (s : List ℕ) (at rows : ℕ) (octets : List ℕ) (used : ℕ) (l : Left) (next : ℕ) → Each Octet octets → stepOver s at rows octets used ≡ ok l next
+    → Appends octets used l
+appends s at rows octets used l next o e =
+    stepped s at rows octets used l next e λ b x st e₁ e₂ is.
+    let lent : Lent octets used b = book-forth octets used o (lent-ok s rows octets used e₁ .1) .0 in
+    subst (Appends octets used) is (go st next b lent (went s at rows b st next e₂))
   where
     learning : (st : Stepped) (b : Book) (m : Layout) → Lent octets used b → st .element ≡ item (layout m) → Learnt b m (st .book) → Appends octets used (left octets st)
     learning st b m lent el (inl h) = inl (rw (h .3) (kept octets used b lent))
@@ -243,3 +250,43 @@ leaves s at rows octets used l next o e =
     go st end b lent (at-layout m x k h g el ro) = learning st b m lent el (learnt b m (at + 4) (st .book) x g)
     go st end b lent (at-row r k h el ro bo) = inl (rw bo (kept octets used b lent))
     go st end b lent (at-finish n t k h el ro bo) = inl (rw bo (kept octets used b lent))
+
+-- The rows at each element.
+step-counts : (s : List ℕ) (at rows : ℕ) (octets : List ℕ) (used : ℕ) (l : Left) (next : ℕ) → stepOver s at rows octets used ≡ ok l next → l .rows ≡ rows + asRow (l .element)
+step-counts s at rows octets used l next e =
+    stepped s at rows octets used l next e λ b x st e₁ e₂ is.
+    subst (λ (y : Left). y .rows ≡ rows + asRow (y .element)) is (step-rows s at rows b st next e₂)
+
+-- An element in a list is not in one that ends before it.
+not-in : {A : Type 0} (a : List A) (q : A) (b : List A) → [] ≡ a ++ q ∷ b → ⊥
+not-in [] q b e = let z : _≡_ {A = ℕ} 0 1 = cc in omega arith
+not-in (x ∷ a) q b e = let z : _≡_ {A = ℕ} 0 1 = cc in omega arith
+
+tails : {A : Type 0} {x y : A} {xs ys : List A} → x ∷ xs ≡ y ∷ ys → (x ≡ y) × (xs ≡ ys)
+tails e = (cc, cc)
+
+counted-here : (s : List ℕ) (at rows : ℕ) (octets : List ℕ) (used : ℕ) (l : Left) (next : ℕ) (q : Placed) → stepOver s at rows octets used ≡ ok l next
+    → record { place = at; element = l .element } ≡ q → Counted s (rows + 0) q
+counted-here s at rows octets used l next q e is =
+    subst (Counted s (rows + 0)) is
+    (record {
+      octets = octets;
+      used = used;
+      left = l;
+      next = next;
+      steps = rw (add-zero rows) e;
+      element = refl;
+      counts = rw (add-zero rows) (step-counts s at rows octets used l next e);
+    })
+
+pub counted : {s : List ℕ} {at rows used : ℕ} {octets : List ℕ} {ps : List Placed} {e : Ending} (a : List Placed) (q : Placed) (b : List Placed)
+    → BySteps s at rows octets used ps e → ps ≡ a ++ q ∷ b → Counted s (rows + rowsOf a) q
+counted a q b (stop e) is = absurd (not-in a q b is)
+counted {s} [] q b (last {at} {rows} {used} {next} {octets} {l} e t) is = counted-here s at rows octets used l next q e (tails is .0)
+counted (x ∷ a) q b (last e t) is = absurd (not-in a q b (tails is .1))
+counted {s} [] q b (more {at} {rows} {used} {next} {octets} {l} e t d) is = counted-here s at rows octets used l next q e (tails is .0)
+counted {s} (x ∷ a) q b (more {at} {rows} {used} {next} {octets} {l} e t d) is =
+    let (i, j) = tails is in
+    let same : l .element ≡ x .element = ap (λ (p : Placed). p .element) i in
+    let sum : l .rows + rowsOf a ≡ rows + (asRow (x .element) + rowsOf a) = rw (← same) (omega (arith, step-counts s at rows octets used l next e)) in
+    subst (λ (n : ℕ). Counted s n q) sum (counted a q b d j)

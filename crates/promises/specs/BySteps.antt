@@ -80,13 +80,18 @@ pub record OneFirst (s octets : List ℕ) : Type 0 where
   pub only : (r : Read Reading) → FromFirst s octets r → r ≡ reading s
   pub whole-is : (r : Read Reading) → FromFirst s octets r → whole s ≡ (r then λ x end. ok (rowsOf (x .elements)) end)
 
--- Lent octets that are as they were; or the layout read is new and stands at the end of the used ones, and nothing else moved.
+-- What is promised of the lent octets behind an accepted step: they are as they were; or the layout read is new and stands at the end of the used ones, and nothing else moved.
 abbrev pub Appends : List ℕ → ℕ → Left → Type 0
 Appends octets used l =
     ((l .octets ≡ octets) × (l .used ≡ used))
     ⊎ ((m : Layout) × (l .element ≡ item (layout m)) × (l .octets ≡ over octets used (layoutImage m)) × (l .used ≡ used + length (layoutImage m)))
 
--- What is promised of an accepted step: the rows are one more behind a row, else as they were, and the lent octets are as above.
-pub record Leaves (rows : ℕ) (octets : List ℕ) (used : ℕ) (l : Left) : Type 0 where
-  pub counts : l .rows ≡ rows + asRow (l .element)
-  pub appends : Appends octets used l
+-- What is promised of rows at each element of a reading by steps: its step is told the rows before it, and answers one more behind a row.
+pub record Counted (s : List ℕ) (rows : ℕ) (p : Placed) : Type 0 where
+  pub octets : List ℕ
+  pub used : ℕ
+  pub left : Left
+  pub next : ℕ
+  pub steps : stepOver s (p .place) rows octets used ≡ ok left next
+  pub element : left .element ≡ p .element
+  pub counts : left .rows ≡ rows + asRow (p .element)
