@@ -15,9 +15,9 @@ use Rattle.elements.specs.Element.{layout, row, Element, item, finish, Stepped,
 use Rattle.elements.specs.Steps.{Placed}
 use Rattle.promises.specs.Resume.{layoutOf, layoutsOf}
 use Rattle.octets.specs.Writing.{Each, Octet}
-use Rattle.layouts.proofs.Find.{absent, some-same, Within}
+use Rattle.layouts.proofs.Finding.{absent, some-same, Within}
 use Rattle.layouts.proofs.Books.{GoodBook}
-use Rattle.layouts.proofs.Learn.{Learnt, learnt, absent-append, Alike, alike-append, alike-known, Learns, learns-within}
+use Rattle.layouts.proofs.Growing.{Learnt, learnt, absent-append, Alike, alike-append, alike-known, Learns, learns-within}
 use Rattle.elements.proofs.Went.{Went, at-layout, at-row, at-finish, went, layout-step, row-step, row-stop, finish-step, row-found, row-agrees, row-lacks}
 use Rattle.promises.proofs.Run.{Spot, behind, Steps, Gains, step-gains, steps-gain}
 

@@ -1,22 +1,21 @@
--- Every listed refusal number is given: an input for each, which antt computes, but for 2, which takes a document too long to lay out.
--- Assumes nothing.
+-- Every listed refusal number is given, for an input that antt runs; but 2 takes a document too long to lay out, and is by its length. Assumes nothing.
 use Prim.Native.Nat.{ℕ, zero, suc, _+_, _<_}
-use mathlib.Core.Path.{_≡_, refl, sym, subst}
+use mathlib.Core.Path.{_≡_, sym, ap, subst}
 use mathlib.Core.List.{List, [], _∷_, _++_}
 use lib.ListN.{length, take, set, replicate, length-replicate}
 use lib.Dec.{lit<}
 use borrow.Author.Tests.{lt-leb}
-use Rattle.octets.specs.Reading.{no, be, part, numberIn, octetsIn, textIn, count, exactly, run}
-use Rattle.octets.specs.Writing.{word, textImage, images, Each}
+use Rattle.octets.specs.Reading.{Read, no, be, part, numberIn, octetsIn, textIn, count, exactly, run}
+use Rattle.octets.specs.Writing.{word, textImage, images}
 use Rattle.kinds.specs.Kinds.{among, basicOf, kindAt}
 use Rattle.layouts.specs.Layout.{attributeAt, layoutAt, attributeImage, layoutImage}
 use Rattle.layouts.specs.Book.{find, bookImage, layoutsAt, bookOf, learn}
 use Rattle.rows.specs.Row.{valueIn, fieldsIn, valuesAt, rowAt}
-use Rattle.headers.specs.Header.{namespaceAt, idAt, headerFrom, headerAt}
-use Rattle.elements.specs.Element.{finishAt, elementAt}
+use Rattle.headers.specs.Header.{Header, namespaceAt, idAt, headerFrom, headerAt}
+use Rattle.elements.specs.Element.{Stepped, finishAt, elementAt}
 use Rattle.elements.specs.Steps.{lentBook, stepAt, elementsFrom, reading, whole}
 use Rattle.promises.specs.Cases.{specimen, layoutBook, emptyBook}
-use Rattle.promises.specs.Refusals.{Given, headerNumbers, stepNumbers, wholeNumbers, Inputs, Refusals}
+use Rattle.promises.specs.Refusals.{refusalOf, refusalsOf, headerNumbers, elementNumbers, stepNumbers, wholeNumbers, Inputs, Refusals}
 use Rattle.promises.proofs.Numbers.{header-only, step-only, whole-only}
 
 -- So many layouts of different numbers, as a book holds them, each behind some octets.
@@ -50,130 +49,52 @@ whole-long : whole long ≡ no 2 0
 unfolding whole reading
 whole-long = rw header-long
 
-header-each : Each (Given headerAt) headerNumbers
-unfolding specimen be part numberIn octetsIn textIn count exactly run namespaceAt idAt headerFrom headerAt
-header-each = (
-  record { input = []; place = 0; is = refl },
-  (
-    record { input = long; place = 0; is = header-long },
-    (
-      record { input = set specimen 3 3; place = 0; is = refl },
-      (
-        record { input = set specimen 23 17; place = 20; is = refl },
-        (
-          record { input = set specimen 31 15; place = 28; is = refl },
-          (
-            record { input = set specimen 51 0; place = 48; is = refl },
-            tt,
-          ),
-        ),
-      ),
-    ),
-  ),
-)
+headerInputs : List (List ℕ)
+headerInputs = [] ∷ long ∷ set specimen 3 3 ∷ set specimen 23 17 ∷ set specimen 31 15 ∷ set specimen 51 0 ∷ []
 
-step-each : Each (Given (λ (i : Inputs). stepAt (i .document) (i .place) (i .rows) (i .octets) (i .used))) stepNumbers
-unfolding specimen layoutBook emptyBook be part numberIn octetsIn textIn count exactly run word textImage images among basicOf kindAt attributeAt layoutAt attributeImage layoutImage find bookImage layoutsAt bookOf learn valueIn fieldsIn valuesAt rowAt finishAt elementAt lentBook stepAt
-step-each = (
-  record { input = record { document = long; place = 0; rows = 0; octets = []; used = 0 }; place = 0; is = step-long },
-  (
-    record { input = record { document = specimen; place = 52; rows = 0; octets = []; used = 0 }; place = 0; is = refl },
-    (
-      record { input = record { document = specimen; place = 137; rows = 0; octets = emptyBook; used = 0 }; place = 137; is = refl },
-      (
-        record { input = record { document = set specimen 68 65; place = 52; rows = 0; octets = emptyBook; used = 0 }; place = 65; is = refl },
-        (
-          record { input = record { document = specimen; place = 0; rows = 0; octets = emptyBook; used = 0 }; place = 0; is = refl },
-          (
-            record { input = record { document = set specimen 77 0x20; place = 52; rows = 0; octets = emptyBook; used = 0 }; place = 74; is = refl },
-            (
-              record { input = record { document = set specimen 74 0x80; place = 52; rows = 0; octets = emptyBook; used = 0 }; place = 74; is = refl },
-              (
-                record { input = record { document = set specimen 64 0x42; place = 52; rows = 0; octets = layoutBook; used = 31 }; place = 56; is = refl },
-                (
-                  record { input = record { document = specimen; place = 52; rows = 0; octets = layouts [] 64 ++ emptyBook; used = 768 }; place = 56; is = refl },
-                  (
-                    record { input = record { document = specimen; place = 87; rows = 0; octets = emptyBook; used = 0 }; place = 91; is = refl },
-                    (
-                      record { input = record { document = set specimen 98 6; place = 87; rows = 0; octets = layoutBook; used = 31 }; place = 95; is = refl },
-                      (
-                        record { input = record { document = specimen; place = 87; rows = 0; octets = set layoutBook 30 0x29; used = 31 }; place = 103; is = refl },
-                        (
-                          record { input = record { document = specimen; place = 121; rows = 0; octets = emptyBook; used = 0 }; place = 125; is = refl },
-                          (
-                            record { input = record { document = specimen ++ 0 ∷ []; place = 121; rows = 2; octets = emptyBook; used = 0 }; place = 137; is = refl },
-                            tt,
-                          ),
-                        ),
-                      ),
-                    ),
-                  ),
-                ),
-              ),
-            ),
-          ),
-        ),
-      ),
-    ),
-  ),
-)
+header-each : refusalsOf headerAt headerInputs ≡ headerNumbers
+unfolding headerInputs specimen be part numberIn octetsIn textIn count exactly run namespaceAt idAt headerFrom headerAt
+header-each = ap (λ (r : Read Header). 1 ∷ refusalOf r ∷ 3 ∷ 4 ∷ 5 ∷ 6 ∷ []) header-long
 
-whole-each : Each (Given whole) wholeNumbers
-unfolding specimen be part numberIn octetsIn textIn count exactly run word textImage images among basicOf kindAt attributeAt layoutAt attributeImage layoutImage find bookImage learn valueIn fieldsIn valuesAt rowAt namespaceAt idAt headerFrom headerAt finishAt elementAt elementsFrom reading whole
-whole-each = (
-  record { input = []; place = 0; is = refl },
-  (
-    record { input = long; place = 0; is = whole-long },
-    (
-      record { input = set specimen 3 3; place = 0; is = refl },
-      (
-        record { input = set specimen 23 17; place = 20; is = refl },
-        (
-          record { input = set specimen 31 15; place = 28; is = refl },
-          (
-            record { input = set specimen 51 0; place = 48; is = refl },
-            (
-              record { input = set specimen 55 4; place = 52; is = refl },
-              (
-                record { input = set specimen 77 0x20; place = 74; is = refl },
-                (
-                  record { input = set specimen 74 0x80; place = 74; is = refl },
-                  (
-                    record { input = take 87 specimen ++ set (part specimen 52 35) 12 0x42; place = 91; is = refl },
-                    (
-                      record { input = take 52 specimen ++ layouts (0 ∷ 0 ∷ 0 ∷ 1 ∷ []) 65; place = 1080; is = refl },
-                      (
-                        record { input = set specimen 94 8; place = 91; is = refl },
-                        (
-                          record { input = set specimen 98 6; place = 95; is = refl },
-                          (
-                            record { input = set specimen 86 0x29; place = 103; is = refl },
-                            (
-                              record { input = set specimen 128 3; place = 125; is = refl },
-                              (
-                                record { input = specimen ++ 0 ∷ []; place = 137; is = refl },
-                                tt,
-                              ),
-                            ),
-                          ),
-                        ),
-                      ),
-                    ),
-                  ),
-                ),
-              ),
-            ),
-          ),
-        ),
-      ),
-    ),
-  ),
-)
+abbrev step : Inputs → Read Stepped
+step i = stepAt (i .document) (i .place) (i .rows) (i .octets) (i .used)
+
+stepInputs : List Inputs
+stepInputs =
+    record { document = long; place = 0; rows = 0; octets = []; used = 0 }
+    ∷ record { document = specimen; place = 52; rows = 0; octets = []; used = 0 }
+    ∷ record { document = specimen; place = 137; rows = 0; octets = emptyBook; used = 0 }
+    ∷ record { document = set specimen 68 65; place = 52; rows = 0; octets = emptyBook; used = 0 }
+    ∷ record { document = specimen; place = 0; rows = 0; octets = emptyBook; used = 0 }
+    ∷ record { document = set specimen 77 0x20; place = 52; rows = 0; octets = emptyBook; used = 0 }
+    ∷ record { document = set specimen 74 0x80; place = 52; rows = 0; octets = emptyBook; used = 0 }
+    ∷ record { document = set specimen 64 0x42; place = 52; rows = 0; octets = layoutBook; used = 31 }
+    ∷ record { document = specimen; place = 52; rows = 0; octets = layouts [] 64 ++ emptyBook; used = 768 }
+    ∷ record { document = specimen; place = 87; rows = 0; octets = emptyBook; used = 0 }
+    ∷ record { document = set specimen 98 6; place = 87; rows = 0; octets = layoutBook; used = 31 }
+    ∷ record { document = specimen; place = 87; rows = 0; octets = set layoutBook 30 0x29; used = 31 }
+    ∷ record { document = specimen; place = 121; rows = 0; octets = emptyBook; used = 0 }
+    ∷ record { document = specimen ++ 0 ∷ []; place = 121; rows = 2; octets = emptyBook; used = 0 }
+    ∷ []
+
+step-each : refusalsOf step stepInputs ≡ stepNumbers
+unfolding stepInputs specimen layoutBook emptyBook be part numberIn octetsIn textIn count exactly run word textImage images among basicOf kindAt attributeAt layoutAt attributeImage layoutImage find bookImage layoutsAt bookOf learn valueIn fieldsIn valuesAt rowAt finishAt elementAt lentBook stepAt
+step-each = ap (λ (r : Read Stepped). refusalOf r ∷ 17 ∷ elementNumbers) step-long
+
+wholeInputs : List (List ℕ)
+wholeInputs =
+    [] ∷ long ∷ set specimen 3 3 ∷ set specimen 23 17 ∷ set specimen 31 15 ∷ set specimen 51 0 ∷ set specimen 55 4 ∷ set specimen 77 0x20
+    ∷ set specimen 74 0x80 ∷ (take 87 specimen ++ set (part specimen 52 35) 12 0x42) ∷ (take 52 specimen ++ layouts (0 ∷ 0 ∷ 0 ∷ 1 ∷ []) 65)
+    ∷ set specimen 94 8 ∷ set specimen 98 6 ∷ set specimen 86 0x29 ∷ set specimen 128 3 ∷ (specimen ++ 0 ∷ []) ∷ []
+
+whole-each : refusalsOf whole wholeInputs ≡ wholeNumbers
+unfolding wholeInputs specimen be part numberIn octetsIn textIn count exactly run word textImage images among basicOf kindAt attributeAt layoutAt attributeImage layoutImage find bookImage learn valueIn fieldsIn valuesAt rowAt namespaceAt idAt headerFrom headerAt finishAt elementAt elementsFrom reading whole
+whole-each = ap (λ (r : Read ℕ). 1 ∷ refusalOf r ∷ 3 ∷ 4 ∷ 5 ∷ 6 ∷ 7 ∷ 8 ∷ 9 ∷ 10 ∷ 11 ∷ 12 ∷ 13 ∷ 14 ∷ 15 ∷ 16 ∷ []) whole-long
 
 pub refusals : Refusals
 refusals =
     record {
-      header = record { only = header-only; each = header-each };
-      step = record { only = λ i. step-only (i .document) (i .place) (i .rows) (i .octets) (i .used); each = step-each };
-      check = record { only = whole-only; each = whole-each };
+      header = record { only = header-only; inputs = headerInputs; each = header-each };
+      step = record { only = λ i. step-only (i .document) (i .place) (i .rows) (i .octets) (i .used); inputs = stepInputs; each = step-each };
+      check = record { only = whole-only; inputs = wholeInputs; each = whole-each };
     }

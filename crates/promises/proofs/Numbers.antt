@@ -1,5 +1,4 @@
--- The refusal numbers of the header check, the step and the whole check: no other than those listed, by the parts of each reading; and each of them, by an input that gets it.
--- Assumes nothing.
+-- The header check, the step and the whole check give no refusal number but those listed for each: by the parts of each reading. Assumes nothing.
 use Prim.Native.Nat.{ℕ, zero, suc, _+_, _^_, _%_}
 use mathlib.Core.Path.{_≡_, refl, sym, subst}
 use mathlib.Core.List.{List, [], _∷_}
@@ -16,43 +15,44 @@ use Rattle.kinds.specs.declared.Form.the-variants as form
 use Rattle.kinds.specs.Kinds.{basicOf, formOf, known, kindAt}
 use Rattle.layouts.specs.Layout.{Attribute, Layout, attributeAt, layoutAt, layoutImage}
 use Rattle.layouts.specs.Book.{Book, find, bookImage, as17, layoutsAt, bookOf, learnAt, learn}
+use Rattle.layouts.specs.Answers.{among}
 use Rattle.headers.specs.Header.{namespaceAt, idAt, headerFrom, headerAt}
 use Rattle.rows.specs.Row.{valueIn, fieldsIn, valuesAt, named, rowAt}
 use Rattle.elements.specs.Element.{finishAt, elementAt}
 use Rattle.elements.specs.Steps.{lentBook, stepAt, isLast, elementsFrom, reading, whole}
 use Rattle.octets.proofs.Inverse.{no-ok}
 use Rattle.octets.proofs.Copies.{both-true}
-use Rattle.promises.specs.Refusals.{listed, Only, headerNumbers, elementNumbers, stepNumbers, wholeNumbers}
+use Rattle.promises.specs.Refusals.{Only, headerNumbers, elementNumbers, stepNumbers, wholeNumbers}
 
--- Whether all numbers of a list are listed in another.
-abbrev all-listed : List ℕ → List ℕ → Bool
-all-listed [] ns = true
-all-listed (m ∷ ms) ns = listed m ns && all-listed ms ns
+-- Whether all numbers of a list are among those of another.
+abbrev all-among : List ℕ → List ℕ → Bool
+all-among [] ns = true
+all-among (m ∷ ms) ns = among m ns && all-among ms ns
 
-more : (ns ms : List ℕ) → all-listed ms ns ≡ true → (n : ℕ) → listed n ms ≡ true → listed n ns ≡ true
+more : (ns ms : List ℕ) → all-among ms ns ≡ true → (n : ℕ) → among n ms ≡ true → among n ns ≡ true
 more ns [] all n h = absurd (let z : _≡_ {A = ℕ} 0 1 = cc in omega arith)
 more ns (m ∷ ms) all n h =
-    let (here, rest) = both-true (listed m ns) (all-listed ms ns) all in
+    let (here, rest) = both-true (among m ns) (all-among ms ns) all in
     go (eqb n m) refl here h (more ns ms rest n)
   where
-    go : (t : Bool) → eqb n m ≡ t → listed m ns ≡ true → choose t (λ _. true) (λ _. listed n ms) ≡ true → (listed n ms ≡ true → listed n ns ≡ true) → listed n ns ≡ true
-    go true e here k again = subst (λ (x : ℕ). listed x ns ≡ true) (sym (eqb-true n m e)) here
+    go : (t : Bool) → eqb n m ≡ t → among m ns ≡ true → choose t (λ _. true) (λ _. among n ms) ≡ true → (among n ms ≡ true → among n ns ≡ true) → among n ns ≡ true
+    go true e here k again = subst (λ (x : ℕ). among x ns ≡ true) (sym (eqb-true n m e)) here
     go false e here k again = again k
 
-widen : {A : Type 0} (ms : List ℕ) {ns : List ℕ} {r : Read A} → all-listed ms ns ≡ true → Only ms r → Only ns r
+widen : {A : Type 0} (ms : List ℕ) {ns : List ℕ} {r : Read A} → all-among ms ns ≡ true → Only ms r → Only ns r
 widen ms {ns} all h = record { number = λ n p e. more ns ms all n (h .number n p e) }
 
 -- The number that a room gives where a field passes its end.
 abbrev Overruns : List ℕ → Room → Type 0
-Overruns ns document = listed 1 ns ≡ true
-Overruns ns (stated end p) = listed 13 ns ≡ true
+Overruns ns document = among 1 ns ≡ true
+Overruns ns (stated end p) = among 13 ns ≡ true
 
 module _ {ns : List ℕ} where
   taken : {A : Type 0} (a : A) (next : ℕ) → Only ns (ok a next)
   taken a next = record { number = λ n p e. absurd (no-ok e refl) }
 
-  given : {A : Type 0} (n p : ℕ) → listed n ns ≡ true → Only {A = A} ns (no n p)
-  given n p h = record { number = λ m q e. let same : n ≡ m = cc in subst (λ (x : ℕ). listed x ns ≡ true) same h }
+  given : {A : Type 0} (n p : ℕ) → among n ns ≡ true → Only {A = A} ns (no n p)
+  given n p h = record { number = λ m q e. let same : n ≡ m = cc in subst (λ (x : ℕ). among x ns ≡ true) same h }
 
   only-then : {A B : Type 0} (r : Read A) (f : A → ℕ → Read B) → Only ns r → ((a : A) (next : ℕ) → Only ns (f a next)) → Only ns (r then f)
   only-then (ok a next) f h k = k a next
@@ -84,12 +84,12 @@ module _ {ns : List ℕ} where
     unfolding textIn
     only-text = only-octets
 
-  module _ (one : listed 1 ns ≡ true) (s : List ℕ) (at : ℕ) where
-    only-count : (most : ℕ) → listed 4 ns ≡ true → Only ns (count most s at)
+  module _ (one : among 1 ns ≡ true) (s : List ℕ) (at : ℕ) where
+    only-count : (most : ℕ) → among 4 ns ≡ true → Only ns (count most s at)
     unfolding count
     only-count most h = only-then (number 4 s at) _ (only-number document one s at 4) λ n next. only-choose (leb n most) _ _ (taken n next) (given 4 at h)
 
-    only-exactly : (n refusal : ℕ) → listed refusal ns ≡ true → Only ns (exactly n refusal s at)
+    only-exactly : (n refusal : ℕ) → among refusal ns ≡ true → Only ns (exactly n refusal s at)
     unfolding exactly
     only-exactly n refusal h = only-then (number 4 s at) _ (only-number document one s at 4) λ m next. only-choose (eqb m n) _ _ (taken m next) (given refusal at h)
 
@@ -133,11 +133,11 @@ module _ (s : List ℕ) where
   kind-only at =
       only-then (number 4 s at) _ (only-number document refl s at 4) λ t next.
       only-choose (leb (2 ^ 31) t) _ _ (given 9 at refl)
-      (only-choose (ltb t 0x10000) _ _ (among t next (basicOf (t % 256))) (given 8 at refl))
+      (only-choose (ltb t 0x10000) _ _ (in-table t next (basicOf (t % 256))) (given 8 at refl))
     where
-      among : (t next : ℕ) (o : Option Basic) → Only elementNumbers (known at t next o)
-      among t next (some b) = taken _ next
-      among t next none = given 8 at refl
+      in-table : (t next : ℕ) (o : Option Basic) → Only elementNumbers (known at t next o)
+      in-table t next (some b) = taken _ next
+      in-table t next none = given 8 at refl
 
   element-text : (at : ℕ) → Only elementNumbers (text s at)
   element-text at = only-text document refl s at

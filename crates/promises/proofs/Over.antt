@@ -1,5 +1,5 @@
 -- The reading by steps over lent octets is the reading over books in hand: each step finds in the octets the book that the step before left there.
--- What is left holds the new book, which is good, so that it is read back. Assumes nothing.
+-- What is left carries the new book, which is good, so that it is read back. Assumes nothing.
 use Prim.Native.Nat.{ℕ, zero, suc, _+_, _≤_, _<_}
 use mathlib.Core.Path.{_≡_, refl, sym, _∙_, ap, subst}
 use mathlib.Core.List.{List, [], _∷_, _++_, append-assoc}
@@ -18,23 +18,23 @@ use Rattle.layouts.specs.Book.{Book, bookImage, bookOf}
 use Rattle.headers.specs.Header.{Header, headerAt}
 use Rattle.elements.specs.Element.{layout, item, Stepped, elementAt}
 use Rattle.elements.specs.Steps.{lentBook, stepAt, Placed, isLast, elementsFrom, readingFrom, Reading, reading, asRow, rowsOf, whole}
-use Rattle.promises.specs.BySteps.{Left, holding, left, stepOver, Ending, ended, refused, BySteps, stop, last, more, answer, FromFirst, no-header, then-steps, Holds, Few, OneReading, OneFirst, Appends, Counted}
+use Rattle.promises.specs.BySteps.{Left, carrying, left, stepOver, Ending, ended, refused, BySteps, stop, last, more, answer, FromFirst, no-header, then-steps, Carries, Few, OneReading, OneFirst, Appends, Counted}
 use Rattle.octets.proofs.Ends.{number-no}
 use Rattle.octets.proofs.Inverse.{ok-value, ok-place, after, chosen}
 use Rattle.layouts.proofs.Books.{GoodBook, Lent, image-nil, image-snoc, book-back, book-forth}
-use Rattle.layouts.proofs.Learn.{Learnt, learnt, good-nil}
+use Rattle.layouts.proofs.Growing.{Learnt, learnt, good-nil}
 use Rattle.elements.proofs.Went.{Went, at-layout, at-row, at-finish, went}
 use Rattle.promises.proofs.Run.{Spot, behind, placed, Steps, step-rows, Ends, NoEnd, step-gains, step-moves, step-few}
 
 -- The book in lent octets that hold it.
-holds-book : (octets : List ℕ) (used : ℕ) (b : Book) → Holds octets used b → GoodBook b → bookOf octets used ≡ ok b used
-holds-book octets used b h good =
+carries-book : (octets : List ℕ) (used : ℕ) (b : Book) → Carries octets used b → GoodBook b → bookOf octets used ≡ ok b used
+carries-book octets used b h good =
     subst (λ (u : ℕ). bookOf octets u ≡ ok b u) (sym (h .size))
     (book-back b octets good (h .room) (subst (λ (u : ℕ). take u octets ≡ bookImage b) (h .size) (h .held)))
 
--- What a step leaves holds its book.
-left-holds : (octets : List ℕ) (c : Book) → 32768 ≤ length octets → GoodBook c → Holds (holding c octets) (length (bookImage c)) c
-left-holds octets c room good =
+-- What a step leaves carries its book.
+left-carries : (octets : List ℕ) (c : Book) → 32768 ≤ length octets → GoodBook c → Carries (carrying c octets) (length (bookImage c)) c
+left-carries octets c room good =
     record {
       room = rw (length-append, length-drop) (omega (arith, good .small));
       size = refl;
@@ -42,17 +42,17 @@ left-holds octets c room good =
     }
 
 -- Where steps over lent octets stand beside a book in hand.
-pub record Stands (s : List ℕ) (at rows : ℕ) (octets : List ℕ) (used : ℕ) (b : Book) : Type 0 where
+pub record InStep (s : List ℕ) (at rows : ℕ) (octets : List ℕ) (used : ℕ) (b : Book) : Type 0 where
   pub few : Few s at rows
-  pub holds : Holds octets used b
+  pub carries : Carries octets used b
   pub good : GoodBook b
 
 module _ (s : List ℕ) (o : Each Octet s) (short : length s ≤ 1048576) where
   -- One step over lent octets that hold a book is the step over that book.
-  module _ {at rows : ℕ} {octets : List ℕ} {used : ℕ} {b : Book} (x : Stands s at rows octets used b) where
+  module _ {at rows : ℕ} {octets : List ℕ} {used : ℕ} {b : Book} (x : InStep s at rows octets used b) where
     over-is : stepOver s at rows octets used ≡ (elementAt s at rows b then λ st next. ok (left octets st) next)
     unfolding stepOver stepAt lentBook
-    over-is = rw (le-leb (length s) 1048576 short, holds-book octets used b (x .holds) (x .good), le-leb rows 1048576 (omega (arith, x .few)))
+    over-is = rw (le-leb (length s) 1048576 short, carries-book octets used b (x .carries) (x .good), le-leb rows 1048576 (omega (arith, x .few)))
 
     over-no : {n p : ℕ} → elementAt s at rows b ≡ no n p → stepOver s at rows octets used ≡ no n p
     over-no e = over-is ∙ rw e
@@ -61,13 +61,13 @@ module _ (s : List ℕ) (o : Each Octet s) (short : length s ≤ 1048576) where
     over-ok e = over-is ∙ rw e
 
     onward : {st : Stepped} {next : ℕ} → elementAt s at rows b ≡ ok st next → isLast (st .element) ≡ false
-        → Stands s next (st .rows) (holding (st .book) octets) (length (bookImage (st .book))) (st .book)
+        → InStep s next (st .rows) (carrying (st .book) octets) (length (bookImage (st .book))) (st .book)
     onward {st} {next} e t =
         let gains = step-gains s o at rows b st next (x .good) e in
-        record { few = step-few s o at rows b st next short e t (x .few); holds = left-holds octets (st .book) (x .holds .room) (gains .good); good = gains .good }
+        record { few = step-few s o at rows b st next short e t (x .few); carries = left-carries octets (st .book) (x .carries .room) (gains .good); good = gains .good }
 
   -- A run of steps to the end, over lent octets.
-  pub reaches : (ps : List Placed) (x y : Spot) {octets : List ℕ} {used : ℕ} → Stands s (x .at) (x .rows) octets used (x .book) → Steps s x ps y → Ends ps
+  pub reaches : (ps : List Placed) (x y : Spot) {octets : List ℕ} {used : ℕ} → InStep s (x .at) (x .rows) octets used (x .book) → Steps s x ps y → Ends ps
       → BySteps s (x .at) (x .rows) octets used ps (ended (y .at))
   reaches [] x y a h ends = absurd ends
   reaches (p ∷ []) x y a h ends =
@@ -77,7 +77,7 @@ module _ (s : List ℕ) (o : Each Octet s) (short : length s ≤ 1048576) where
       rw (h .3) (more (over-ok a (h .2)) t (reaches (q ∷ ps) (behind (h .0) (h .1)) y (onward a (h .2) t) (h .4) (ends .1)))
 
   -- A run of steps to a refusal.
-  pub halts : (ps : List Placed) (x y : Spot) {octets : List ℕ} {used n p : ℕ} → Stands s (x .at) (x .rows) octets used (x .book) → Steps s x ps y → NoEnd ps
+  pub halts : (ps : List Placed) (x y : Spot) {octets : List ℕ} {used n p : ℕ} → InStep s (x .at) (x .rows) octets used (x .book) → Steps s x ps y → NoEnd ps
       → elementAt s (y .at) (y .rows) (y .book) ≡ no n p → BySteps s (x .at) (x .rows) octets used ps (refused n p)
   halts [] x y {n = n} {p} a h ends e = stop (over-no a (subst (λ (z : Spot). elementAt s (z .at) (z .rows) (z .book) ≡ no n p) (sym h) e))
   halts (q ∷ ps) x y a h ends e =
@@ -96,9 +96,9 @@ module _ (s : List ℕ) (o : Each Octet s) (short : length s ≤ 1048576) where
   added p ps (ended end) = refl
   added p ps (refused n m) = refl
 
-  turn : (k at rows : ℕ) (b : Book) (octets : List ℕ) (used : ℕ) → Stands s at rows octets used b → (r : Read Stepped) → elementAt s at rows b ≡ r
+  turn : (k at rows : ℕ) (b : Book) (octets : List ℕ) (used : ℕ) → InStep s at rows octets used b → (r : Read Stepped) → elementAt s at rows b ≡ r
       → ((st : Stepped) (next : ℕ) → elementAt s at rows b ≡ ok st next → isLast (st .element) ≡ false
-      → Goes k next (st .rows) (st .book) (holding (st .book) octets) (length (bookImage (st .book))))
+      → Goes k next (st .rows) (st .book) (carrying (st .book) octets) (length (bookImage (st .book))))
       → Goes (suc k) at rows b octets used
   unfolding elementsFrom
   turn k at rows b octets used a (no n p) e rest = ([], refused n p, stop (over-no a e), rw e)
@@ -110,12 +110,12 @@ module _ (s : List ℕ) (o : Each Octet s) (short : length s ≤ 1048576) where
           let (ps, z, d, q) = rest st next e t in
           (placed at st ∷ ps, z, more (over-ok a e) t d, rw (e, t, q) (added (placed at st) ps z))
 
-  goes : (k at rows : ℕ) (b : Book) (octets : List ℕ) (used : ℕ) → length s < at + k → Stands s at rows octets used b → Goes k at rows b octets used
+  goes : (k at rows : ℕ) (b : Book) (octets : List ℕ) (used : ℕ) → length s < at + k → InStep s at rows octets used b → Goes k at rows b octets used
   unfolding elementsFrom
   goes zero at rows b octets used h a = ([], refused 1 at, stop (over-no a (cut-short at rows b (omega arith))), refl)
   goes (suc k) at rows b octets used h a =
       turn k at rows b octets used a (elementAt s at rows b) refl
-      λ st next e t. goes k next (st .rows) (st .book) (holding (st .book) octets) (length (bookImage (st .book)))
+      λ st next e t. goes k next (st .rows) (st .book) (carrying (st .book) octets) (length (bookImage (st .book)))
       (omega (arith, step-moves s o at rows b st next short e t)) (onward a e t)
 
 -- Steps go one way alone: the first step settles how they go on.
@@ -171,8 +171,8 @@ one-reading s at rows octets used o p few = go (lentBook s rows octets used) ref
     go (ok b end) e =
         let (short, found) = lent-ok s rows octets used e in
         let (lent, z) = book-forth octets used p found in
-        let a : Stands s at rows octets used b =
-        record { few = few; holds = record { room = lent .room; size = sym (lent .size); held = sym (lent .image) }; good = lent .good } in
+        let a : InStep s at rows octets used b =
+        record { few = few; carries = record { room = lent .room; size = sym (lent .size); held = sym (lent .image) }; good = lent .good } in
         let (ps, f, d, q) = goes s o short (length s + 1) at rows b octets used (omega arith) a in
         told ps f d (rw e q)
 
@@ -185,9 +185,9 @@ unfolding headerAt
 header-short s e = let (t, _) = chosen (leb (length s) 1048576) _ 2 0 e in leb-true (length s) 1048576 t
 
 -- Nothing in the book, and no row passed.
-empty-stands : (s : List ℕ) (at : ℕ) (octets : List ℕ) → length s ≤ 1048576 → 32768 ≤ length octets → Stands s at 0 octets 0 []
-empty-stands s at octets short room =
-    record { few = omega arith; holds = record { room = room; size = rw image-nil refl; held = rw image-nil refl }; good = good-nil }
+empty-in-step : (s : List ℕ) (at : ℕ) (octets : List ℕ) → length s ≤ 1048576 → 32768 ≤ length octets → InStep s at 0 octets 0 []
+empty-in-step s at octets short room =
+    record { few = omega arith; carries = record { room = room; size = rw image-nil refl; held = rw image-nil refl }; good = good-nil }
 
 module _ (s : List ℕ) (o : Each Octet s) (octets : List ℕ) (room : 32768 ≤ length octets) where
   first-goes : (h : Header) (next : ℕ) → headerAt s ≡ ok h next
@@ -195,7 +195,7 @@ module _ (s : List ℕ) (o : Each Octet s) (octets : List ℕ) (room : 32768 ≤
   unfolding reading
   first-goes h next e =
       let short = header-short s e in
-      let (ps, f, d, q) = goes s o short (length s + 1) next 0 [] octets 0 (omega arith) (empty-stands s next octets short room) in
+      let (ps, f, d, q) = goes s o short (length s + 1) next 0 [] octets 0 (omega arith) (empty-in-step s next octets short room) in
       (ps, f, d, rw (e, q))
 
   first-only : (r : Read Reading) → FromFirst s octets r → r ≡ reading s
@@ -216,11 +216,11 @@ module _ (s : List ℕ) (o : Each Octet s) (octets : List ℕ) (room : 32768 ≤
       go (ok h next) e = let (ps, f, d, z) = first-goes h next e in then-steps e d z
 
 -- What an accepted step leaves.
-kept : (octets : List ℕ) (used : ℕ) (b : Book) → Lent octets used b → (holding b octets ≡ octets) × (length (bookImage b) ≡ used)
+kept : (octets : List ℕ) (used : ℕ) (b : Book) → Lent octets used b → (carrying b octets ≡ octets) × (length (bookImage b) ≡ used)
 kept octets used b lent = (rw (lent .size, lent .image) (take-append-drop used octets), lent .size)
 
 appended : (octets : List ℕ) (used : ℕ) (b : Book) (m : Layout) → Lent octets used b
-    → (holding (b ++ m ∷ []) octets ≡ over octets used (layoutImage m)) × (length (bookImage (b ++ m ∷ [])) ≡ used + length (layoutImage m))
+    → (carrying (b ++ m ∷ []) octets ≡ over octets used (layoutImage m)) × (length (bookImage (b ++ m ∷ [])) ≡ used + length (layoutImage m))
 unfolding over
 appended octets used b m lent =
     let long : length (bookImage (b ++ m ∷ [])) ≡ used + length (layoutImage m) = ap length (image-snoc b m) ∙ length-append (bookImage b) (layoutImage m) ∙ ap (λ (n : ℕ). n + length (layoutImage m)) (lent .size) in

@@ -19,9 +19,9 @@ use Rattle.promises.specs.Resume.{layoutOf, layoutsOf}
 use Rattle.octets.proofs.Ends.{number-room}
 use Rattle.octets.proofs.Inverse.{Answer, Any, no-ok, ok-value, ok-place, after, either}
 use Rattle.layouts.proofs.Layouts.{layout-inverse}
-use Rattle.layouts.proofs.Find.{Within}
+use Rattle.layouts.proofs.Finding.{Within}
 use Rattle.layouts.proofs.Books.{GoodBook}
-use Rattle.layouts.proofs.Learn.{Grown, grown}
+use Rattle.layouts.proofs.Growing.{Grown, grown}
 use Rattle.rows.proofs.Rows.{row-inverse}
 use Rattle.elements.proofs.Went.{Went, at-layout, at-row, at-finish, went}
 

@@ -16,14 +16,14 @@ use Rattle.rows.specs.Row.{Row}
 use Rattle.headers.specs.Header.{headerAt}
 use Rattle.elements.specs.Element.{layout, row, Element, item, finish, Stepped, elementAt}
 use Rattle.elements.specs.Steps.{Placed, elementsFrom, Reading, reading, rowsOf}
-use Rattle.promises.specs.BySteps.{ended, refused, BySteps, Holds, Few}
+use Rattle.promises.specs.BySteps.{ended, refused, BySteps, Carries, Few}
 use Rattle.promises.specs.Resume.{layoutOf, layoutsOf, Once, AllIn, CutAt, Taken, Lacking, FirstLacking, Resumed}
 use Rattle.octets.proofs.Inverse.{ok-value, ok-place, after}
-use Rattle.layouts.proofs.Find.{none-some, absent, some-same, find-number, find-member, member-find, each-find, Within, total-within, total-length, total-image}
+use Rattle.layouts.proofs.Finding.{none-some, absent, some-same, find-number, find-member, member-find, each-find, Within, total-within, total-length, total-image}
 use Rattle.layouts.proofs.Books.{GoodBook}
-use Rattle.layouts.proofs.Learn.{Alike, good-nil}
+use Rattle.layouts.proofs.Growing.{Alike, good-nil}
 use Rattle.promises.proofs.Run.{Spot, Steps, steps-split, steps-rows, Gains, steps-gain, Ends, ends-split, steps-few, Ran, ran}
-use Rattle.promises.proofs.Over.{Stands, header-short, reaches, halts}
+use Rattle.promises.proofs.Over.{InStep, header-short, reaches, halts}
 use Rattle.promises.proofs.Beside.{Known, Covered, present, alike-none, Resumes, resumes, lacks, steps-alike, Under, covers}
 
 -- Rows that are covered, and the first that is not.
@@ -84,7 +84,7 @@ covered-or (p ∷ ps) book = go (known-or book (p .element)) (covered-or ps (boo
           record { its = f .5 .its; is-row = f .5 .is-row; lacks = rw (← append-assoc book (layoutOf (p .element)) (layoutsOf (f .0))) (f .5 .lacks) },
         )
 
--- Where a first-octet reading stands at an element of an accepted document.
+-- Where a first-octet reading in-step at an element of an accepted document.
 record AtCut (s : List ℕ) (before : List Placed) (here : Placed) (rest : List Placed) (end : ℕ) : Type 0 where
   pub short : length s ≤ 1048576
   pub spot : Spot
@@ -174,9 +174,9 @@ module _ (s : List ℕ) (o : Each Octet s) (before : List Placed) (here : Placed
         distinct = distinct;
       }
 
-  module _ (octets : List ℕ) (used : ℕ) (holds : Holds octets used book) where
-    stands : Stands s (at-here .spot .at) (at-here .spot .rows) octets used book
-    stands = record { few = at-here .few; holds = holds; good = good }
+  module _ (octets : List ℕ) (used : ℕ) (carries : Carries octets used book) where
+    in-step : InStep s (at-here .spot .at) (at-here .spot .rows) octets used book
+    in-step = record { few = at-here .few; carries = carries; good = good }
 
     from-here : (P : ℕ → ℕ → Type 0) → P (at-here .spot .at) (at-here .spot .rows) → P (here .place) (rowsOf before)
     from-here P h = subst (P (here .place)) (at-here .rows) (subst (λ (p : Placed). P (p .place) (at-here .spot .rows)) (sym (at-here .steps .3)) h)
@@ -190,7 +190,7 @@ module _ (s : List ℕ) (o : Each Octet s) (before : List Placed) (here : Placed
         from-here (λ a n. BySteps s a n octets used (here ∷ rest) (ended end))
         (subst (λ (e : ℕ). BySteps s (c .spot .at) (c .spot .rows) octets used (here ∷ rest) (ended e)) (c .at-end)
         (reaches s o (c .short) (here ∷ rest) (record { at = c .spot .at; rows = c .spot .rows; book = book }) (record { at = c .final .at; rows = c .final .rows; book = t .book })
-        stands (t .steps) (c .ends)))
+        in-step (t .steps) (c .ends)))
 
     under : AllIn (layoutsOf before) book → Under (at-here .spot .book) book
     under all n e =
@@ -221,7 +221,7 @@ module _ (s : List ℕ) (o : Each Octet s) (before : List Placed) (here : Placed
         from-here (λ a n. BySteps s a n octets used met (refused 12 (p .place + 4)))
         (subst (λ (q : ℕ). BySteps s (c .spot .at) (c .spot .rows) octets used met (refused 12 (q + 4))) there
         (halts s o (c .short) met (record { at = c .spot .at; rows = c .spot .rows; book = book }) (record { at = mid .at; rows = mid .rows; book = t .book })
-        stands (t .steps) (ends-split met p (lack .others) ends .0) stop))
+        in-step (t .steps) (ends-split met p (lack .others) ends .0) stop))
 
     covered-or-not : ((met : List Placed) (p : Placed) → FirstLacking book (here ∷ rest) met p → ⊥) → Covered book (here ∷ rest) ⊎ Found book (here ∷ rest) → Covered book (here ∷ rest)
     covered-or-not h (inl c) = c
@@ -237,6 +237,6 @@ module _ (s : List ℕ) (o : Each Octet s) (before : List Placed) (here : Placed
         }
 
 pub demand-3 : (s : List ℕ) → Each Octet s → (before : List Placed) (here : Placed) (behind : List Placed) (end : ℕ) → CutAt s before here behind end
-    → (book : Book) → Taken (before ++ here ∷ behind) book → (octets : List ℕ) (used : ℕ) → Holds octets used book
+    → (book : Book) → Taken (before ++ here ∷ behind) book → (octets : List ℕ) (used : ℕ) → Carries octets used book
     → Resumed s before here behind end book octets used
 demand-3 = resumed

@@ -21,11 +21,11 @@ pub record Left : Type 0 where
   pub used : ℕ
 
 -- Lent octets with a book at their start; what is behind it is as it was.
-abbrev pub holding : Book → List ℕ → List ℕ
-holding book octets = bookImage book ++ drop (length (bookImage book)) octets
+abbrev pub carrying : Book → List ℕ → List ℕ
+carrying book octets = bookImage book ++ drop (length (bookImage book)) octets
 
 abbrev pub left : List ℕ → Stepped → Left
-left octets st = record { element = st .element; rows = st .rows; octets = holding (st .book) octets; used = length (bookImage (st .book)) }
+left octets st = record { element = st .element; rows = st .rows; octets = carrying (st .book) octets; used = length (bookImage (st .book)) }
 
 -- One step over lent octets. A refusal has its number and place alone: the octets and the used count are as they were.
 unfoldable pub stepOver : List ℕ → ℕ → ℕ → List ℕ → ℕ → Read Left
@@ -56,8 +56,8 @@ pub data FromFirst (s octets : List ℕ) : Read Reading → Type 0 where
   then-steps : {h : Header} {next : ℕ} {elements : List Placed} {e : Ending} {r : Read Reading} → headerAt s ≡ ok h next
       → BySteps s next 0 octets 0 elements e → r ≡ (answer elements e then λ all end. ok (record { header = h; elements = all }) end) → FromFirst s octets r
 
--- Lent octets that hold a book: at least 32,768 of them, the used ones its layouts one after another.
-pub record Holds (octets : List ℕ) (used : ℕ) (book : Book) : Type 0 where
+-- Lent octets that carry a book: at least 32,768 of them, the used ones its layouts one after another.
+pub record Carries (octets : List ℕ) (used : ℕ) (book : Book) : Type 0 where
   pub room : 32768 ≤ length octets
   pub size : used ≡ length (bookImage book)
   pub held : take used octets ≡ bookImage book

@@ -2,32 +2,30 @@
 use Prim.Native.Nat.{ℕ}
 use mathlib.Core.Path.{_≡_}
 use mathlib.Core.List.{List, [], _∷_}
-use mathlib.Core.Bool.{Bool, true, false}
-use lib.Dec.{eqb}
-use Rattle.octets.specs.Reading.{Read, no, choose}
-use Rattle.octets.specs.Writing.{Each}
+use mathlib.Core.Bool.{true}
+use Rattle.octets.specs.Reading.{Read, ok, no}
+use Rattle.layouts.specs.Answers.{among}
 use Rattle.headers.specs.Header.{headerAt}
 use Rattle.elements.specs.Steps.{stepAt, whole}
 
--- Whether a number is listed.
-abbrev pub listed : ℕ → List ℕ → Bool
-listed n [] = false
-listed n (m ∷ rest) = choose (eqb n m) (λ _. true) (λ _. listed n rest)
-
 -- A reading that no other number refuses.
 pub record Only {A : Type 0} (ns : List ℕ) (r : Read A) : Type 0 where
-  pub number : (n p : ℕ) → r ≡ no n p → listed n ns ≡ true
+  pub number : (n p : ℕ) → r ≡ no n p → among n ns ≡ true
 
--- A number that refuses some input.
-pub record Given {I A : Type 0} (f : I → Read A) (n : ℕ) : Type 0 where
-  pub input : I
-  pub place : ℕ
-  pub is : f input ≡ no n place
+-- The number that refuses each of some inputs; 0 where it is accepted.
+abbrev pub refusalOf : {A : Type 0} → Read A → ℕ
+refusalOf (ok a next) = 0
+refusalOf (no n p) = n
 
--- The numbers that readings give, and no other.
+abbrev pub refusalsOf : {I A : Type 0} → (I → Read A) → List I → List ℕ
+refusalsOf f [] = []
+refusalsOf f (i ∷ rest) = refusalOf (f i) ∷ refusalsOf f rest
+
+-- The numbers that readings give: no other, and each of them for an input.
 pub record Gives {I A : Type 0} (f : I → Read A) (ns : List ℕ) : Type 0 where
   pub only : (i : I) → Only ns (f i)
-  pub each : Each (Given f) ns
+  pub inputs : List I
+  pub each : refusalsOf f inputs ≡ ns
 
 abbrev pub headerNumbers : List ℕ
 headerNumbers = 1 ∷ 2 ∷ 3 ∷ 4 ∷ 5 ∷ 6 ∷ []

@@ -54,7 +54,7 @@ pub record FirstLacking (book : Book) (elements : List Placed) (met : List Place
   pub lacking : Lacking book met p
   pub first : (a : List Placed) (q : Placed) (b : List Placed) → met ≡ a ++ q ∷ b → Lacking book a q → ⊥
 
--- What is promised of the steps from an element of an accepted document on, told the rows before it, over lent octets that hold such a book.
+-- What is promised of the steps from an element of an accepted document on, told the rows before it, over lent octets that carry such a book.
 pub record Resumed (s : List ℕ) (before : List Placed) (here : Placed) (behind : List Placed) (end : ℕ) (book : Book) (octets : List ℕ) (used : ℕ) : Type 0 where
   -- With at least every layout met before the element, they give what a first-octet reading gives from there to the end: the same elements at the same places, each row with the same names, types and values.
   pub same : AllIn (layoutsOf before) book → BySteps s (here .place) (rowsOf before) octets used (here ∷ behind) (ended end)
