@@ -1,0 +1,16 @@
+-- Every case marked as proved gets its answer: one statement, which antt computes. Assumes nothing.
+use mathlib.Core.Path.{_≡_, refl}
+use Rattle.octets.specs.Reading.{be, part, numberIn, octetsIn, textIn, count, exactly, run}
+use Rattle.octets.specs.Writing.{word, textImage, images}
+use Rattle.kinds.specs.Kinds.{among, basicOf, signed, kindAt}
+use Rattle.layouts.specs.Layout.{attributeAt, layoutAt, attributeImage, layoutImage}
+use Rattle.layouts.specs.Book.{find, bookImage, layoutsAt, bookOf, learn}
+use Rattle.rows.specs.Row.{valueIn, fieldsIn, valuesAt, rowAt}
+use Rattle.headers.specs.Header.{namespaceAt, idAt, headerFrom, headerAt}
+use Rattle.elements.specs.Element.{finishAt, elementAt}
+use Rattle.elements.specs.Steps.{lentBook, elementsFrom, readingFrom, reading, whole}
+use Rattle.promises.specs.Cases.{specimen, shorts, layoutBook, emptyBook, cases, asks, expects}
+
+pub all-hold : asks cases ≡ expects cases
+unfolding specimen shorts layoutBook emptyBook be part numberIn octetsIn textIn count exactly run word textImage images among basicOf signed kindAt attributeAt layoutAt attributeImage layoutImage find bookImage layoutsAt bookOf learn valueIn fieldsIn valuesAt rowAt namespaceAt idAt headerFrom headerAt finishAt elementAt lentBook elementsFrom readingFrom reading whole
+all-hold = refl

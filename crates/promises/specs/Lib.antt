@@ -1,0 +1,6 @@
+pub mod Cases
+pub mod Meaning
+pub mod BySteps
+pub mod Resume
+pub mod Refusals
+pub mod OneAnswer
