@@ -1,0 +1,68 @@
+-- The equations of the entry points: what is refused before the element, and what is read behind it.
+use Prim.Native.Nat.{ℕ, _+_, _≤_, _<_}
+use mathlib.Core.Path.{_≡_, refl, sym, ap, _∙_}
+use mathlib.Core.List.{List, []}
+use mathlib.Core.Bool.{Bool, true, false}
+use native.Mathlib.Omega.{arith}
+use lib.ListN.{length}
+use lib.Dec.{leb}
+use borrow.Author.Tests.{le-leb, lt-leb}
+use Rattle.octets.specs.Reading.{Read, ok, no, _then_, choose, isOk, be, number}
+use Rattle.octets.proofs.Inverse.{ok-value}
+use Rattle.octets.proofs.Ends.{number-ok, number-room}
+use Rattle.layouts.specs.Book.{Book, bookOf, bookIn, IsBook}
+use Rattle.layouts.proofs.Checks.{bad-book}
+use Rattle.headers.specs.Header.{Header, headerFrom, headerAt}
+use Rattle.elements.specs.Element.{elementAt}
+use Rattle.elements.specs.Steps.{Placed, Reading, lentBook, stepAt, elementsFrom, reading, rowsOf, counted, whole}
+
+-- The header of a document, too long or not.
+module _ (s : List ℕ) where
+  pub header-long : 1048576 < length s → headerAt s ≡ no 2 0
+  unfolding headerAt
+  header-long h = rw (lt-leb (length s) 1048576 h) refl
+
+  pub header-short : length s ≤ 1048576 → headerAt s ≡ headerFrom s 0
+  unfolding headerAt
+  header-short h = rw (le-leb (length s) 1048576 h) refl
+
+  -- The whole check: the header's refusal, or the rows counted behind it.
+  pub whole-refused : (n p : ℕ) → headerAt s ≡ no n p → whole s ≡ no n p
+  unfolding whole reading
+  whole-refused n p e = rw e refl
+
+  pub whole-from : (h : Header) (next : ℕ) → headerAt s ≡ ok h next → whole s ≡ counted 0 (elementsFrom (length s + 1) s next 0 [])
+  unfolding whole reading
+  whole-from h next e = rw e (go (elementsFrom (length s + 1) s next 0 []))
+    where
+      none : (n : ℕ) → n ≡ 0 + n
+      none n = omega arith
+
+      go : (r : Read (List Placed)) → ((r then λ elements end. ok (record { header = h; elements = elements }) end) then λ (x : Reading) end. ok (rowsOf (x .elements)) end) ≡ counted 0 r
+      go (ok elements end) = ap (λ (n : ℕ). ok n end) (none (rowsOf elements))
+      go (no n p) = refl
+
+  -- A number that is read where it stands.
+  pub number-is : (w at n next : ℕ) → number w s at ≡ ok n next → (at + w ≤ length s) × (be w s at ≡ n)
+  number-is w at n next e =
+      let h = number-room s at w (ap isOk e) in
+      (h, ok-value (number-ok s at w h) e)
+
+-- One step: 2, then 17, then the element over the book that is lent.
+module _ (s : List ℕ) (at rows : ℕ) (octets : List ℕ) (used : ℕ) where
+  pub step-long : 1048576 < length s → stepAt s at rows octets used ≡ no 2 0
+  unfolding stepAt lentBook
+  step-long h = rw (lt-leb (length s) 1048576 h) refl
+
+  module _ (short : length s ≤ 1048576) where
+    pub step-unbooked : isOk (bookOf octets used) ≡ false → stepAt s at rows octets used ≡ no 17 0
+    unfolding stepAt lentBook
+    step-unbooked e = rw (le-leb (length s) 1048576 short, bad-book octets used e) refl
+
+    pub step-many : IsBook octets used → 1048576 < rows → stepAt s at rows octets used ≡ no 17 0
+    unfolding stepAt lentBook
+    step-many e h = rw (le-leb (length s) 1048576 short, e, lt-leb rows 1048576 h) refl
+
+    pub step-is : IsBook octets used → rows ≤ 1048576 → stepAt s at rows octets used ≡ elementAt s at rows (bookIn octets used)
+    unfolding stepAt lentBook
+    step-is e h = rw (le-leb (length s) 1048576 short, e, le-leb rows 1048576 h) refl

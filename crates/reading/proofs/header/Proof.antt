@@ -1,0 +1,62 @@
+-- `reading::header` meets its contract: 2, the header's own refusal, or the numbers that stand at its places. Assumes nothing.
+use borrow.Author.Needs.{needs}
+use native.Mathlib.Omega.{arith}
+use Prim.Native.Nat.{ℕ, _+_, _≤_}
+use denote.Ref.{now}
+use mathlib.Core.Path.{_≡_, refl, sym, ap, _∙_, subst}
+use mathlib.Core.List.{List}
+use lib.ListN.{length}
+use Rattle.octets.specs.Reading.{ok, no, be}
+use Rattle.headers.specs.Header.{headerFrom, headerAt}
+use Rattle.headers.specs.Answers.{Accepted, Locates}
+use Rattle.headers.specs.declared.Placing.{Placing}
+use Rattle.reading.specs.Answers.{headTells}
+use Rattle.reading.specs.declared.Head.{Head}
+use Rattle.reading.specs.declared.Headed.the-variants.{Is}
+use Rattle.reading.proofs.Entry.{header-long, header-short, number-is}
+use Rattle.reading.proofs.header.Statement.{statement}
+use Rattle.reading.proofs.header.Tie as tie
+
+returns : tie.Need-returns
+returns c = sym (ap headTells (header-long (now (c .before .before .args .doc)) (c .if1 .taken)))
+
+-- What was found of the places.
+abbrev Placed : Type 0
+Placed = tie.After-header-places
+
+abbrev Doc : Placed → List ℕ
+Doc v = now (v .before .before .before .args .doc)
+
+located : (v : Placed) (x : Placing) → v .header-places .result ≡ x → Locates (Doc v) x
+located v x q = subst (Locates (Doc v)) q (v .header-places .ensures)
+
+returns-2 : tie.Need-returns-2
+returns-2 c =
+    let v = c .before .before .before in
+    sym (ap headTells (header-short (Doc v) (omega arith) ∙ located v _ (c .before .placing .given .1)))
+
+-- The header that stands there, and its numbers.
+abbrev At : Type 0
+At = tie.After-known-told2
+
+abbrev Of : At → Placed
+Of k = k .before .before .before
+
+accepted : (k : At) → Accepted (Doc (Of k)) (k .before .placing2 .given .0 .0)
+accepted k = located (Of k) _ (k .before .placing2 .given .1)
+
+returns-3 : tie.Need-returns-3
+returns-3 c =
+    let k = c .before .before .before in
+    let h = accepted k in
+    let l = h .located in
+    let s = Doc (Of k) in
+    rw (c .before .before .u64-at .ensures, c .before .u32-at .ensures, c .u32-at2 .ensures, number-is s 8 _ _ _ (l .start) .1, number-is s 4 _ _ _ (l .namespaces) .1, number-is s 4 _ _ _ (l .counted) .1)
+    (sym (ap headTells (header-short s (omega arith) ∙ h .reads)))
+
+pub header-spec : {M : Type 1} → statement M
+header-spec =
+    tie.close
+    (tie.spec returns (λ c κs. search needs) (λ c. search needs) (λ c. search needs) (λ c κs. number-is (Doc (Of c)) 8 _ _ _ (accepted c .located .start) .0)
+    (λ c κs. number-is (Doc (Of (c .before))) 4 _ _ _ (accepted (c .before) .located .namespaces) .0)
+    (λ c κs. number-is (Doc (Of (c .before .before))) 4 _ _ _ (accepted (c .before .before) .located .counted) .0) returns-2 returns-3)

@@ -1,0 +1,23 @@
+-- What the entry points of reading answer: the one answer to what the definitions give.
+use Prim.Native.Nat.{ℕ}
+use lib.ListN.{length}
+use Rattle.octets.specs.Reading.{Read, ok, no}
+use Rattle.headers.specs.Header.{Header}
+use Rattle.reading.specs.declared.Head.{Head}
+use Rattle.reading.specs.declared.Headed.{Headed}
+use Rattle.reading.specs.declared.Headed.the-variants as headed
+use Rattle.reading.specs.declared.Checked.{Checked}
+use Rattle.reading.specs.declared.Checked.the-variants as checked
+
+-- The header's numbers: the bits of the start time, the counts of both lists, and the place behind the header.
+abbrev pub headOf : Header → ℕ → Head
+headOf h next = record { start = h .start; namespaces = length (h .others); services = length (h .services); next = next }
+
+abbrev pub headTells : Read Header → Headed
+headTells (ok h next) = headed.Is (headOf h next)
+headTells (no n p) = headed.Refused n p
+
+-- The whole check's row count.
+abbrev pub checkTells : Read ℕ → Checked
+checkTells (ok n end) = checked.Rows n
+checkTells (no n p) = checked.Refused n p
