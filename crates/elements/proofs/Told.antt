@@ -123,10 +123,11 @@ module _ (s : List ℕ) (at rows : ℕ) (book : Book) where
     element-other a b c = rw (number-ok s at 4 h, ne-eqb (be 4 s at) 1 a, ne-eqb (be 4 s at) 2 b, ne-eqb (be 4 s at) 3 c) refl
 
 -- Lent octets that hold a book hold it as they are, so that what keeps the book keeps them.
+pub holding-lent : (octets : List ℕ) (used : ℕ) (book : Book) → Lent octets used book → holding book octets ≡ octets
+holding-lent octets used book l = rw (l .size, l .image) (take-append-drop used octets)
+
 pub holding-same : (octets : List ℕ) (used : ℕ) → Each Octet octets → IsBook octets used → holding (bookIn octets used) octets ≡ octets
-holding-same octets used o is =
-    let l = lent-book octets used o is in
-    rw (l .size, l .image) (take-append-drop used octets)
+holding-same octets used o is = holding-lent octets used (bookIn octets used) (lent-book octets used o is)
 
 module _ (octets : List ℕ) (used : ℕ) (o : Each Octet octets) (is : IsBook octets used) where
   pub row-leaves : (s : List ℕ) (at rows : ℕ) → leaves octets (rowElement s at rows (bookIn octets used)) ≡ octets

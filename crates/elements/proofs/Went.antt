@@ -3,33 +3,18 @@ use Prim.Native.Nat.{ℕ, _+_}
 use native.Mathlib.Omega.{arith}
 use mathlib.Core.Path.{_≡_, refl, _∙_, ap, subst}
 use mathlib.Core.List.{List}
-use mathlib.Core.Bool.{Bool, true, false}
 use mathlib.Core.Option.{Option, some, none}
 use lib.ListN.{length}
-use lib.Dec.{eqb, leb, ltb}
+use lib.Dec.{eqb, ltb}
 use borrow.Author.Tests.{eqb-true}
-use Rattle.octets.specs.Reading.{Read, ok, no, _then_, choose, numberIn, number}
+use Rattle.octets.specs.Reading.{Read, ok, no, _then_, choose, number}
 use Rattle.layouts.specs.Layout.{Layout, layoutAt}
 use Rattle.layouts.specs.Book.{Book, find, learn}
 use Rattle.rows.specs.Row.{Row, valuesAt, named, rowAt}
 use Rattle.elements.specs.Element.{layout, row, Element, item, finish, Stepped, finishAt, elementAt}
 use Rattle.elements.specs.Steps.{asRow}
-use Rattle.octets.proofs.Inverse.{no-ok, ok-value, ok-place}
-
--- An accepted reading of a field and what follows it; a choice.
-pub then-ok : {A B C : Type 0} (r : Read A) (f : A → ℕ → Read B) {b : B} {q : ℕ} → r then f ≡ ok b q
-    → ((a : A) (p : ℕ) → r ≡ ok a p → f a p ≡ ok b q → C) → C
-then-ok (ok a p) f e k = k a p refl e
-then-ok (no n p) f e k = absurd (no-ok refl e)
-
-pub choice : {A C : Type 0} (t : Bool) (x y : Unit {0} → A) {r : A} → choose t x y ≡ r
-    → (t ≡ true → x tt ≡ r → C) → (t ≡ false → y tt ≡ r → C) → C
-choice true x y e f g = f refl e
-choice false x y e f g = g refl e
-
-pub number-place : (w : ℕ) (s : List ℕ) (at n next : ℕ) → number w s at ≡ ok n next → next ≡ at + w
-unfolding numberIn
-number-place w s at n next e = choice (leb (at + w) (length s)) _ _ e (λ t h. ok-place h refl) (λ t h. absurd (no-ok refl h))
+use Rattle.octets.proofs.Inverse.{no-ok, ok-value, ok-place, after, either}
+use Rattle.octets.proofs.Ends.{number-place}
 
 -- The three kinds of accepted step.
 pub data Went (s : List ℕ) (at rows : ℕ) (b : Book) (st : Stepped) (end : ℕ) : Type 0 where
@@ -43,32 +28,32 @@ pub data Went (s : List ℕ) (at rows : ℕ) (b : Book) (st : Stepped) (end : �
 pub finish-form : (rows : ℕ) (s : List ℕ) (at : ℕ) (f : Element) (end : ℕ) → finishAt rows s at ≡ ok f end → (n : ℕ) × (t : ℕ) × (f ≡ finish n t)
 unfolding finishAt
 finish-form rows s at f end e =
-    then-ok (number 4 s at) _ e λ n next _ e2.
-    choice (eqb n rows) _ _ e2
-    (λ _ e3. then-ok (number 8 s next) _ e3 λ time p _ e4.
-    choice (eqb p (length s)) _ _ e4 (λ _ e5. (n, time, ok-value e5 refl)) (λ _ e5. absurd (no-ok refl e5)))
+    after (number 4 s at) _ e λ n next _ e2.
+    either (eqb n rows) _ _ e2
+    (λ _ e3. after (number 8 s next) _ e3 λ time p _ e4.
+    either (eqb p (length s)) _ _ e4 (λ _ e5. (n, time, ok-value e5 refl)) (λ _ e5. absurd (no-ok refl e5)))
     (λ _ e3. absurd (no-ok refl e3))
 
 pub went : (s : List ℕ) (at rows : ℕ) (b : Book) (st : Stepped) (end : ℕ) → elementAt s at rows b ≡ ok st end → Went s at rows b st end
 unfolding elementAt
 went s at rows b st end e =
-    then-ok (number 4 s at) _ e λ kind next e1 e2.
+    after (number 4 s at) _ e λ kind next e1 e2.
     let place : next ≡ at + 4 = number-place 4 s at kind next e1 in
-    choice (eqb kind 1) _ _ e2
-    (λ k e3. then-ok (layoutAt s next) _ e3 λ l p e4 e5.
-    then-ok (learn b l next) _ e5 λ c x e6 e7.
+    either (eqb kind 1) _ _ e2
+    (λ k e3. after (layoutAt s next) _ e3 λ l p e4 e5.
+    after (learn b l next) _ e5 λ c x e6 e7.
     let one : kind ≡ 1 = eqb-true kind 1 k in
     let q : st ≡ record { element = item (layout l); rows = rows; book = c } = ok-value e7 refl in
     let z : end ≡ p = ok-place e7 refl in
     at-layout l x (cc) (cc) (cc (ap (λ (y : Stepped). y .book) q)) (ap (λ (y : Stepped). y .element) q) (ap (λ (y : Stepped). y .rows) q))
-    (λ _ e3. choice (eqb kind 2) _ _ e3
-    (λ k e4. then-ok (rowAt b s next) _ e4 λ r p e5 e6.
+    (λ _ e3. either (eqb kind 2) _ _ e3
+    (λ k e4. after (rowAt b s next) _ e4 λ r p e5 e6.
     let two : kind ≡ 2 = eqb-true kind 2 k in
     let q : st ≡ record { element = item (row r); rows = rows + 1; book = b } = ok-value e6 refl in
     let z : end ≡ p = ok-place e6 refl in
     at-row r (cc) (cc) (ap (λ (y : Stepped). y .element) q) (ap (λ (y : Stepped). y .rows) q) (ap (λ (y : Stepped). y .book) q))
-    (λ _ e4. choice (eqb kind 3) _ _ e4
-    (λ k e5. then-ok (finishAt rows s next) _ e5 λ f p e6 e7.
+    (λ _ e4. either (eqb kind 3) _ _ e4
+    (λ k e5. after (finishAt rows s next) _ e5 λ f p e6 e7.
     let three : kind ≡ 3 = eqb-true kind 3 k in
     let q : st ≡ record { element = f; rows = rows; book = b } = ok-value e7 refl in
     let z : end ≡ p = ok-place e7 refl in
@@ -102,27 +87,27 @@ finish-step s at rows b f end k e = rw (k, e)
 pub named-number : (s : List ℕ) (at n p : ℕ) (o : Option Layout) (r : Row) (end : ℕ) → named s at n p o ≡ ok r end → (r .number ≡ n) × ((l : Layout) × (o ≡ some l))
 named-number s at n p none r end e = absurd (no-ok refl e)
 named-number s at n p (some l) r end e =
-    then-ok (number 4 s p) _ e λ size _ _ e2. then-ok (valuesAt (l .attributes) s p size) _ e2 λ fields x _ e3.
+    after (number 4 s p) _ e λ size _ _ e2. after (valuesAt (l .attributes) s p size) _ e2 λ fields x _ e3.
     let q : r ≡ record { number = n; is-stated = ltb size 0xffffffff; fields = fields } = ok-value e3 refl in
     (ap (λ (y : Row). y .number) q, (l, refl))
 
 module _ (b : Book) (s : List ℕ) (at : ℕ) (r : Row) (end : ℕ) (e : rowAt b s at ≡ ok r end) where
   pub row-found : (l : Layout) × (find (r .number) b ≡ some l)
   unfolding rowAt
-  row-found = then-ok (number 4 s at) _ e λ n p _ e2.
+  row-found = after (number 4 s at) _ e λ n p _ e2.
       let h = named-number s at n p (find n b) r end e2 in
       (h .1 .0, ap (λ (k : ℕ). find k b) (h .0) ∙ h .1 .1)
 
   pub row-agrees : (c : Book) → find (r .number) c ≡ find (r .number) b → rowAt c s at ≡ ok r end
   unfolding rowAt
-  row-agrees c same = then-ok (number 4 s at) _ e λ n p e1 e2.
+  row-agrees c same = after (number 4 s at) _ e λ n p e1 e2.
       let h = named-number s at n p (find n b) r end e2 in
       let q : find n c ≡ find n b = subst (λ (k : ℕ). find k c ≡ find k b) (h .0) same in
       rw (e1, q) e2
 
   pub row-lacks : (c : Book) → find (r .number) c ≡ none → rowAt c s at ≡ no 12 at
   unfolding rowAt
-  row-lacks c lacks = then-ok (number 4 s at) _ e λ n p e1 e2.
+  row-lacks c lacks = after (number 4 s at) _ e λ n p e1 e2.
       let h = named-number s at n p (find n b) r end e2 in
       let q : find n c ≡ none = subst (λ (k : ℕ). find k c ≡ none) (h .0) lacks in
       rw (e1, q)

@@ -17,14 +17,15 @@ use Rattle.layouts.specs.Layout.{Layout, layoutImage}
 use Rattle.layouts.specs.Book.{Book, bookImage, bookOf}
 use Rattle.headers.specs.Header.{Header, headerAt}
 use Rattle.elements.specs.Element.{layout, item, Stepped, elementAt}
-use Rattle.elements.specs.Steps.{lentBook, stepAt, Placed, isLast, elementsFrom, readingFrom, Reading, reading, asRow, rowsOf, whole}
-use Rattle.promises.specs.BySteps.{Left, carrying, left, stepOver, Ending, ended, refused, BySteps, stop, last, more, answer, FromFirst, no-header, then-steps, Carries, Few, OneReading, OneFirst, Appends, Counted}
+use Rattle.elements.specs.Steps.{holding, lentBook, stepAt, Placed, isLast, elementsFrom, readingFrom, Reading, reading, asRow, rowsOf, whole}
+use Rattle.promises.specs.BySteps.{Left, left, stepOver, Ending, ended, refused, BySteps, stop, last, more, answer, FromFirst, no-header, then-steps, Carries, Few, OneReading, OneFirst, Appends, Counted}
 use Rattle.octets.proofs.Ends.{number-no}
 use Rattle.octets.proofs.Inverse.{ok-value, ok-place, after, chosen}
 use Rattle.layouts.proofs.Books.{GoodBook, Lent, image-nil, image-snoc, book-back, book-forth}
 use Rattle.layouts.proofs.Growing.{Learnt, learnt, good-nil}
-use Rattle.elements.proofs.Went.{Went, at-layout, at-row, at-finish, went}
-use Rattle.promises.proofs.Run.{Spot, behind, placed, Steps, step-rows, Ends, NoEnd, step-gains, step-moves, step-few}
+use Rattle.elements.proofs.Went.{Went, at-layout, at-row, at-finish, went, step-rows}
+use Rattle.elements.proofs.Told.{holding-lent}
+use Rattle.promises.proofs.Run.{Spot, behind, placed, Steps, Ends, NoEnd, step-gains, step-moves, step-few}
 
 -- The book in lent octets that hold it.
 carries-book : (octets : List ℕ) (used : ℕ) (b : Book) → Carries octets used b → GoodBook b → bookOf octets used ≡ ok b used
@@ -33,7 +34,7 @@ carries-book octets used b h good =
     (book-back b octets good (h .room) (subst (λ (u : ℕ). take u octets ≡ bookImage b) (h .size) (h .held)))
 
 -- What a step leaves carries its book.
-left-carries : (octets : List ℕ) (c : Book) → 32768 ≤ length octets → GoodBook c → Carries (carrying c octets) (length (bookImage c)) c
+left-carries : (octets : List ℕ) (c : Book) → 32768 ≤ length octets → GoodBook c → Carries (holding c octets) (length (bookImage c)) c
 left-carries octets c room good =
     record {
       room = rw (length-append, length-drop) (omega (arith, good .small));
@@ -61,7 +62,7 @@ module _ (s : List ℕ) (o : Each Octet s) (short : length s ≤ 1048576) where
     over-ok e = over-is ∙ rw e
 
     onward : {st : Stepped} {next : ℕ} → elementAt s at rows b ≡ ok st next → isLast (st .element) ≡ false
-        → InStep s next (st .rows) (carrying (st .book) octets) (length (bookImage (st .book))) (st .book)
+        → InStep s next (st .rows) (holding (st .book) octets) (length (bookImage (st .book))) (st .book)
     onward {st} {next} e t =
         let gains = step-gains s o at rows b st next (x .good) e in
         record { few = step-few s o at rows b st next short e t (x .few); carries = left-carries octets (st .book) (x .carries .room) (gains .good); good = gains .good }
@@ -98,7 +99,7 @@ module _ (s : List ℕ) (o : Each Octet s) (short : length s ≤ 1048576) where
 
   turn : (k at rows : ℕ) (b : Book) (octets : List ℕ) (used : ℕ) → InStep s at rows octets used b → (r : Read Stepped) → elementAt s at rows b ≡ r
       → ((st : Stepped) (next : ℕ) → elementAt s at rows b ≡ ok st next → isLast (st .element) ≡ false
-      → Goes k next (st .rows) (st .book) (carrying (st .book) octets) (length (bookImage (st .book))))
+      → Goes k next (st .rows) (st .book) (holding (st .book) octets) (length (bookImage (st .book))))
       → Goes (suc k) at rows b octets used
   unfolding elementsFrom
   turn k at rows b octets used a (no n p) e rest = ([], refused n p, stop (over-no a e), rw e)
@@ -115,7 +116,7 @@ module _ (s : List ℕ) (o : Each Octet s) (short : length s ≤ 1048576) where
   goes zero at rows b octets used h a = ([], refused 1 at, stop (over-no a (cut-short at rows b (omega arith))), refl)
   goes (suc k) at rows b octets used h a =
       turn k at rows b octets used a (elementAt s at rows b) refl
-      λ st next e t. goes k next (st .rows) (st .book) (carrying (st .book) octets) (length (bookImage (st .book)))
+      λ st next e t. goes k next (st .rows) (st .book) (holding (st .book) octets) (length (bookImage (st .book)))
       (omega (arith, step-moves s o at rows b st next short e t)) (onward a e t)
 
 -- Steps go one way alone: the first step settles how they go on.
@@ -216,11 +217,11 @@ module _ (s : List ℕ) (o : Each Octet s) (octets : List ℕ) (room : 32768 ≤
       go (ok h next) e = let (ps, f, d, z) = first-goes h next e in then-steps e d z
 
 -- What an accepted step leaves.
-kept : (octets : List ℕ) (used : ℕ) (b : Book) → Lent octets used b → (carrying b octets ≡ octets) × (length (bookImage b) ≡ used)
-kept octets used b lent = (rw (lent .size, lent .image) (take-append-drop used octets), lent .size)
+kept : (octets : List ℕ) (used : ℕ) (b : Book) → Lent octets used b → (holding b octets ≡ octets) × (length (bookImage b) ≡ used)
+kept octets used b l = (holding-lent octets used b l, l .size)
 
 appended : (octets : List ℕ) (used : ℕ) (b : Book) (m : Layout) → Lent octets used b
-    → (carrying (b ++ m ∷ []) octets ≡ over octets used (layoutImage m)) × (length (bookImage (b ++ m ∷ [])) ≡ used + length (layoutImage m))
+    → (holding (b ++ m ∷ []) octets ≡ over octets used (layoutImage m)) × (length (bookImage (b ++ m ∷ [])) ≡ used + length (layoutImage m))
 unfolding over
 appended octets used b m lent =
     let long : length (bookImage (b ++ m ∷ [])) ≡ used + length (layoutImage m) = ap length (image-snoc b m) ∙ length-append (bookImage b) (layoutImage m) ∙ ap (λ (n : ℕ). n + length (layoutImage m)) (lent .size) in

@@ -23,7 +23,7 @@ use Rattle.layouts.proofs.Finding.{Within}
 use Rattle.layouts.proofs.Books.{GoodBook}
 use Rattle.layouts.proofs.Growing.{Grown, grown}
 use Rattle.rows.proofs.Rows.{row-inverse}
-use Rattle.elements.proofs.Went.{Went, at-layout, at-row, at-finish, went}
+use Rattle.elements.proofs.Went.{Went, at-layout, at-row, at-finish, went, step-rows}
 
 -- Where a reading stands.
 pub record Spot : Type 0 where
@@ -50,14 +50,6 @@ steps-split s x y (p ∷ ps) qs h =
     (t .0, (h .0, h .1, h .2, h .3, t .1), t .2)
 
 -- The rows passed.
-pub step-rows : (s : List ℕ) (at rows : ℕ) (b : Book) (st : Stepped) (next : ℕ) → elementAt s at rows b ≡ ok st next → st .rows ≡ rows + asRow (st .element)
-step-rows s at rows b st next e = go (went s at rows b st next e)
-  where
-    go : Went s at rows b st next → st .rows ≡ rows + asRow (st .element)
-    go (at-layout l x k h g el ro) = rw el (omega arith)
-    go (at-row r k h el ro bo) = rw el (omega arith)
-    go (at-finish n t k h el ro bo) = rw el (omega arith)
-
 pub steps-rows : (s : List ℕ) (x y : Spot) (ps : List Placed) → Steps s x ps y → y .rows ≡ x .rows + rowsOf ps
 steps-rows s x y [] h = let q : x .rows ≡ y .rows = ap (λ (z : Spot). z .rows) h in omega arith
 steps-rows s x y (p ∷ ps) h =

@@ -1,17 +1,17 @@
 -- Reading by steps: each step is given the lent octets and the used count that the step before left.
 use Prim.Native.Nat.{ℕ, _+_, _-_, _≤_}
 use mathlib.Core.Path.{_≡_}
-use mathlib.Core.List.{List, [], _∷_, _++_}
+use mathlib.Core.List.{List, [], _∷_}
 use mathlib.Core.Bool.{true, false}
 use mathlib.Core.Logic.{_⊎_}
-use lib.ListN.{length, take, drop}
+use lib.ListN.{length, take}
 use Rattle.octets.specs.Reading.{Read, ok, no, _then_}
 use Rattle.octets.specs.Writing.{over}
 use Rattle.layouts.specs.Layout.{Layout, layoutImage}
 use Rattle.layouts.specs.Book.{Book, bookImage}
 use Rattle.headers.specs.Header.{Header, headerAt}
 use Rattle.elements.specs.Element.{layout, Element, item, Stepped}
-use Rattle.elements.specs.Steps.{Placed, isLast, stepAt, readingFrom, Reading, reading, asRow, rowsOf, whole}
+use Rattle.elements.specs.Steps.{holding, Placed, isLast, stepAt, readingFrom, Reading, reading, asRow, rowsOf, whole}
 
 -- What an accepted step answers and leaves: the element, the rows passed with it, the lent octets and how many of them are used.
 pub record Left : Type 0 where
@@ -20,12 +20,8 @@ pub record Left : Type 0 where
   pub octets : List ℕ
   pub used : ℕ
 
--- Lent octets with a book at their start; what is behind it is as it was.
-abbrev pub carrying : Book → List ℕ → List ℕ
-carrying book octets = bookImage book ++ drop (length (bookImage book)) octets
-
 abbrev pub left : List ℕ → Stepped → Left
-left octets st = record { element = st .element; rows = st .rows; octets = carrying (st .book) octets; used = length (bookImage (st .book)) }
+left octets st = record { element = st .element; rows = st .rows; octets = holding (st .book) octets; used = length (bookImage (st .book)) }
 
 -- One step over lent octets. A refusal has its number and place alone: the octets and the used count are as they were.
 unfoldable pub stepOver : List ℕ → ℕ → ℕ → List ℕ → ℕ → Read Left
