@@ -9,17 +9,12 @@ use native.Mathlib.Numerals.{add-one}
 use native.Mathlib.Omega.{arith}
 use Rattle.octets.specs.Reading.{Read, ok, no, ends, isOk, be, part, number, text, count, run}
 use Rattle.octets.proofs.Inverse.{after, ok-value, ok-place}
-use Rattle.octets.proofs.Ends.{number-ok, number-room, text-ok, text-room, count-ok, count-room, ends-ok, run-on, run-none, run-first}
+use Rattle.octets.proofs.Ends.{number-ok, number-room, text-ok, text-room, count-ok, count-room, ends-ok, value-is, run-on, run-none, run-first}
 use Rattle.octets.proofs.Runs.{run-item, run-length}
 use Rattle.kinds.specs.Kinds.{kindAt}
 use Rattle.kinds.proofs.Table.{kind-is}
 use Rattle.layouts.specs.Layout.{Attribute, Layout, attributeAt, layoutAt}
 use Rattle.layouts.specs.Answers.{Nth}
-
--- What is accepted has a value and an end.
-pub accepted : {A : Type 0} (r : Read A) → isOk r ≡ true → (a : A) × (n : ℕ) × (r ≡ ok a n)
-accepted (ok a n) t = (a, n, refl)
-accepted (no n p) t = absurd (let z : _≡_ {A = ℕ} 0 1 = cc in omega arith)
 
 -- A reading that is accepted ends at one place.
 pub one-end : {A : Type 0} (r : Read A) {a : A} {n m : ℕ} → r ≡ ok a n → ends r ≡ ok m m → m ≡ n
@@ -115,15 +110,15 @@ module _ (s : List ℕ) (at : ℕ) where
   pub layout-run : isOk (layoutAt s at) ≡ true → (mid k : ℕ) → ends (text s (at + 4)) ≡ ok mid mid → k ≡ be 4 s mid
       → ends (layoutAt s at) ≡ ends (run (attributeAt s) k (mid + 4))
   layout-run t mid k f q =
-      let (l, end, e) = accepted (layoutAt s at) t in
+      let (l, end, e) = value-is (layoutAt s at) t in
       ap ends e ∙ sym (rw q (ap ends (layout-fields mid f e .attributes)))
 
   -- The names of what is accepted are accepted.
   pub attribute-named : isOk (attributeAt s at) ≡ true → isOk (text s at) ≡ true
-  attribute-named t = let (a, next, e) = accepted (attributeAt s at) t in ap isOk (attribute-split e .1 .name)
+  attribute-named t = let (a, next, e) = value-is (attributeAt s at) t in ap isOk (attribute-split e .1 .name)
 
   pub layout-named : isOk (layoutAt s at) ≡ true → isOk (text s (at + 4)) ≡ true
-  layout-named t = let (l, end, e) = accepted (layoutAt s at) t in ap isOk (layout-split e .1 .type-name)
+  layout-named t = let (l, end, e) = value-is (layoutAt s at) t in ap isOk (layout-split e .1 .type-name)
 
   -- A layout's number stands first, and its type name behind it.
   pub layout-number : {l : Layout} {end : ℕ} → layoutAt s at ≡ ok l end → (at + 4 ≤ length s) × (be 4 s at ≡ l .number)
@@ -141,7 +136,7 @@ run-last f zero at {p} {q} e g =
     let same : at ≡ p = cc (run-none f at, e) in
     run-on f at 0 q (ap (λ (n : ℕ). ends (f n)) same ∙ g) ∙ run-none f q
 run-last f (suc i) at e g =
-    let (a, next, h) = accepted (f at) (run-first f at i (sym (ends-ok (run f (suc i) at)) ∙ ap isOk e)) in
+    let (a, next, h) = value-is (f at) (run-first f at i (sym (ends-ok (run f (suc i) at)) ∙ ap isOk e)) in
     run-on f at (suc i) next (ap ends h) ∙ run-last f i next (sym (run-on f at i next (ap ends h)) ∙ e) g
 
 -- The attributes of a layout by index: where the first i end, attribute i stands.

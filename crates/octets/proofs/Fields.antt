@@ -1,8 +1,8 @@
--- The fields that every construct is made of.
+-- The fields that every construct is made of: number, octets, string, count and fixed number each have a reading and an image that are inverse.
 use mathlib.Core.Path.{_≡_, refl, sym, ap, _∙_, subst}
 use mathlib.Core.List.{List, [], _∷_, _++_}
 use mathlib.Core.Bool.{Bool, true, false}
-use Prim.Native.Nat.{ℕ, zero, suc, _+_, _^_, _≤_, _<_}
+use Prim.Native.Nat.{ℕ, _+_, _-_, _^_, _≤_, _<_}
 use native.Mathlib.Omega.{arith}
 use native.Mathlib.Nat.{le-refl}
 use lib.ListN.{length}
@@ -11,7 +11,7 @@ use borrow.Author.Tests.{leb-true, eqb-true, le-leb, eq-eqb}
 use Rattle.octets.specs.Reading.{Read, ok, no, _then_, choose, be, part, Room, document, stated, reach, overrun, numberIn, octetsIn, textIn, number, text, count, exactly}
 use Rattle.octets.specs.Writing.{word, textImage, Each, Octet, Text}
 use Rattle.octets.proofs.Spans.{Spans, join, middle, length-word, word-is, word-spans, word-octets, part-spans, part-is, spans-octets, each-append}
-use Rattle.octets.proofs.Inverse.{Inverse, Answer, Any, after, settle, chosen}
+use Rattle.octets.proofs.Inverse.{Inverse, Answer, Any, after, settle, chosen, reads-back, reads-forth}
 
 -- No reading succeeds where the room ends.
 roomy : {A : Type 0} (room : Room) (at : ℕ) (t : Bool) (x : Unit {0} → Read A) {a : A} {n : ℕ} → choose t x (λ _. overrun room at) ≡ ok a n
@@ -87,3 +87,24 @@ module _ (s : List ℕ) where
   pub exactly-inverse : (n refusal : ℕ) → n < 256 ^ 4 → Inverse s (length s) (exactly n refusal s) (word 4) Any (λ m. n ≡ m)
   unfolding exactly
   exactly-inverse n refusal h = tested (λ m. eqb m n) refusal (λ m t. sym (eqb-true m n t)) (λ m g. (omega arith, eq-eqb m n (sym g)))
+
+-- The two laws of the fields in the words of lists: what is read from an image is the value, and the octets of what was read are its image.
+module _ (pre post : List ℕ) where
+  pub number-back : (w n : ℕ) → n < 256 ^ w → number w (pre ++ (word w n ++ post)) (length pre) ≡ ok n (length pre + length (word w n))
+  number-back w n g = reads-back (λ s. number-whole s w) n pre post g
+
+  pub text-back : (xs : List ℕ) → Text xs → text (pre ++ (textImage xs ++ post)) (length pre) ≡ ok xs (length pre + length (textImage xs))
+  text-back xs g = reads-back text-whole xs pre post g
+
+  pub count-back : (most n : ℕ) → most < 256 ^ 4 → n ≤ most → count most (pre ++ (word 4 n ++ post)) (length pre) ≡ ok n (length pre + length (word 4 n))
+  count-back most n h g = reads-back (λ s. count-inverse s most h) n pre post g
+
+module _ (s : List ℕ) (o : Each Octet s) (at next : ℕ) (inside : at ≤ length s) where
+  pub number-forth : (w n : ℕ) → number w s at ≡ ok n next → (n < 256 ^ w) × (at ≤ next) × (next ≤ length s) × (part s at (next - at) ≡ word w n)
+  number-forth w n e = reads-forth (λ t. number-whole t w) s n at next o inside e
+
+  pub text-forth : (xs : List ℕ) → text s at ≡ ok xs next → Text xs × (at ≤ next) × (next ≤ length s) × (part s at (next - at) ≡ textImage xs)
+  text-forth xs e = reads-forth text-whole s xs at next o inside e
+
+  pub count-forth : (most n : ℕ) → most < 256 ^ 4 → count most s at ≡ ok n next → (n ≤ most) × (at ≤ next) × (next ≤ length s) × (part s at (next - at) ≡ word 4 n)
+  count-forth most n h e = reads-forth (λ t. count-inverse t most h) s n at next o inside e

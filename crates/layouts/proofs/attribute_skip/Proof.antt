@@ -5,7 +5,8 @@ use mathlib.Core.Path.{ap, _∙_}
 use denote.Ref.{now}
 use Rattle.octets.specs.Reading.{ok, ends}
 use Rattle.layouts.specs.Layout.{attributeAt}
-use Rattle.layouts.proofs.Parts.{accepted, attribute-named, attribute-fields}
+use Rattle.octets.proofs.Ends.{value-is}
+use Rattle.layouts.proofs.Parts.{attribute-named, attribute-fields}
 use Rattle.layouts.proofs.attribute_skip.Statement.{statement}
 use Rattle.layouts.proofs.attribute_skip.Tie as tie
 
@@ -15,7 +16,7 @@ name-end-requires c κs = let s = c .before in (s .pre .0, attribute-named (now 
 returns : tie.Need-returns
 returns c =
     let s = c .before .before in
-    let (a, next, e) = accepted (attributeAt (now (s .args .s)) (s .args .at)) (s .pre .1) in
+    let (a, next, e) = value-is (attributeAt (now (s .args .s)) (s .args .at)) (s .pre .1) in
     let d = attribute-fields (now (s .args .s)) (s .args .at) (c .name-end .result) (c .name-end .ensures .0) e in
     ap ends e ∙ ap (λ (n : ℕ). ok n n) (d .place)
 

@@ -2,14 +2,15 @@
 use native.Mathlib.Omega.{arith}
 use denote.Ref.{now}
 use Rattle.layouts.specs.Layout.{layoutAt}
-use Rattle.layouts.proofs.Parts.{accepted, layout-named, layout-number, layout-fields}
+use Rattle.octets.proofs.Ends.{value-is}
+use Rattle.layouts.proofs.Parts.{layout-named, layout-number, layout-fields}
 use Rattle.layouts.proofs.attributes_at.Statement.{statement}
 use Rattle.layouts.proofs.attributes_at.Tie as tie
 
 add-name-end : tie.Need-add-name-end
 add-name-end c =
     let s = c .before in
-    let (l, end, e) = accepted (layoutAt (now (s .args .s)) (s .args .at)) (s .pre .1) in
+    let (l, end, e) = value-is (layoutAt (now (s .args .s)) (s .args .at)) (s .pre .1) in
     omega (arith, layout-number (now (s .args .s)) (s .args .at) e .0)
 
 name-end-requires : tie.Need-name-end-requires
@@ -18,7 +19,7 @@ name-end-requires c κs = let s = c .before in (s .pre .0, layout-named (now (s 
 returns : tie.Need-returns
 returns c =
     let s = c .before .before in
-    let (l, end, e) = accepted (layoutAt (now (s .args .s)) (s .args .at)) (s .pre .1) in
+    let (l, end, e) = value-is (layoutAt (now (s .args .s)) (s .args .at)) (s .pre .1) in
     (c .name-end .ensures .0, layout-fields (now (s .args .s)) (s .args .at) (c .name-end .result) (c .name-end .ensures .0) e .inside)
 
 pub attributes-at-spec : {M : Type 1} → statement M

@@ -2,14 +2,15 @@
 use mathlib.Core.Path.{_∙_}
 use denote.Ref.{now}
 use Rattle.layouts.specs.Layout.{layoutAt}
-use Rattle.layouts.proofs.Parts.{accepted, layout-number}
+use Rattle.octets.proofs.Ends.{value-is}
+use Rattle.layouts.proofs.Parts.{layout-number}
 use Rattle.layouts.proofs.layout_number.Statement.{statement}
 use Rattle.layouts.proofs.layout_number.Tie as tie
 
 u32-at-requires : tie.Need-u32-at-requires
 u32-at-requires c κs =
     let s = c .before in
-    let (l, end, e) = accepted (layoutAt (now (s .args .s)) (s .args .at)) (s .pre) in
+    let (l, end, e) = value-is (layoutAt (now (s .args .s)) (s .args .at)) (s .pre) in
     layout-number (now (s .args .s)) (s .args .at) e .0
 
 returns : tie.Need-returns

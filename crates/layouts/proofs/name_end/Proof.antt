@@ -6,7 +6,8 @@ use mathlib.Core.Path.{_≡_, ap, _∙_, sym}
 use mathlib.Core.List.{List}
 use denote.Ref.{now}
 use Rattle.octets.specs.Reading.{ok, ends, text}
-use Rattle.layouts.proofs.Parts.{Written, accepted, text-fields}
+use Rattle.octets.proofs.Ends.{value-is}
+use Rattle.layouts.proofs.Parts.{Written, text-fields}
 use Rattle.layouts.proofs.name_end.Statement.{statement}
 use Rattle.layouts.proofs.name_end.Tie as tie
 
@@ -15,7 +16,7 @@ Name s = (xs : List ℕ) × (next : ℕ) × (text (now (s .args .s)) (s .args .a
 
 name : (s : tie.Start) → Name s
 name s =
-    let (xs, next, e) = accepted (text (now (s .args .s)) (s .args .at)) (s .pre .1) in
+    let (xs, next, e) = value-is (text (now (s .args .s)) (s .args .at)) (s .pre .1) in
     (xs, next, e, text-fields (now (s .args .s)) (s .args .at) e)
 
 returns : tie.Need-returns

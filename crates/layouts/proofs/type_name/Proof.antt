@@ -2,14 +2,15 @@
 use native.Mathlib.Omega.{arith}
 use denote.Ref.{now}
 use Rattle.layouts.specs.Layout.{layoutAt}
-use Rattle.layouts.proofs.Parts.{accepted, layout-named, layout-number, layout-text}
+use Rattle.octets.proofs.Ends.{value-is}
+use Rattle.layouts.proofs.Parts.{layout-named, layout-number, layout-text}
 use Rattle.layouts.proofs.type_name.Statement.{statement}
 use Rattle.layouts.proofs.type_name.Tie as tie
 
 add-name-part : tie.Need-add-name-part
 add-name-part c =
     let s = c .before in
-    let (l, end, e) = accepted (layoutAt (now (s .args .s)) (s .args .at)) (s .pre .1) in
+    let (l, end, e) = value-is (layoutAt (now (s .args .s)) (s .args .at)) (s .pre .1) in
     omega (arith, layout-number (now (s .args .s)) (s .args .at) e .0)
 
 name-part-requires : tie.Need-name-part-requires
