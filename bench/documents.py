@@ -1,0 +1,216 @@
+"""The documents that are measured, made from a seed: the same octets on every machine."""
+
+import functools
+
+MOST_DOCUMENT = 1_048_576
+MOST_LISTED = 16
+MOST_ATTRIBUTES = 64
+MOST_LAYOUTS = 64
+MOST_BOOK = 32_768
+
+KIND_LAYOUT, KIND_ROW, KIND_END = 1, 2, 3
+UNSTATED = 0xFFFFFFFF
+END_SIZE = 16
+
+WIDTHS = {
+    0x21: 4, 0x22: 4, 0x23: 8, 0x24: 8, 0x25: 4, 0x26: 8,
+    0x2A: 1, 0x2B: 1, 0x2C: 2, 0x2D: 2,
+}
+HEX_BINARY, STRING, BOOLEAN = 0x27, 0x28, 0x29
+NUMBERS = sorted(WIDTHS)
+ALL_TYPES = sorted([*NUMBERS, HEX_BINARY, STRING, BOOLEAN])
+
+
+class Random:
+    """SplitMix64, so that a seed means the same in every version of Python."""
+
+    def __init__(self, seed):
+        self.state = seed
+
+    def word(self):
+        self.state = (self.state + 0x9E3779B97F4A7C15) % 2**64
+        z = self.state
+        z = (z ^ (z >> 30)) * 0xBF58476D1CE4E5B9 % 2**64
+        z = (z ^ (z >> 27)) * 0x94D049BB133111EB % 2**64
+        return z ^ (z >> 31)
+
+    def below(self, limit):
+        return self.word() % limit
+
+    def pick(self, choices):
+        return choices[self.below(len(choices))]
+
+    def octets(self, size):
+        words = (self.word().to_bytes(8, "big") for _ in range((size + 7) // 8))
+        return b"".join(words)[:size]
+
+    def shuffled(self, items):
+        items = list(items)
+        for i in range(len(items) - 1, 0, -1):
+            j = self.below(i + 1)
+            items[i], items[j] = items[j], items[i]
+        return items
+
+
+class Image:
+    """Octets of a document, with the places that damage aims at."""
+
+    def __init__(self):
+        self.octets = bytearray()
+        self.numbers = []  # every field of four octets that is no value
+        self.booleans = []
+        self.elements = []
+
+    def number(self, value):
+        self.numbers.append(len(self.octets))
+        self.octets += value.to_bytes(4, "big")
+
+    def time(self, seconds):
+        self.octets += seconds.to_bytes(8, "big", signed=True)
+
+    def string(self, octets):
+        self.number(len(octets))
+        self.octets += octets
+
+    def kind(self, kind):
+        self.elements.append((len(self.octets), kind))
+        self.number(kind)
+
+
+class Layout:
+    def __init__(self, number, name, attributes):
+        self.number = number
+        self.name = name
+        self.attributes = attributes  # pairs of a name and a type
+
+    def size(self):
+        return 12 + len(self.name) + sum(8 + len(name) for name, _ in self.attributes)
+
+
+def put_header(image, random, namespaces=2, services=1):
+    image.number(4)
+    image.string(b"recorder.example")
+    image.time(1_000_000_000)
+    image.string(b"http://records.example/ns")
+    image.number(namespaces)
+    for n in range(namespaces):
+        image.string(b"http://records.example/ns/%d" % n)
+        image.string(b"n%d" % n)
+    image.number(services)
+    for n in range(services):
+        image.string(b"http://records.example/service/%d.xsd" % n)
+    image.string(random.octets(16))
+    image.number(0xFFFFFFFF)
+
+
+def put_layout(image, layout):
+    image.kind(KIND_LAYOUT)
+    image.number(layout.number)
+    image.string(layout.name)
+    image.number(len(layout.attributes))
+    for name, kind in layout.attributes:
+        image.string(name)
+        image.number(kind)
+
+
+def basic_of(kind):
+    """The basic type, whatever a derived type's mark says."""
+    return kind & 0xFF
+
+
+def put_value(image, kind, random, longest):
+    kind = basic_of(kind)
+    if kind in (HEX_BINARY, STRING):
+        image.string(random.octets(random.below(longest + 1)))
+    elif kind == BOOLEAN:
+        image.booleans.append(len(image.octets))
+        image.octets.append(random.below(2))
+    else:
+        image.octets += random.octets(WIDTHS[kind])
+
+
+def put_row(image, layout, random, longest):
+    """A row of which half, by chance, state their length."""
+    image.kind(KIND_ROW)
+    image.number(layout.number)
+    at_length = len(image.octets)
+    image.number(UNSTATED)
+    for _, kind in layout.attributes:
+        put_value(image, kind, random, longest)
+    if random.below(2):
+        length = len(image.octets) - at_length - 4
+        image.octets[at_length:at_length + 4] = length.to_bytes(4, "big")
+
+
+def put_end(image, rows):
+    image.kind(KIND_END)
+    image.number(rows)
+    image.time(1_000_086_400)
+
+
+def row_size(layout, longest):
+    """The most octets that a row can take."""
+    return 12 + sum(WIDTHS.get(basic_of(kind), 4 + longest) for _, kind in layout.attributes)
+
+
+def document(layouts, size, seed, longest=0):
+    """Header, layouts, rows of each layout in turn as far as `size` octets surely hold them, end."""
+    random = Random(seed)
+    image = Image()
+    put_header(image, random)
+    for layout in layouts:
+        put_layout(image, layout)
+    rows = 0
+    while len(image.octets) + row_size(layouts[rows % len(layouts)], longest) + END_SIZE <= size:
+        put_row(image, layouts[rows % len(layouts)], random, longest)
+        rows += 1
+    put_end(image, rows)
+    return image
+
+
+@functools.cache
+def short(size, seed=1):
+    """One layout of three numbers, and short rows."""
+    return document([Layout(1, b"Short", [(b"octets", 0x22), (b"port", 0x2D), (b"class", 0x2A)])], size, seed)
+
+
+@functools.cache
+def wide(size, seed=2):
+    """One layout of 40 numbers of all widths, in no order."""
+    kinds = Random(seed).shuffled(NUMBERS * 4)
+    return document([Layout(2, b"Wide", [(b"n%d" % i, kind) for i, kind in enumerate(kinds)])], size, seed)
+
+
+@functools.cache
+def strings(size, seed=3):
+    """One layout of six strings and two numbers."""
+    kinds = [0x24, STRING, STRING, STRING, 0x22, STRING, STRING, STRING]
+    return document([Layout(3, b"Strings", [(b"f%d" % i, kind) for i, kind in enumerate(kinds)])], size, seed, 32)
+
+
+@functools.cache
+def many(size, seed=4):
+    """
+    As many layouts of as many attributes as the book holds, used in turn.
+    With names of no octets a layout takes 12 octets and 8 for each attribute,
+    so that 64 layouts of 62 and 63 attributes fill the book's 32,768 exactly.
+    """
+    random = Random(seed)
+    total = (MOST_BOOK - 12 * MOST_LAYOUTS) // 8
+    counts = [total // MOST_LAYOUTS + (i < total % MOST_LAYOUTS) for i in range(MOST_LAYOUTS)]
+    layouts = [Layout(1000 + i, b"", [(b"", random.pick(ALL_TYPES)) for _ in range(count)])
+               for i, count in enumerate(random.shuffled(counts))]
+    return document(layouts, size, seed, 8)
+
+
+SHAPES = {"short": short, "wide": wide, "strings": strings, "many": many}
+
+# `bare` has no rows: what the header and the layouts alone cost.
+SIZES = {"bare": 0, "64k": 65_536, "1m": MOST_DOCUMENT}
+
+
+def measured():
+    """Every measured document: its shape, its size's name, and its octets."""
+    for shape, make in SHAPES.items():
+        for name, size in SIZES.items():
+            yield shape, name, bytes(make(size).octets)
