@@ -1,0 +1,25 @@
+-- What a call's answer says, with what the lent buffer and book hold then.
+use Prim.Native.Nat.{ℕ}
+use mathlib.Core.List.{List}
+use Rattle.octets.specs.Reading.{Read, ok, no}
+use Rattle.writing.specs.declared.State.{State}
+use Rattle.writing.specs.declared.Answer.{Answer}
+use Rattle.writing.specs.declared.Answer.the-variants.{Done, Refused}
+use Rattle.writing.specs.Writer.{Call, Written, call}
+
+pub record Left : Type 0 where
+  pub answer : Answer
+  pub buffer : List ℕ
+  pub book : List ℕ
+
+abbrev pub left : Answer → List ℕ → List ℕ → Left
+left answer buffer book = record { answer = answer; buffer = buffer; book = book }
+
+-- A refusal has number and place alone, and changes nothing.
+abbrev pub told : Read Written → List ℕ → List ℕ → Left
+told (ok w at) buffer lent = left (Done (w .state) (w .used)) (w .buffer) (w .book)
+told (no n p) buffer lent = left (Refused n p) buffer lent
+
+-- All that one call answers and leaves.
+unfoldable pub leaves : State → List ℕ → List ℕ → ℕ → Call → Left
+leaves s buffer lent used c = told (call s buffer lent used c) buffer lent

@@ -1,0 +1,44 @@
+// The writer: a document given one field at a time, in image order, into a lent buffer.
+
+// What the next call has to give.
+pub enum Turn {
+    Recorder,
+    StartTime,
+    DefaultNamespace,
+    NamespaceCount,
+    Uri,
+    ShortName,
+    ServiceCount,
+    Service,
+    DocumentId,
+    Element,
+    TypeName,
+    AttributeCount,
+    AttributeName,
+    AttributeType,
+    Value,
+    Nothing,
+}
+
+// What is known between two calls. The count is of those still to come in the list being given; in an open row, of the values given.
+pub struct State {
+    pub place: usize,
+    pub turn: Turn,
+    pub count: u32,
+    pub start: usize,
+    pub rows: u32,
+}
+
+// The new state and used count, or a refusal by number and place.
+pub enum Answer {
+    Done(State, usize),
+    Refused(u32, usize),
+}
+
+// What a turn asks of a state: the least and the most of its count, and the first octets of the element that is open.
+pub struct Rule {
+    pub number: u32,
+    pub least: u32,
+    pub most: u32,
+    pub head: usize,
+}
