@@ -5,7 +5,9 @@ use Rattle.octets.specs.Reading.{Read, ok, no}
 use Rattle.writing.specs.declared.State.{State}
 use Rattle.writing.specs.declared.Answer.{Answer}
 use Rattle.writing.specs.declared.Answer.the-variants.{Done, Refused}
-use Rattle.writing.specs.Writer.{Call, Written, call}
+use Rattle.writing.specs.declared.Field.{Field}
+use Rattle.fields.specs.Answers.{says}
+use Rattle.writing.specs.Writer.{Call, Written, Deed, put, call}
 
 pub record Left : Type 0 where
   pub answer : Answer
@@ -23,3 +25,7 @@ told (no n p) buffer lent = left (Refused n p) buffer lent
 -- All that one call answers and leaves.
 unfoldable pub leaves : State → List ℕ → List ℕ → ℕ → Call → Left
 leaves s buffer lent used c = told (call s buffer lent used c) buffer lent
+
+-- What comes of a field that puts octets.
+abbrev pub deedOf : State → Field → List ℕ → Deed
+deedOf s f xs = put s (f .turn) (says (f .fault)) xs (f .next) (f .count) (f .start)

@@ -1,5 +1,14 @@
 // The writer: a document given one field at a time, in image order, into a lent buffer.
 
+ghost use mathlib.Core.Path.{_≡_};
+ghost use mathlib.Core.List.{List, _++_};
+ghost use Prim.Native.Nat.{ℕ, _≤_};
+ghost use lib.ListN.{length};
+ghost use Rattle.writing.specs.Writer.{room, rule, sameTurn, isOpen, bounded, turnAt, placed, tried, answered};
+ghost use Rattle.writing.specs.Answers.{left, told, leaves, deedOf};
+
+use fields::Fault;
+
 // What the next call has to give.
 pub enum Turn {
     Recorder,
@@ -41,4 +50,94 @@ pub struct Rule {
     pub least: u32,
     pub most: u32,
     pub head: usize,
+}
+
+// A field's turn and its own fault; the turn and the count that follow it, and where the open element starts.
+pub struct Field {
+    pub turn: Turn,
+    pub fault: Fault,
+    pub next: Turn,
+    pub count: u32,
+    pub start: usize,
+}
+
+fn line(number: u32, least: u32, most: u32, head: usize) -> Rule
+    ensures { λ r. ⌜ (r .number ≡ number) × (r .least ≡ least) × (r .most ≡ most) × (r .head ≡ head) ⌝ }
+{
+    Rule { number, least, most, head }
+}
+
+// The rule of a turn.
+fn rule_of(t: Turn) -> Rule
+    ensures { λ r. ⌜ (r .number ≡ rule t .number) × (r .least ≡ rule t .least) × (r .most ≡ rule t .most) × (r .head ≡ rule t .head) ⌝ }
+{
+    match t {
+        Turn::Recorder => line(0, 0, 64, 0),
+        Turn::StartTime => line(1, 0, 64, 0),
+        Turn::DefaultNamespace => line(2, 0, 64, 0),
+        Turn::NamespaceCount => line(3, 0, 64, 0),
+        Turn::Uri => line(4, 1, 16, 0),
+        Turn::ShortName => line(5, 1, 16, 0),
+        Turn::ServiceCount => line(6, 0, 64, 0),
+        Turn::Service => line(7, 1, 16, 0),
+        Turn::DocumentId => line(8, 0, 64, 0),
+        Turn::Element => line(9, 0, 64, 0),
+        Turn::TypeName => line(10, 0, 64, 8),
+        Turn::AttributeCount => line(11, 0, 64, 8),
+        Turn::AttributeName => line(12, 1, 64, 8),
+        Turn::AttributeType => line(13, 1, 64, 8),
+        Turn::Value => line(14, 0, 64, 12),
+        Turn::Nothing => line(15, 0, 64, 0),
+    }
+}
+
+// The room in a buffer of so many octets.
+fn room_of(len: usize) -> usize
+    ensures { λ r. ⌜ r ≡ room len ⌝ }
+{
+    if len < 1048576 { len } else { 1048576 }
+}
+
+// Whether two turns are the same.
+fn same_turn(t: Turn, u: Turn) -> bool
+    ensures { λ r. ⌜ r ≡ sameTurn t u ⌝ }
+{
+    let a = rule_of(t);
+    let b = rule_of(u);
+    a.number == b.number
+}
+
+// Whether a state is inside its bounds, over a buffer of so many octets.
+fn in_bounds(s: State, len: usize) -> bool
+    ensures { λ r. ⌜ r ≡ bounded s len ⌝ }
+{
+    let turn = s.turn;
+    let place = s.place;
+    let count = s.count;
+    let start = s.start;
+    let rows = s.rows;
+    let rule = rule_of(turn);
+    let least = rule.least;
+    let most = rule.most;
+    let head = rule.head;
+    let room = room_of(len);
+    if room < place {
+        return false;
+    }
+    if count < least {
+        return false;
+    }
+    if most < count {
+        return false;
+    }
+    if 1048576 < rows {
+        return false;
+    }
+    if head == 0 {
+        return true;
+    }
+    if place < head {
+        return false;
+    }
+    start <= place - head
 }
