@@ -1,1 +1,3 @@
 pub mod Scripts
+pub mod Bounds
+pub mod Tests

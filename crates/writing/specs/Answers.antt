@@ -2,12 +2,13 @@
 use Prim.Native.Nat.{ℕ}
 use mathlib.Core.List.{List}
 use Rattle.octets.specs.Reading.{Read, ok, no}
+use Rattle.layouts.specs.Book.{bookIn}
+use Rattle.fields.specs.Answers.{says}
 use Rattle.writing.specs.declared.State.{State}
+use Rattle.writing.specs.declared.Field.{Field}
 use Rattle.writing.specs.declared.Answer.{Answer}
 use Rattle.writing.specs.declared.Answer.the-variants.{Done, Refused}
-use Rattle.writing.specs.declared.Field.{Field}
-use Rattle.fields.specs.Answers.{says}
-use Rattle.writing.specs.Writer.{Call, Written, Deed, put, call}
+use Rattle.writing.specs.Writer.{Call, Written, Deed, put, does, tried, placed, answered}
 
 pub record Left : Type 0 where
   pub answer : Answer
@@ -22,10 +23,17 @@ abbrev pub told : Read Written → List ℕ → List ℕ → Left
 told (ok w at) buffer lent = left (Done (w .state) (w .used)) (w .buffer) (w .book)
 told (no n p) buffer lent = left (Refused n p) buffer lent
 
+-- All that a deed answers and leaves, and all that it does behind 17 and 20.
+unfoldable pub leavesOf : State → List ℕ → List ℕ → ℕ → Deed → Left
+leavesOf s buffer lent used d = told (answered s buffer lent used d) buffer lent
+
+unfoldable pub leavesOn : State → List ℕ → List ℕ → ℕ → Deed → Left
+leavesOn s buffer lent used d = told (placed (s .place) (tried s buffer lent used d)) buffer lent
+
 -- All that one call answers and leaves.
 unfoldable pub leaves : State → List ℕ → List ℕ → ℕ → Call → Left
-leaves s buffer lent used c = told (call s buffer lent used c) buffer lent
+leaves s buffer lent used c = leavesOf s buffer lent used (does s buffer (bookIn lent used) c)
 
--- What comes of a field that puts octets.
+-- The deed of a field that puts octets.
 abbrev pub deedOf : State → Field → List ℕ → Deed
 deedOf s f xs = put s (f .turn) (says (f .fault)) xs (f .next) (f .count) (f .start)

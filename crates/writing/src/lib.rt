@@ -4,8 +4,9 @@ ghost use mathlib.Core.Path.{_≡_};
 ghost use mathlib.Core.List.{List, _++_};
 ghost use Prim.Native.Nat.{ℕ, _≤_};
 ghost use lib.ListN.{length};
-ghost use Rattle.writing.specs.Writer.{room, rule, sameTurn, isOpen, bounded, turnAt, placed, tried, answered};
-ghost use Rattle.writing.specs.Answers.{left, told, leaves, deedOf};
+ghost use Rattle.fields.specs.Answers.{says};
+ghost use Rattle.writing.specs.Writer.{room, rule, sameTurn, bounded, early, startTime};
+ghost use Rattle.writing.specs.Answers.{left, leavesOf, leavesOn, leaves, deedOf};
 
 use fields::Fault;
 
@@ -140,4 +141,64 @@ fn in_bounds(s: State, len: usize) -> bool
         return false;
     }
     start <= place - head
+}
+
+// 17 for the book, then 20 for a state out of its bounds or a call out of turn.
+fn ready(s: State, len: usize, book: &[u8], used: usize, mine: bool) -> Fault
+    ensures { λ r. ⌜ says r ≡ early s len (now (book .entry)) used mine ⌝ }
+{
+    if !layouts::is_book(book, used) {
+        return Fault::Is(17);
+    }
+    if !in_bounds(s, len) {
+        return Fault::Is(20);
+    }
+    if mine { Fault::None } else { Fault::Is(20) }
+}
+
+// Behind 17 and 20, a field that completes no layout: its own fault, 23, its octets behind those written.
+fn give_on(s: State, buf: &mut [u8], used: usize, field: Field, head: &[u8], body: &[u8], tail: &[u8]) -> Answer
+    requires { ⌜ s .place ≤ room (length (now buf)) ⌝ }
+    ensures { λ r. ⌜ ((lent : List ℕ) → left r (now (buf .exit)) lent ≡ leavesOn s (now (buf .entry)) lent used (deedOf s field (now (head .entry) ++ (now (body .entry) ++ now (tail .entry))))) ⌝ }
+{
+    let place = s.place;
+    let rows = s.rows;
+    let fault = field.fault;
+    let turn = field.next;
+    let count = field.count;
+    let start = field.start;
+    if let Fault::Is(n) = fault {
+        return Answer::Refused(n, place);
+    }
+    let room = room_of(buf.len());
+    if !fields::fits(room - place, head.len(), body.len(), tail.len()) {
+        return Answer::Refused(23, place);
+    }
+    let next = fields::lay3(buf, place, head, body, tail);
+    Answer::Done(State { place: next, turn, count, start, rows }, used)
+}
+
+// A field that completes no layout.
+fn give(s: State, buf: &mut [u8], book: &[u8], used: usize, field: Field, head: &[u8], body: &[u8], tail: &[u8]) -> Answer
+    ensures { λ r. ⌜ left r (now (buf .exit)) (now (book .entry)) ≡ leavesOf s (now (buf .entry)) (now (book .entry)) used (deedOf s field (now (head .entry) ++ (now (body .entry) ++ now (tail .entry)))) ⌝ }
+{
+    let place = s.place;
+    let turn = s.turn;
+    let wanted = field.turn;
+    let mine = same_turn(turn, wanted);
+    let first = ready(s, buf.len(), book, used, mine);
+    if let Fault::Is(n) = first {
+        return Answer::Refused(n, place);
+    }
+    give_on(s, buf, used, field, head, body, tail)
+}
+
+// The start time, by its bits.
+pub fn start_time(s: State, buf: &mut [u8], book: &[u8], used: usize, time: u64) -> Answer
+    ensures { λ r. ⌜ left r (now (buf .exit)) (now (book .entry)) ≡ leaves s (now (buf .entry)) (now (book .entry)) used (startTime time) ⌝ }
+{
+    let start = s.start;
+    let field = Field { turn: Turn::StartTime, fault: Fault::None, next: Turn::DefaultNamespace, count: 0, start };
+    let head = fields::word8(time);
+    give(s, buf, book, used, field, &head, b"", b"")
 }
