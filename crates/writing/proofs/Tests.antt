@@ -95,3 +95,7 @@ module _ (s : State) (buffer lent : List ℕ) (used : ℕ) (d : Deed) where
 pub same-put : (s : State) (turn : Turn) (start : ℕ) {f g : Read (Unit {0})} {xs ys : List ℕ} {t u : Turn} {n m : ℕ} → f ≡ g → xs ≡ ys → t ≡ u → n ≡ m
     → put s turn f xs t n start ≡ put s turn g ys u m start
 same-put s turn start e h k i = rw (e, h, k, i) refl
+
+-- What a deed leaves is what an equal one leaves.
+pub gave : (s : State) (buffer lent : List ℕ) (used : ℕ) {d e : Deed} {x : Left} → x ≡ leavesOf s buffer lent used d → d ≡ e → x ≡ leavesOf s buffer lent used e
+gave s buffer lent used g h = g ∙ ap (leavesOf s buffer lent used) h

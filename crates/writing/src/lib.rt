@@ -2,10 +2,13 @@
 
 ghost use mathlib.Core.Path.{_≡_};
 ghost use mathlib.Core.List.{List, _++_};
-ghost use Prim.Native.Nat.{ℕ, _≤_};
+ghost use Prim.Native.Nat.{ℕ, _-_, _≤_};
 ghost use lib.ListN.{length};
+ghost use lib.Dec.{leb, eqb};
+ghost use Rattle.octets.specs.Writing.{word, textImage};
 ghost use Rattle.fields.specs.Answers.{says};
-ghost use Rattle.writing.specs.Writer.{room, rule, sameTurn, bounded, early, startTime};
+ghost use Rattle.writing.specs.Writer.{room, rule, sameTurn, bounded, early, unless, turnAt};
+ghost use Rattle.writing.specs.Writer.{recorder, startTime, defaultNamespace, namespaceCount, uri, shortName, serviceCount, service, documentId, openLayout, typeName, attributeName, finish};
 ghost use Rattle.writing.specs.Answers.{left, leavesOf, leavesOn, leaves, deedOf};
 
 use fields::Fault;
@@ -193,6 +196,60 @@ fn give(s: State, buf: &mut [u8], book: &[u8], used: usize, field: Field, head: 
     give_on(s, buf, used, field, head, body, tail)
 }
 
+// A string that completes no layout.
+fn give_text(s: State, buf: &mut [u8], book: &[u8], used: usize, field: Field, xs: &[u8]) -> Answer
+    ensures { λ r. ⌜ left r (now (buf .exit)) (now (book .entry)) ≡ leavesOf s (now (buf .entry)) (now (book .entry)) used (deedOf s field (textImage (now (xs .entry)))) ⌝ }
+{
+    let head = fields::word4(xs.len() as u64);
+    give(s, buf, book, used, field, &head, xs, b"")
+}
+
+// A number of four octets that completes no layout.
+fn give_number(s: State, buf: &mut [u8], book: &[u8], used: usize, field: Field, n: u32) -> Answer
+    ensures { λ r. ⌜ left r (now (buf .exit)) (now (book .entry)) ≡ leavesOf s (now (buf .entry)) (now (book .entry)) used (deedOf s field (word 4 n)) ⌝ }
+{
+    let head = fields::word4(n as u64);
+    give(s, buf, book, used, field, &head, b"", b"")
+}
+
+// 4 for a count over its limit.
+fn at_most(n: u32, most: u32) -> Fault
+    ensures { λ r. ⌜ says r ≡ unless (leb n most) 4 ⌝ }
+{
+    if n <= most { Fault::None } else { Fault::Is(4) }
+}
+
+// 5 for a document id of another length.
+fn sixteen(n: usize) -> Fault
+    ensures { λ r. ⌜ says r ≡ unless (eqb n 16) 5 ⌝ }
+{
+    if n == 16 { Fault::None } else { Fault::Is(5) }
+}
+
+// The turn of a list with something still to come, else the turn behind it.
+fn turn_at(n: u32, more: Turn, behind: Turn) -> Turn
+    ensures { λ r. ⌜ r ≡ turnAt n more behind ⌝ }
+{
+    if n == 0 { behind } else { more }
+}
+
+// One less; of a state out of its bounds the count may be 0.
+fn less_one(n: u32) -> u32
+    ensures { λ r. ⌜ r ≡ n - 1 ⌝ }
+{
+    if n == 0 { 0 } else { n - 1 }
+}
+
+// The version and the recorder.
+pub fn recorder(s: State, buf: &mut [u8], book: &[u8], used: usize, xs: &[u8]) -> Answer
+    ensures { λ r. ⌜ left r (now (buf .exit)) (now (book .entry)) ≡ leaves s (now (buf .entry)) (now (book .entry)) used (recorder (now (xs .entry))) ⌝ }
+{
+    let start = s.start;
+    let field = Field { turn: Turn::Recorder, fault: Fault::None, next: Turn::StartTime, count: 0, start };
+    let head = fields::pair(4, xs.len() as u64);
+    give(s, buf, book, used, field, &head, xs, b"")
+}
+
 // The start time, by its bits.
 pub fn start_time(s: State, buf: &mut [u8], book: &[u8], used: usize, time: u64) -> Answer
     ensures { λ r. ⌜ left r (now (buf .exit)) (now (book .entry)) ≡ leaves s (now (buf .entry)) (now (book .entry)) used (startTime time) ⌝ }
@@ -201,4 +258,119 @@ pub fn start_time(s: State, buf: &mut [u8], book: &[u8], used: usize, time: u64)
     let field = Field { turn: Turn::StartTime, fault: Fault::None, next: Turn::DefaultNamespace, count: 0, start };
     let head = fields::word8(time);
     give(s, buf, book, used, field, &head, b"", b"")
+}
+
+// The default namespace.
+pub fn default_namespace(s: State, buf: &mut [u8], book: &[u8], used: usize, xs: &[u8]) -> Answer
+    ensures { λ r. ⌜ left r (now (buf .exit)) (now (book .entry)) ≡ leaves s (now (buf .entry)) (now (book .entry)) used (defaultNamespace (now (xs .entry))) ⌝ }
+{
+    let start = s.start;
+    let field = Field { turn: Turn::DefaultNamespace, fault: Fault::None, next: Turn::NamespaceCount, count: 0, start };
+    give_text(s, buf, book, used, field, xs)
+}
+
+// The count of other namespaces.
+pub fn namespace_count(s: State, buf: &mut [u8], book: &[u8], used: usize, n: u32) -> Answer
+    ensures { λ r. ⌜ left r (now (buf .exit)) (now (book .entry)) ≡ leaves s (now (buf .entry)) (now (book .entry)) used (namespaceCount n) ⌝ }
+{
+    let start = s.start;
+    let fault = at_most(n, 16);
+    let next = turn_at(n, Turn::Uri, Turn::ServiceCount);
+    let field = Field { turn: Turn::NamespaceCount, fault, next, count: n, start };
+    give_number(s, buf, book, used, field, n)
+}
+
+// A namespace's URI.
+pub fn uri(s: State, buf: &mut [u8], book: &[u8], used: usize, xs: &[u8]) -> Answer
+    ensures { λ r. ⌜ left r (now (buf .exit)) (now (book .entry)) ≡ leaves s (now (buf .entry)) (now (book .entry)) used (uri (now (xs .entry))) ⌝ }
+{
+    let start = s.start;
+    let count = s.count;
+    let field = Field { turn: Turn::Uri, fault: Fault::None, next: Turn::ShortName, count, start };
+    give_text(s, buf, book, used, field, xs)
+}
+
+// A namespace's short name.
+pub fn short_name(s: State, buf: &mut [u8], book: &[u8], used: usize, xs: &[u8]) -> Answer
+    ensures { λ r. ⌜ left r (now (buf .exit)) (now (book .entry)) ≡ leaves s (now (buf .entry)) (now (book .entry)) used (shortName (now (xs .entry))) ⌝ }
+{
+    let start = s.start;
+    let count = less_one(s.count);
+    let next = turn_at(count, Turn::Uri, Turn::ServiceCount);
+    let field = Field { turn: Turn::ShortName, fault: Fault::None, next, count, start };
+    give_text(s, buf, book, used, field, xs)
+}
+
+// The count of service definitions.
+pub fn service_count(s: State, buf: &mut [u8], book: &[u8], used: usize, n: u32) -> Answer
+    ensures { λ r. ⌜ left r (now (buf .exit)) (now (book .entry)) ≡ leaves s (now (buf .entry)) (now (book .entry)) used (serviceCount n) ⌝ }
+{
+    let start = s.start;
+    let fault = at_most(n, 16);
+    let next = turn_at(n, Turn::Service, Turn::DocumentId);
+    let field = Field { turn: Turn::ServiceCount, fault, next, count: n, start };
+    give_number(s, buf, book, used, field, n)
+}
+
+// A service definition.
+pub fn service(s: State, buf: &mut [u8], book: &[u8], used: usize, xs: &[u8]) -> Answer
+    ensures { λ r. ⌜ left r (now (buf .exit)) (now (book .entry)) ≡ leaves s (now (buf .entry)) (now (book .entry)) used (service (now (xs .entry))) ⌝ }
+{
+    let start = s.start;
+    let count = less_one(s.count);
+    let next = turn_at(count, Turn::Service, Turn::DocumentId);
+    let field = Field { turn: Turn::Service, fault: Fault::None, next, count, start };
+    give_text(s, buf, book, used, field, xs)
+}
+
+// The document id, and the four octets FF behind the header.
+pub fn document_id(s: State, buf: &mut [u8], book: &[u8], used: usize, xs: &[u8]) -> Answer
+    ensures { λ r. ⌜ left r (now (buf .exit)) (now (book .entry)) ≡ leaves s (now (buf .entry)) (now (book .entry)) used (documentId (now (xs .entry))) ⌝ }
+{
+    let start = s.start;
+    let fault = sixteen(xs.len());
+    let field = Field { turn: Turn::DocumentId, fault, next: Turn::Element, count: 0, start };
+    let head = fields::word4(16);
+    give(s, buf, book, used, field, &head, xs, &octets::OPEN)
+}
+
+// A layout's kind and number.
+pub fn open_layout(s: State, buf: &mut [u8], book: &[u8], used: usize, n: u32) -> Answer
+    ensures { λ r. ⌜ left r (now (buf .exit)) (now (book .entry)) ≡ leaves s (now (buf .entry)) (now (book .entry)) used (openLayout n) ⌝ }
+{
+    let place = s.place;
+    let field = Field { turn: Turn::Element, fault: Fault::None, next: Turn::TypeName, count: 0, start: place };
+    let head = fields::pair(1, n as u64);
+    give(s, buf, book, used, field, &head, b"", b"")
+}
+
+// A layout's type name.
+pub fn type_name(s: State, buf: &mut [u8], book: &[u8], used: usize, xs: &[u8]) -> Answer
+    ensures { λ r. ⌜ left r (now (buf .exit)) (now (book .entry)) ≡ leaves s (now (buf .entry)) (now (book .entry)) used (typeName (now (xs .entry))) ⌝ }
+{
+    let start = s.start;
+    let field = Field { turn: Turn::TypeName, fault: Fault::None, next: Turn::AttributeCount, count: 0, start };
+    give_text(s, buf, book, used, field, xs)
+}
+
+// An attribute's name.
+pub fn attribute_name(s: State, buf: &mut [u8], book: &[u8], used: usize, xs: &[u8]) -> Answer
+    ensures { λ r. ⌜ left r (now (buf .exit)) (now (book .entry)) ≡ leaves s (now (buf .entry)) (now (book .entry)) used (attributeName (now (xs .entry))) ⌝ }
+{
+    let start = s.start;
+    let count = s.count;
+    let field = Field { turn: Turn::AttributeName, fault: Fault::None, next: Turn::AttributeType, count, start };
+    give_text(s, buf, book, used, field, xs)
+}
+
+// The end: its kind, the count of rows closed, and the end time by its bits.
+pub fn finish(s: State, buf: &mut [u8], book: &[u8], used: usize, time: u64) -> Answer
+    ensures { λ r. ⌜ left r (now (buf .exit)) (now (book .entry)) ≡ leaves s (now (buf .entry)) (now (book .entry)) used (finish time) ⌝ }
+{
+    let start = s.start;
+    let rows = s.rows;
+    let field = Field { turn: Turn::Element, fault: Fault::None, next: Turn::Nothing, count: 0, start };
+    let head = fields::pair(3, rows as u64);
+    let body = fields::word8(time);
+    give(s, buf, book, used, field, &head, &body, b"")
 }

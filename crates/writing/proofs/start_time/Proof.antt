@@ -1,12 +1,12 @@
--- `writing::start_time` meets its contract. Assumes nothing.
+-- `writing::start_time` meets its contract: its octets are the time's. Assumes nothing.
 use borrow.Author.Needs.{needs}
-use mathlib.Core.Path.{refl, ap, _∙_}
+use mathlib.Core.Path.{refl, _∙_}
 use mathlib.Core.List.{append-nil}
 use denote.Ref.{now}
 use Rattle.writing.specs.declared.Turn.the-variants as wants
 use Rattle.writing.specs.Writer.{does}
-use Rattle.writing.specs.Answers.{leavesOf, leaves}
-use Rattle.writing.proofs.Tests.{same-put}
+use Rattle.writing.specs.Answers.{leaves}
+use Rattle.writing.proofs.Tests.{same-put, gave}
 use Rattle.writing.proofs.start_time.Statement.{statement}
 use Rattle.writing.proofs.start_time.Tie as tie
 
@@ -16,7 +16,7 @@ returns c =
     let g = c .before .before in
     let w = g .before .before .before .before .before in
     let a = w .before .before .before .args in
-    g .give .ensures ∙ ap (leavesOf (a .s) (now (a .buf)) (now (a .book)) (a .used))
+    gave (a .s) (now (a .buf)) (now (a .book)) (a .used) (g .give .ensures)
     (same-put (a .s) wants.StartTime (a .s .start) refl (append-nil _ ∙ w .word8 .ensures) refl refl)
 
 pub start-time-spec : {M : Type 1} → statement M
