@@ -1,11 +1,14 @@
--- Octets laid over a list: nothing, one run behind another, what keeps its length and what stands behind. Assumes nothing.
+-- Octets laid over a list: nothing, one run behind another, what keeps its length and what stands behind; and what is left of a room. Assumes nothing.
 use mathlib.Core.Path.{_≡_, refl, sym, ap, _∙_}
-use mathlib.Core.List.{List, [], _++_, append-assoc, append-nil}
-use Prim.Native.Nat.{ℕ, _+_, _-_, _≤_}
+use mathlib.Core.List.{List, [], _++_, append-assoc}
+use mathlib.Core.Bool.{Bool, true, false}
+use Prim.Native.Nat.{ℕ, _+_, _-_, _≤_, _<_}
 use native.Mathlib.Omega.{arith}
 use native.Mathlib.Nat.{add-zero, add-assoc}
 use lib.ListN.{length, take, drop, length-append, length-take, length-drop, take-append-drop}
 use lib.Seq.{length-take-le, drop-append-add, drop-drop, take-at, drop-at}
+use lib.Dec.{leb}
+use borrow.Author.Tests.{leb-true, leb-false, le-leb, lt-leb}
 use Rattle.octets.specs.Writing.{over}
 
 pub over-nil : (s : List ℕ) (at : ℕ) → over s at [] ≡ s
@@ -50,3 +53,11 @@ pub over-three : (s a b c : List ℕ) (at : ℕ) → at + (length a + (length b 
 over-three s a b c at h =
     let l : length (over s at a) ≡ length s = over-length s at a (omega arith) in
     over-over (over s at a) b c (at + length a) (omega arith) ∙ over-over s a (b ++ c) at (omega arith)
+
+-- A test against what is left is a test of the sum.
+pub sub-leb : (a h p : ℕ) → h ≤ p → leb a (p - h) ≡ leb (a + h) p
+sub-leb a h p l = go (leb a (p - h)) refl
+  where
+    go : (t : Bool) → leb a (p - h) ≡ t → leb a (p - h) ≡ leb (a + h) p
+    go true e = let f : a ≤ p - h = leb-true a (p - h) e in rw e (sym (le-leb (a + h) p (omega arith)))
+    go false e = let f : p - h < a = leb-false a (p - h) e in rw e (sym (lt-leb (a + h) p (omega arith)))

@@ -1,12 +1,12 @@
 -- What the bounds of a state say, test by test, and what a turn is by its number. Assumes nothing.
-use mathlib.Core.Path.{_≡_, refl, sym, ap, _∙_}
+use mathlib.Core.Path.{_≡_, refl, sym, ap, _∙_, subst}
 use mathlib.Core.List.{List, [], _∷_}
 use mathlib.Core.Bool.{Bool, true, false, _&&_}
-use Prim.Native.Nat.{ℕ, _+_, _-_, _≤_, _<_}
+use Prim.Native.Nat.{ℕ, _+_, _≤_, _<_}
 use native.Mathlib.Omega.{arith}
 use lib.ListN.{getD}
 use lib.Dec.{leb, ltb, eqb}
-use borrow.Author.Tests.{leb-true, leb-false, eqb-true, ltb-true, ltb-false, le-leb, lt-leb, lt-ltb, le-ltb}
+use borrow.Author.Tests.{leb-true, eqb-true, ltb-true, ltb-false, le-leb, lt-leb, lt-ltb, le-ltb}
 use Rattle.octets.specs.Reading.{choose}
 use Rattle.octets.proofs.Copies.{both-true}
 use Rattle.writing.specs.declared.Turn.{Turn}
@@ -129,10 +129,11 @@ bounded-is s size b = go (isOpen (s .turn)) refl
     go true e = one-open s size (b .place) (b .least) (b .most) (b .rows) (ltb-true _ _ e) ∙ le-leb _ _ (b .head e)
     go false e = none-open s size (b .place) (b .least) (b .most) (b .rows) (let none : rule (s .turn) .head ≤ 0 = ltb-false 0 (rule (s .turn) .head) e in omega arith)
 
--- A difference's test is a sum's.
-pub sub-leb : (a h p : ℕ) → h ≤ p → leb a (p - h) ≡ leb (a + h) p
-sub-leb a h p l = go (leb a (p - h)) refl
-  where
-    go : (t : Bool) → leb a (p - h) ≡ t → leb a (p - h) ≡ leb (a + h) p
-    go true e = let f : a ≤ p - h = leb-true a (p - h) e in rw e (sym (le-leb (a + h) p (omega arith)))
-    go false e = let f : p - h < a = leb-false a (p - h) e in rw e (sym (lt-leb (a + h) p (omega arith)))
+-- At the turn of a state that is inside its bounds: the count's limits, and the first octets of what is open.
+module _ (s : State) (size : ℕ) (w : Bounds s size) (u : Turn) (e : sameTurn (s .turn) u ≡ true) where
+  pub turn-count : (rule u .least ≤ s .count) × (s .count ≤ rule u .most)
+  turn-count = subst (λ (x : Turn). (rule x .least ≤ s .count) × (s .count ≤ rule x .most)) (same-turn (s .turn) u e) (w .least, w .most)
+
+  pub open-head : 0 < rule u .head → s .start + rule u .head ≤ s .place
+  open-head h =
+      subst (λ (x : Turn). isOpen x ≡ true → s .start + rule x .head ≤ s .place) (same-turn (s .turn) u e) (w .head) (lt-ltb 0 (rule u .head) h)

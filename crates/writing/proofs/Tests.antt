@@ -2,24 +2,28 @@
 use mathlib.Core.Path.{_≡_, refl, sym, ap, _∙_}
 use mathlib.Core.List.{List, []}
 use mathlib.Core.Bool.{Bool, true, false, _&&_}
+use mathlib.Core.Option.{Option, some, none}
 use Prim.Native.Nat.{ℕ, _+_, _-_, _≤_, _<_}
 use native.Mathlib.Omega.{arith}
 use native.Mathlib.Nat.{add-zero}
 use lib.ListN.{length}
-use lib.Dec.{leb}
+use lib.Dec.{leb, ltb}
 use borrow.Author.Tests.{leb-true, leb-false, le-leb, lt-leb}
-use Rattle.octets.specs.Reading.{Read, ok, no, _then_, choose, isOk}
+use Rattle.octets.specs.Reading.{Read, ok, no, _then_, choose, isOk, be, same}
 use Rattle.octets.specs.Writing.{over}
-use Rattle.layouts.specs.Book.{Book, bookOf}
+use Rattle.layouts.specs.Layout.{Layout, layoutImage}
+use Rattle.layouts.specs.Book.{Book, find, bookOf, bookIn}
+use Rattle.layouts.specs.declared.Learning.the-variants as learned
+use Rattle.layouts.specs.declared.Learning.the-variants.{Known, New}
 use Rattle.layouts.proofs.Checks.{bad-book}
 use Rattle.fields.proofs.Over.{over-nil}
-use Rattle.fields.specs.Answers.{says}
+use Rattle.fields.specs.Answers.{says, learningFor, learning, refusal, added}
 use Rattle.fields.specs.declared.Fault.{Fault}
 use Rattle.fields.specs.declared.Fault.the-variants.{None, Is}
 use Rattle.writing.specs.declared.Turn.{Turn}
 use Rattle.writing.specs.declared.State.{State}
 use Rattle.writing.specs.declared.Answer.the-variants.{Done, Refused}
-use Rattle.writing.specs.Writer.{room, bounded, fine, unless, Deed, put, layoutSoFar, addition, early, tried, placed, answered}
+use Rattle.writing.specs.Writer.{room, bounded, fine, unless, Deed, put, layoutSoFar, addition, additionFor, early, tried, placed, answered}
 use Rattle.writing.specs.Answers.{Left, left, leavesOf, leavesOn}
 
 -- 17, then 20.
@@ -69,16 +73,33 @@ module _ (s : State) (buffer lent : List ℕ) (used : ℕ) (d : Deed) where
   unfolding leavesOn tried
   leaves-fault n p e = rw e refl
 
-  -- A deed that completes no layout.
-  module _ (f : d .fault ≡ fine) (o : d .completes ≡ false) where
-    pub leaves-23 : leb (d .at + length (d .octets)) (room (length buffer)) ≡ false → leavesOn s buffer lent used d ≡ left (Refused 23 (s .place)) buffer lent
+  module _ (f : d .fault ≡ fine) where
+    pub leaves-layout : (n p : ℕ) → addition (d .completes) (bookIn lent used) used (layoutSoFar s buffer (d .octets)) ≡ no n p
+        → leavesOn s buffer lent used d ≡ left (Refused n (s .place)) buffer lent
     unfolding leavesOn tried
-    leaves-23 e = rw (f, o, e) refl
+    leaves-layout n p a = rw (f, a) refl
 
-    pub leaves-done : leb (d .at + length (d .octets)) (room (length buffer)) ≡ true
-        → leavesOn s buffer lent used d ≡ left (Done (d .next) used) (over buffer (d .at) (d .octets)) lent
-    unfolding leavesOn tried
-    leaves-done e = rw (f, o, e, over-nil lent used, add-zero used) refl
+    module _ (new : List ℕ) (q : ℕ) (a : addition (d .completes) (bookIn lent used) used (layoutSoFar s buffer (d .octets)) ≡ ok new q) where
+      pub leaves-23 : leb (d .at + length (d .octets)) (room (length buffer)) ≡ false → leavesOn s buffer lent used d ≡ left (Refused 23 (s .place)) buffer lent
+      unfolding leavesOn tried
+      leaves-23 e = rw (f, a, e) refl
+
+      pub leaves-done : leb (d .at + length (d .octets)) (room (length buffer)) ≡ true
+          → leavesOn s buffer lent used d ≡ left (Done (d .next) (used + length new)) (over buffer (d .at) (d .octets)) (over lent used new)
+      unfolding leavesOn tried
+      leaves-done e = rw (f, a, e) refl
+
+    -- A deed that completes no layout leaves the book.
+    module _ (o : d .completes ≡ false) where
+      nothing-new : addition (d .completes) (bookIn lent used) used (layoutSoFar s buffer (d .octets)) ≡ ok [] 0
+      nothing-new = rw o refl
+
+      pub leaves-full : leb (d .at + length (d .octets)) (room (length buffer)) ≡ false → leavesOn s buffer lent used d ≡ left (Refused 23 (s .place)) buffer lent
+      leaves-full e = leaves-23 [] 0 nothing-new e
+
+      pub leaves-put : leb (d .at + length (d .octets)) (room (length buffer)) ≡ true
+          → leavesOn s buffer lent used d ≡ left (Done (d .next) used) (over buffer (d .at) (d .octets)) lent
+      leaves-put e = leaves-done [] 0 nothing-new e ∙ rw (over-nil lent used, add-zero used) refl
 
   -- The same, from what the code was answered about 17 and 20.
   module _ (r : Fault) (mine : Bool) (is : says r ≡ early s (length buffer) lent used mine) (turn : mine ≡ d .in-turn) where
@@ -99,3 +120,23 @@ same-put s turn start e h k i = rw (e, h, k, i) refl
 -- What a deed leaves is what an equal one leaves.
 pub gave : (s : State) (buffer lent : List ℕ) (used : ℕ) {d e : Deed} {x : Left} → x ≡ leavesOf s buffer lent used d → d ≡ e → x ≡ leavesOf s buffer lent used e
 gave s buffer lent used g h = g ∙ ap (leavesOf s buffer lent used) h
+
+-- What the book takes, by what it says to a layout's octets.
+pub addition-is : (book : Book) (used : ℕ) (xs : List ℕ)
+    → addition true book used xs ≡ (refusal (learning book used xs) then λ _ _. ok (added (learning book used xs) xs) 0)
+unfolding learning
+addition-is book used xs = go (find (be 4 xs 0) book)
+  where
+    known : (t : Bool) → _≡_ {A = Read (List ℕ)} (unless t 10 then λ _ _. ok [] 0)
+        (refusal (choose t (λ _. Known) (λ _. learned.Refused 10)) then λ _ _. ok (added (choose t (λ _. Known) (λ _. learned.Refused 10)) xs) 0)
+    known true = refl
+    known false = refl
+
+    new : (t : Bool) (v : ℕ) → (unless t 11 then λ _ _. ok xs 0)
+        ≡ (refusal (choose t (λ _. New v) (λ _. learned.Refused 11)) then λ _ _. ok (added (choose t (λ _. New v) (λ _. learned.Refused 11)) xs) 0)
+    new true v = refl
+    new false v = refl
+
+    go : (o : Option Layout) → additionFor book used xs o ≡ (refusal (learningFor book used xs o) then λ _ _. ok (added (learningFor book used xs o) xs) 0)
+    go (some m) = known (same (layoutImage m) xs)
+    go none = new (ltb (length book) 64 && leb (used + length xs) 32768) (used + length xs)

@@ -2,13 +2,15 @@
 
 ghost use mathlib.Core.Path.{_≡_};
 ghost use mathlib.Core.List.{List, _++_};
-ghost use Prim.Native.Nat.{ℕ, _-_, _≤_};
+ghost use Prim.Native.Nat.{ℕ, _+_, _-_, _≤_};
 ghost use lib.ListN.{length};
 ghost use lib.Dec.{leb, eqb};
 ghost use Rattle.octets.specs.Writing.{word, textImage};
+ghost use Rattle.layouts.specs.Book.{IsBook};
 ghost use Rattle.fields.specs.Answers.{says};
-ghost use Rattle.writing.specs.Writer.{room, rule, sameTurn, bounded, early, unless, turnAt};
-ghost use Rattle.writing.specs.Writer.{recorder, startTime, defaultNamespace, namespaceCount, uri, shortName, serviceCount, service, documentId, openLayout, typeName, attributeName, finish};
+ghost use Rattle.writing.specs.declared.Turn.{Turn};
+ghost use Rattle.writing.specs.Writer.{room, rule, sameTurn, bounded, fine, unless, turnAt, attributes, early};
+ghost use Rattle.writing.specs.Writer.{recorder, startTime, defaultNamespace, namespaceCount, uri, shortName, serviceCount, service, documentId, openLayout, typeName, attributeCount, attributeName, finish};
 ghost use Rattle.writing.specs.Answers.{left, leavesOf, leavesOn, leaves, deedOf};
 
 use fields::Fault;
@@ -186,9 +188,9 @@ fn give(s: State, buf: &mut [u8], book: &[u8], used: usize, field: Field, head: 
     ensures { λ r. ⌜ left r (now (buf .exit)) (now (book .entry)) ≡ leavesOf s (now (buf .entry)) (now (book .entry)) used (deedOf s field (now (head .entry) ++ (now (body .entry) ++ now (tail .entry)))) ⌝ }
 {
     let place = s.place;
-    let turn = s.turn;
-    let wanted = field.turn;
-    let mine = same_turn(turn, wanted);
+    let wanted = s.turn;
+    let turn = field.turn;
+    let mine = same_turn(wanted, turn);
     let first = ready(s, buf.len(), book, used, mine);
     if let Fault::Is(n) = first {
         return Answer::Refused(n, place);
@@ -361,6 +363,69 @@ pub fn attribute_name(s: State, buf: &mut [u8], book: &[u8], used: usize, xs: &[
     let count = s.count;
     let field = Field { turn: Turn::AttributeName, fault: Fault::None, next: Turn::AttributeType, count, start };
     give_text(s, buf, book, used, field, xs)
+}
+
+// Behind 17, 20 and its own fault, the octets that complete a layout: 10 and 11, 23, the octets, and the layout in the book.
+fn complete_on(s: State, buf: &mut [u8], book: &mut [u8], used: usize, last: &[u8]) -> Answer
+    requires { ⌜ IsBook (now book) used × (s .start + 8 ≤ s .place) × (s .place ≤ room (length (now buf))) ⌝ }
+    ensures { λ r. ⌜ ((turn : Turn) → left r (now (buf .exit)) (now (book .exit)) ≡ leavesOn s (now (buf .entry)) (now (book .entry)) used (attributes s turn fine (now (last .entry)) 0)) ⌝ }
+{
+    let place = s.place;
+    let start = s.start;
+    let rows = s.rows;
+    let from = start + 4;
+    let learning = fields::meet(book, used, &buf[from..place], last);
+    let fault = fields::refusal_of(learning);
+    if let Fault::Is(n) = fault {
+        return Answer::Refused(n, place);
+    }
+    let room = room_of(buf.len());
+    if room - place < last.len() {
+        return Answer::Refused(23, place);
+    }
+    let total = fields::enter(book, used, learning, &buf[from..place], last);
+    let next = octets::lay(buf, place, last);
+    Answer::Done(State { place: next, turn: Turn::Element, count: 0, start: 0, rows }, total)
+}
+
+// Octets that complete a layout.
+fn complete(s: State, buf: &mut [u8], book: &mut [u8], used: usize, turn: Turn, fault: Fault, last: &[u8]) -> Answer
+    requires { ⌜ 8 ≤ rule turn .head ⌝ }
+    ensures { λ r. ⌜ left r (now (buf .exit)) (now (book .exit)) ≡ leavesOf s (now (buf .entry)) (now (book .entry)) used (attributes s turn (says fault) (now (last .entry)) 0) ⌝ }
+{
+    let place = s.place;
+    let wanted = s.turn;
+    let mine = same_turn(wanted, turn);
+    let first = ready(s, buf.len(), book, used, mine);
+    if let Fault::Is(n) = first {
+        return Answer::Refused(n, place);
+    }
+    if let Fault::Is(n) = fault {
+        return Answer::Refused(n, place);
+    }
+    complete_on(s, buf, book, used, last)
+}
+
+// A number of a layout, behind which so many attributes are still to come.
+fn give_attribute(s: State, buf: &mut [u8], book: &mut [u8], used: usize, turn: Turn, fault: Fault, n: u32, more: u32) -> Answer
+    requires { ⌜ 8 ≤ rule turn .head ⌝ }
+    ensures { λ r. ⌜ left r (now (buf .exit)) (now (book .exit)) ≡ leavesOf s (now (buf .entry)) (now (book .entry)) used (attributes s turn (says fault) (word 4 n) more) ⌝ }
+{
+    let start = s.start;
+    if more == 0 {
+        let last = fields::word4(n as u64);
+        return complete(s, buf, book, used, turn, fault, &last);
+    }
+    let field = Field { turn, fault, next: Turn::AttributeName, count: more, start };
+    give_number(s, buf, book, used, field, n)
+}
+
+// The count of a layout's attributes; with none the layout is complete.
+pub fn attribute_count(s: State, buf: &mut [u8], book: &mut [u8], used: usize, n: u32) -> Answer
+    ensures { λ r. ⌜ left r (now (buf .exit)) (now (book .exit)) ≡ leaves s (now (buf .entry)) (now (book .entry)) used (attributeCount n) ⌝ }
+{
+    let fault = at_most(n, 64);
+    give_attribute(s, buf, book, used, Turn::AttributeCount, fault, n, n)
 }
 
 // The end: its kind, the count of rows closed, and the end time by its bits.

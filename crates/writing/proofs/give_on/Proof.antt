@@ -13,14 +13,13 @@ use lib.Dec.{leb}
 use Rattle.octets.specs.Writing.{over}
 use Rattle.fields.specs.Answers.{says}
 use Rattle.fields.specs.declared.Fault.the-variants.{None, Is}
-use Rattle.fields.proofs.Over.{length-three}
+use Rattle.fields.proofs.Over.{length-three, sub-leb}
 use Rattle.writing.specs.declared.State.{State}
 use Rattle.writing.specs.declared.Field.{Field}
 use Rattle.writing.specs.declared.Answer.the-variants.{Done, Refused}
 use Rattle.writing.specs.Writer.{room}
 use Rattle.writing.specs.Answers.{left, leavesOn, deedOf}
-use Rattle.writing.proofs.Bounds.{sub-leb}
-use Rattle.writing.proofs.Tests.{leaves-fault, leaves-23, leaves-done}
+use Rattle.writing.proofs.Tests.{leaves-fault, leaves-full, leaves-put}
 use Rattle.writing.proofs.give_on.Statement.{statement}
 use Rattle.writing.proofs.give_on.Tie as tie
 
@@ -35,7 +34,7 @@ module _ (s : State) (b : List ℕ) (used : ℕ) (f : Field) (h x t : List ℕ) 
         (sym (g ∙ sub-leb (length h + (length x + length t)) (s .place) r (rw (← k) at p)))
 
     full : u ≡ false → (l : List ℕ) → left (Refused 23 (s .place)) b l ≡ leavesOn s b l used (deedOf s f (h ++ (x ++ t)))
-    full z l = sym (leaves-23 s b l used (deedOf s f (h ++ (x ++ t))) (ap says e) refl (tested ∙ z))
+    full z l = sym (leaves-full s b l used (deedOf s f (h ++ (x ++ t))) (ap says e) refl (tested ∙ z))
 
     fits : u ≡ true → s .place + (length h + (length x + length t)) ≤ length b
     unfolding room
@@ -44,7 +43,7 @@ module _ (s : State) (b : List ℕ) (used : ℕ) (f : Field) (h x t : List ℕ) 
     done : u ≡ true → {q : ℕ} {y : List ℕ} → (q ≡ s .place + length (h ++ (x ++ t))) × (y ≡ over b (s .place) (h ++ (x ++ t)))
         → (l : List ℕ) → left (Done (record { place = q; turn = f .next; count = f .count; start = f .start; rows = s .rows }) used) y l
         ≡ leavesOn s b l used (deedOf s f (h ++ (x ++ t)))
-    done z (v, w) l = rw (v, w) (sym (leaves-done s b l used (deedOf s f (h ++ (x ++ t))) (ap says e) refl (tested ∙ z)))
+    done z (v, w) l = rw (v, w) (sym (leaves-put s b l used (deedOf s f (h ++ (x ++ t))) (ap says e) refl (tested ∙ z)))
 
 returns : tie.Need-returns
 returns c =

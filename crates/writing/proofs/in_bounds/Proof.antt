@@ -4,8 +4,9 @@ use native.Mathlib.Omega.{arith}
 use Prim.Native.Nat.{_+_}
 use mathlib.Core.Path.{sym, _∙_}
 use borrow.Author.Tests.{lt-leb}
+use Rattle.fields.proofs.Over.{sub-leb}
 use Rattle.writing.specs.Writer.{rule}
-use Rattle.writing.proofs.Bounds.{place-over, count-under, count-over, rows-over, none-open, one-open, sub-leb}
+use Rattle.writing.proofs.Bounds.{place-over, count-under, count-over, rows-over, none-open, one-open}
 use Rattle.writing.proofs.in_bounds.Statement.{statement}
 use Rattle.writing.proofs.in_bounds.Tie as tie
 
