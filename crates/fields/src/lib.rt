@@ -2,16 +2,15 @@
 
 ghost use mathlib.Core.Path.{_≡_};
 ghost use mathlib.Core.List.{_++_};
-ghost use Prim.Native.Nat.{ℕ, _+_, _≤_};
+ghost use Prim.Native.Nat.{ℕ, _+_, _^_, _≤_};
 ghost use lib.ListN.{length, drop, replicate};
-ghost use lib.Dec.{leb};
+ghost use lib.Dec.{leb, ltb};
 ghost use Rattle.octets.specs.Reading.{ok, same};
 ghost use Rattle.octets.specs.Writing.{word, over};
 ghost use Rattle.layouts.specs.Layout.{Layout, layoutAt, layoutImage};
 ghost use Rattle.layouts.specs.Book.{find, bookIn, IsBook};
 ghost use Rattle.layouts.specs.Answers.{Reads};
 ghost use Rattle.fields.specs.Answers.{says, firstOf, nextOf, countOf, learning, refusal, added};
-
 use kinds::Basic;
 use layouts::Found;
 use layouts::Learning;
@@ -64,6 +63,19 @@ pub fn pair(a: u64, b: u64) -> [u8; 8]
     w
 }
 
+// Whether a number fits in w octets.
+pub fn fits_octets(n: u64, w: usize) -> bool
+    ensures { λ r. ⌜ r ≡ ltb n (256 ^ w) ⌝ }
+{
+    let mut left = n;
+    let mut i = 0;
+    while i < w {
+        left = left / 256;
+        i += 1;
+    }
+    left == 0
+}
+
 // Whether three runs of octets fit where so many are left; their sum might wrap.
 pub fn fits(left: usize, a: usize, b: usize, c: usize) -> bool
     ensures { λ r. ⌜ r ≡ leb (a + (b + c)) left ⌝ }
@@ -79,7 +91,13 @@ pub fn fits(left: usize, a: usize, b: usize, c: usize) -> bool
 }
 
 // Three runs of octets laid one behind another from a place on; the place behind them.
-pub fn lay3<'h, 'x, 't, 'b>(buf: &'b mut [u8], at: usize, head: &'h [u8], body: &'x [u8], tail: &'t [u8]) -> usize
+pub fn lay3<'h, 'x, 't, 'b>(
+    buf: &'b mut [u8],
+    at: usize,
+    head: &'h [u8],
+    body: &'x [u8],
+    tail: &'t [u8],
+) -> usize
     requires { ⌜ at + (length (now head) + (length (now body) + length (now tail))) ≤ length (now buf) ⌝ }
     ensures { λ r. ⌜ (r ≡ at + length (now (head .entry) ++ (now (body .entry) ++ now (tail .entry)))) × (now (buf .exit) ≡ over (now (buf .entry)) at (now (head .entry) ++ (now (body .entry) ++ now (tail .entry)))) ⌝ }
 {
@@ -200,7 +218,13 @@ pub fn refusal_of(learning: Learning) -> Fault
 }
 
 // A layout that is new laid behind the used octets; the used count.
-pub fn enter<'b, 'f, 'l>(book: &'b mut [u8], used: usize, learning: Learning, front: &'f [u8], last: &'l [u8]) -> usize
+pub fn enter<'b, 'f, 'l>(
+    book: &'b mut [u8],
+    used: usize,
+    learning: Learning,
+    front: &'f [u8],
+    last: &'l [u8],
+) -> usize
     requires { ⌜ used + length (added learning (now front ++ now last)) ≤ length (now book) ⌝ }
     ensures { λ r. ⌜ (r ≡ used + length (added learning (now (front .entry) ++ now (last .entry)))) × (now (book .exit) ≡ over (now (book .entry)) used (added learning (now (front .entry) ++ now (last .entry)))) ⌝ }
 {

@@ -1,3 +1,4 @@
 pub mod Scripts
 pub mod Bounds
 pub mod Tests
+pub mod Values

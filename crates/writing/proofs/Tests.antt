@@ -117,6 +117,10 @@ pub same-put : (s : State) (turn : Turn) (start : ℕ) {f g : Read (Unit {0})} {
     → put s turn f xs t n start ≡ put s turn g ys u m start
 same-put s turn start e h k i = rw (e, h, k, i) refl
 
+-- Two deeds of one fault leave the same where it is a refusal.
+pub same-refused : (s : State) (buffer lent : List ℕ) (used : ℕ) (d e : Deed) (n : ℕ) → d .fault ≡ no n 0 → e .fault ≡ d .fault → leavesOn s buffer lent used d ≡ leavesOn s buffer lent used e
+same-refused s buffer lent used d e n f g = leaves-fault s buffer lent used d n 0 f ∙ sym (leaves-fault s buffer lent used e n 0 (g ∙ f))
+
 -- What a deed leaves is what an equal one leaves.
 pub gave : (s : State) (buffer lent : List ℕ) (used : ℕ) {d e : Deed} {x : Left} → x ≡ leavesOf s buffer lent used d → d ≡ e → x ≡ leavesOf s buffer lent used e
 gave s buffer lent used g h = g ∙ ap (leavesOf s buffer lent used) h

@@ -1,19 +1,29 @@
 // The writer: a document given one field at a time, in image order, into a lent buffer.
 
 ghost use mathlib.Core.Path.{_≡_};
+ghost use mathlib.Core.Bool.{true};
 ghost use mathlib.Core.List.{List, _++_};
 ghost use Prim.Native.Nat.{ℕ, _+_, _-_, _≤_};
 ghost use lib.ListN.{length};
 ghost use lib.Dec.{leb, eqb};
+ghost use Rattle.octets.specs.Reading.{_then_};
 ghost use Rattle.octets.specs.Writing.{word, textImage};
-ghost use Rattle.layouts.specs.Book.{IsBook};
+ghost use Rattle.kinds.specs.Kinds.{formOf, kindOf};
+ghost use Rattle.layouts.specs.Book.{find, bookIn, IsBook};
+ghost use Rattle.rows.specs.Row.{Value, bits, held, valueImage, lengthImage};
 ghost use Rattle.fields.specs.Answers.{says};
 ghost use Rattle.writing.specs.declared.Turn.{Turn};
-ghost use Rattle.writing.specs.Writer.{room, rule, sameTurn, bounded, fine, unless, turnAt, attributes, early};
-ghost use Rattle.writing.specs.Writer.{recorder, startTime, defaultNamespace, namespaceCount, uri, shortName, serviceCount, service, documentId, openLayout, typeName, attributeCount, attributeName, finish};
-ghost use Rattle.writing.specs.Answers.{left, leavesOf, leavesOn, leaves, deedOf};
-
+ghost use Rattle.writing.specs.Writer.{fresh, room, rule, sameTurn, isOpen, bounded, fine, unless, turnAt, known, suits, attributes, does, early};
+ghost use Rattle.writing.specs.Writer.{recorder, startTime, defaultNamespace, namespaceCount, uri, shortName, serviceCount, service, documentId};
+ghost use Rattle.writing.specs.Writer.{openLayout, typeName, attributeCount, attributeName, attributeType, openRow, value, closeRow, giveUp, finish};
+ghost use Rattle.writing.specs.Answers.{left, leavesOf, leavesOn, leaves, deedOf, widthOf, valueFault, closeFault};
+use fields::Counting;
 use fields::Fault;
+use fields::Next;
+use kinds::Basic;
+use kinds::Form;
+use kinds::Typed;
+use layouts::Found;
 
 // What the next call has to give.
 pub enum Turn {
@@ -70,7 +80,12 @@ pub struct Field {
 fn line(number: u32, least: u32, most: u32, head: usize) -> Rule
     ensures { λ r. ⌜ (r .number ≡ number) × (r .least ≡ least) × (r .most ≡ most) × (r .head ≡ head) ⌝ }
 {
-    Rule { number, least, most, head }
+    Rule {
+        number,
+        least,
+        most,
+        head,
+    }
 }
 
 // The rule of a turn.
@@ -162,7 +177,15 @@ fn ready(s: State, len: usize, book: &[u8], used: usize, mine: bool) -> Fault
 }
 
 // Behind 17 and 20, a field that completes no layout: its own fault, 23, its octets behind those written.
-fn give_on(s: State, buf: &mut [u8], used: usize, field: Field, head: &[u8], body: &[u8], tail: &[u8]) -> Answer
+fn give_on(
+    s: State,
+    buf: &mut [u8],
+    used: usize,
+    field: Field,
+    head: &[u8],
+    body: &[u8],
+    tail: &[u8],
+) -> Answer
     requires { ⌜ s .place ≤ room (length (now buf)) ⌝ }
     ensures { λ r. ⌜ ((lent : List ℕ) → left r (now (buf .exit)) lent ≡ leavesOn s (now (buf .entry)) lent used (deedOf s field (now (head .entry) ++ (now (body .entry) ++ now (tail .entry))))) ⌝ }
 {
@@ -180,11 +203,29 @@ fn give_on(s: State, buf: &mut [u8], used: usize, field: Field, head: &[u8], bod
         return Answer::Refused(23, place);
     }
     let next = fields::lay3(buf, place, head, body, tail);
-    Answer::Done(State { place: next, turn, count, start, rows }, used)
+    Answer::Done(
+        State {
+            place: next,
+            turn,
+            count,
+            start,
+            rows,
+        },
+        used,
+    )
 }
 
 // A field that completes no layout.
-fn give(s: State, buf: &mut [u8], book: &[u8], used: usize, field: Field, head: &[u8], body: &[u8], tail: &[u8]) -> Answer
+fn give(
+    s: State,
+    buf: &mut [u8],
+    book: &[u8],
+    used: usize,
+    field: Field,
+    head: &[u8],
+    body: &[u8],
+    tail: &[u8],
+) -> Answer
     ensures { λ r. ⌜ left r (now (buf .exit)) (now (book .entry)) ≡ leavesOf s (now (buf .entry)) (now (book .entry)) used (deedOf s field (now (head .entry) ++ (now (body .entry) ++ now (tail .entry)))) ⌝ }
 {
     let place = s.place;
@@ -242,12 +283,31 @@ fn less_one(n: u32) -> u32
     if n == 0 { 0 } else { n - 1 }
 }
 
+// The state before the first call.
+pub fn fresh() -> State
+    ensures { λ r. ⌜ r ≡ fresh ⌝ }
+{
+    State {
+        place: 0,
+        turn: Turn::Recorder,
+        count: 0,
+        start: 0,
+        rows: 0,
+    }
+}
+
 // The version and the recorder.
 pub fn recorder(s: State, buf: &mut [u8], book: &[u8], used: usize, xs: &[u8]) -> Answer
     ensures { λ r. ⌜ left r (now (buf .exit)) (now (book .entry)) ≡ leaves s (now (buf .entry)) (now (book .entry)) used (recorder (now (xs .entry))) ⌝ }
 {
     let start = s.start;
-    let field = Field { turn: Turn::Recorder, fault: Fault::None, next: Turn::StartTime, count: 0, start };
+    let field = Field {
+        turn: Turn::Recorder,
+        fault: Fault::None,
+        next: Turn::StartTime,
+        count: 0,
+        start,
+    };
     let head = fields::pair(4, xs.len() as u64);
     give(s, buf, book, used, field, &head, xs, b"")
 }
@@ -257,7 +317,13 @@ pub fn start_time(s: State, buf: &mut [u8], book: &[u8], used: usize, time: u64)
     ensures { λ r. ⌜ left r (now (buf .exit)) (now (book .entry)) ≡ leaves s (now (buf .entry)) (now (book .entry)) used (startTime time) ⌝ }
 {
     let start = s.start;
-    let field = Field { turn: Turn::StartTime, fault: Fault::None, next: Turn::DefaultNamespace, count: 0, start };
+    let field = Field {
+        turn: Turn::StartTime,
+        fault: Fault::None,
+        next: Turn::DefaultNamespace,
+        count: 0,
+        start,
+    };
     let head = fields::word8(time);
     give(s, buf, book, used, field, &head, b"", b"")
 }
@@ -267,7 +333,13 @@ pub fn default_namespace(s: State, buf: &mut [u8], book: &[u8], used: usize, xs:
     ensures { λ r. ⌜ left r (now (buf .exit)) (now (book .entry)) ≡ leaves s (now (buf .entry)) (now (book .entry)) used (defaultNamespace (now (xs .entry))) ⌝ }
 {
     let start = s.start;
-    let field = Field { turn: Turn::DefaultNamespace, fault: Fault::None, next: Turn::NamespaceCount, count: 0, start };
+    let field = Field {
+        turn: Turn::DefaultNamespace,
+        fault: Fault::None,
+        next: Turn::NamespaceCount,
+        count: 0,
+        start,
+    };
     give_text(s, buf, book, used, field, xs)
 }
 
@@ -278,7 +350,13 @@ pub fn namespace_count(s: State, buf: &mut [u8], book: &[u8], used: usize, n: u3
     let start = s.start;
     let fault = at_most(n, 16);
     let next = turn_at(n, Turn::Uri, Turn::ServiceCount);
-    let field = Field { turn: Turn::NamespaceCount, fault, next, count: n, start };
+    let field = Field {
+        turn: Turn::NamespaceCount,
+        fault,
+        next,
+        count: n,
+        start,
+    };
     give_number(s, buf, book, used, field, n)
 }
 
@@ -288,7 +366,13 @@ pub fn uri(s: State, buf: &mut [u8], book: &[u8], used: usize, xs: &[u8]) -> Ans
 {
     let start = s.start;
     let count = s.count;
-    let field = Field { turn: Turn::Uri, fault: Fault::None, next: Turn::ShortName, count, start };
+    let field = Field {
+        turn: Turn::Uri,
+        fault: Fault::None,
+        next: Turn::ShortName,
+        count,
+        start,
+    };
     give_text(s, buf, book, used, field, xs)
 }
 
@@ -299,7 +383,13 @@ pub fn short_name(s: State, buf: &mut [u8], book: &[u8], used: usize, xs: &[u8])
     let start = s.start;
     let count = less_one(s.count);
     let next = turn_at(count, Turn::Uri, Turn::ServiceCount);
-    let field = Field { turn: Turn::ShortName, fault: Fault::None, next, count, start };
+    let field = Field {
+        turn: Turn::ShortName,
+        fault: Fault::None,
+        next,
+        count,
+        start,
+    };
     give_text(s, buf, book, used, field, xs)
 }
 
@@ -310,7 +400,13 @@ pub fn service_count(s: State, buf: &mut [u8], book: &[u8], used: usize, n: u32)
     let start = s.start;
     let fault = at_most(n, 16);
     let next = turn_at(n, Turn::Service, Turn::DocumentId);
-    let field = Field { turn: Turn::ServiceCount, fault, next, count: n, start };
+    let field = Field {
+        turn: Turn::ServiceCount,
+        fault,
+        next,
+        count: n,
+        start,
+    };
     give_number(s, buf, book, used, field, n)
 }
 
@@ -321,7 +417,13 @@ pub fn service(s: State, buf: &mut [u8], book: &[u8], used: usize, xs: &[u8]) ->
     let start = s.start;
     let count = less_one(s.count);
     let next = turn_at(count, Turn::Service, Turn::DocumentId);
-    let field = Field { turn: Turn::Service, fault: Fault::None, next, count, start };
+    let field = Field {
+        turn: Turn::Service,
+        fault: Fault::None,
+        next,
+        count,
+        start,
+    };
     give_text(s, buf, book, used, field, xs)
 }
 
@@ -331,7 +433,13 @@ pub fn document_id(s: State, buf: &mut [u8], book: &[u8], used: usize, xs: &[u8]
 {
     let start = s.start;
     let fault = sixteen(xs.len());
-    let field = Field { turn: Turn::DocumentId, fault, next: Turn::Element, count: 0, start };
+    let field = Field {
+        turn: Turn::DocumentId,
+        fault,
+        next: Turn::Element,
+        count: 0,
+        start,
+    };
     let head = fields::word4(16);
     give(s, buf, book, used, field, &head, xs, &octets::OPEN)
 }
@@ -341,7 +449,13 @@ pub fn open_layout(s: State, buf: &mut [u8], book: &[u8], used: usize, n: u32) -
     ensures { λ r. ⌜ left r (now (buf .exit)) (now (book .entry)) ≡ leaves s (now (buf .entry)) (now (book .entry)) used (openLayout n) ⌝ }
 {
     let place = s.place;
-    let field = Field { turn: Turn::Element, fault: Fault::None, next: Turn::TypeName, count: 0, start: place };
+    let field = Field {
+        turn: Turn::Element,
+        fault: Fault::None,
+        next: Turn::TypeName,
+        count: 0,
+        start: place,
+    };
     let head = fields::pair(1, n as u64);
     give(s, buf, book, used, field, &head, b"", b"")
 }
@@ -351,7 +465,13 @@ pub fn type_name(s: State, buf: &mut [u8], book: &[u8], used: usize, xs: &[u8]) 
     ensures { λ r. ⌜ left r (now (buf .exit)) (now (book .entry)) ≡ leaves s (now (buf .entry)) (now (book .entry)) used (typeName (now (xs .entry))) ⌝ }
 {
     let start = s.start;
-    let field = Field { turn: Turn::TypeName, fault: Fault::None, next: Turn::AttributeCount, count: 0, start };
+    let field = Field {
+        turn: Turn::TypeName,
+        fault: Fault::None,
+        next: Turn::AttributeCount,
+        count: 0,
+        start,
+    };
     give_text(s, buf, book, used, field, xs)
 }
 
@@ -361,7 +481,13 @@ pub fn attribute_name(s: State, buf: &mut [u8], book: &[u8], used: usize, xs: &[
 {
     let start = s.start;
     let count = s.count;
-    let field = Field { turn: Turn::AttributeName, fault: Fault::None, next: Turn::AttributeType, count, start };
+    let field = Field {
+        turn: Turn::AttributeName,
+        fault: Fault::None,
+        next: Turn::AttributeType,
+        count,
+        start,
+    };
     give_text(s, buf, book, used, field, xs)
 }
 
@@ -385,11 +511,28 @@ fn complete_on(s: State, buf: &mut [u8], book: &mut [u8], used: usize, last: &[u
     }
     let total = fields::enter(book, used, learning, &buf[from..place], last);
     let next = octets::lay(buf, place, last);
-    Answer::Done(State { place: next, turn: Turn::Element, count: 0, start: 0, rows }, total)
+    Answer::Done(
+        State {
+            place: next,
+            turn: Turn::Element,
+            count: 0,
+            start: 0,
+            rows,
+        },
+        total,
+    )
 }
 
 // Octets that complete a layout.
-fn complete(s: State, buf: &mut [u8], book: &mut [u8], used: usize, turn: Turn, fault: Fault, last: &[u8]) -> Answer
+fn complete(
+    s: State,
+    buf: &mut [u8],
+    book: &mut [u8],
+    used: usize,
+    turn: Turn,
+    fault: Fault,
+    last: &[u8],
+) -> Answer
     requires { ⌜ 8 ≤ rule turn .head ⌝ }
     ensures { λ r. ⌜ left r (now (buf .exit)) (now (book .exit)) ≡ leavesOf s (now (buf .entry)) (now (book .entry)) used (attributes s turn (says fault) (now (last .entry)) 0) ⌝ }
 {
@@ -407,7 +550,16 @@ fn complete(s: State, buf: &mut [u8], book: &mut [u8], used: usize, turn: Turn, 
 }
 
 // A number of a layout, behind which so many attributes are still to come.
-fn give_attribute(s: State, buf: &mut [u8], book: &mut [u8], used: usize, turn: Turn, fault: Fault, n: u32, more: u32) -> Answer
+fn give_attribute(
+    s: State,
+    buf: &mut [u8],
+    book: &mut [u8],
+    used: usize,
+    turn: Turn,
+    fault: Fault,
+    n: u32,
+    more: u32,
+) -> Answer
     requires { ⌜ 8 ≤ rule turn .head ⌝ }
     ensures { λ r. ⌜ left r (now (buf .exit)) (now (book .exit)) ≡ leavesOf s (now (buf .entry)) (now (book .entry)) used (attributes s turn (says fault) (word 4 n) more) ⌝ }
 {
@@ -416,7 +568,13 @@ fn give_attribute(s: State, buf: &mut [u8], book: &mut [u8], used: usize, turn: 
         let last = fields::word4(n as u64);
         return complete(s, buf, book, used, turn, fault, &last);
     }
-    let field = Field { turn, fault, next: Turn::AttributeName, count: more, start };
+    let field = Field {
+        turn,
+        fault,
+        next: Turn::AttributeName,
+        count: more,
+        start,
+    };
     give_number(s, buf, book, used, field, n)
 }
 
@@ -428,13 +586,295 @@ pub fn attribute_count(s: State, buf: &mut [u8], book: &mut [u8], used: usize, n
     give_attribute(s, buf, book, used, Turn::AttributeCount, fault, n, n)
 }
 
+// 8 or 9 for a type number that means no type.
+fn type_fault(t: u32) -> Fault
+    ensures { λ r. ⌜ says r ≡ (kindOf 0 t 0 then λ _ _. fine) ⌝ }
+{
+    let typed = kinds::kind_of(t);
+    match typed {
+        Typed::Is(kind) => Fault::None,
+        Typed::Not(n) => Fault::Is(n),
+    }
+}
+
+// An attribute's type; the last one completes the layout.
+pub fn attribute_type(s: State, buf: &mut [u8], book: &mut [u8], used: usize, t: u32) -> Answer
+    ensures { λ r. ⌜ left r (now (buf .exit)) (now (book .exit)) ≡ leaves s (now (buf .entry)) (now (book .entry)) used (attributeType t) ⌝ }
+{
+    let fault = type_fault(t);
+    let count = less_one(s.count);
+    give_attribute(s, buf, book, used, Turn::AttributeType, fault, t, count)
+}
+
+// 12 for a layout that is not in the book.
+fn layout_fault(book: &[u8], used: usize, n: u32) -> Fault
+    requires { ⌜ IsBook (now book) used ⌝ }
+    ensures { λ r. ⌜ says r ≡ (known (find n (bookIn (now (book .entry)) used)) then λ _ _. fine) ⌝ }
+{
+    let found = layouts::find(book, used, n);
+    match found {
+        Found::At(p) => Fault::None,
+        Found::Nothing => Fault::Is(12),
+    }
+}
+
+// A row's length: stated by so many octets, or the four octets FF.
+fn length_word(stated: bool, size: usize) -> [u8; 4]
+    ensures { λ r. ⌜ r ≡ lengthImage stated size ⌝ }
+{
+    if stated {
+        return fields::word4(size as u64);
+    }
+    octets::OPEN
+}
+
+// A row's kind, its layout's number, and its length: as zero until the row is closed, or unstated.
+pub fn open_row(s: State, buf: &mut [u8], book: &[u8], used: usize, n: u32, stated: bool) -> Answer
+    ensures { λ r. ⌜ left r (now (buf .exit)) (now (book .entry)) ≡ leaves s (now (buf .entry)) (now (book .entry)) used (openRow n stated) ⌝ }
+{
+    let place = s.place;
+    let wanted = s.turn;
+    let mine = same_turn(wanted, Turn::Element);
+    let first = ready(s, buf.len(), book, used, mine);
+    if let Fault::Is(k) = first {
+        return Answer::Refused(k, place);
+    }
+    let fault = layout_fault(book, used, n);
+    let field = Field {
+        turn: Turn::Element,
+        fault,
+        next: Turn::Value,
+        count: 0,
+        start: place,
+    };
+    let head = fields::pair(2, n as u64);
+    let body = length_word(stated, 0);
+    give_on(s, buf, used, field, &head, &body, b"")
+}
+
+// 12 for a row whose layout is not in the book; 21 with no field left, or for a value that is not of the next field's type.
+fn value_fault(next: Next, b: Basic, fits: bool) -> Fault
+    ensures { λ r. ⌜ says r ≡ valueFault next b fits ⌝ }
+{
+    match next {
+        Next::Unknown => Fault::Is(12),
+        Next::Missing => Fault::Is(21),
+        Next::Of(a) => {
+            if kinds::code_of(a) != kinds::code_of(b) {
+                return Fault::Is(21);
+            }
+            if fits { Fault::None } else { Fault::Is(21) }
+        }
+    }
+}
+
+// A value of a basic type, of which it is known whether it has an image there, and which.
+fn give_value(
+    s: State,
+    buf: &mut [u8],
+    book: &[u8],
+    used: usize,
+    b: Basic,
+    fits: bool,
+    head: &[u8],
+    body: &[u8],
+) -> Answer
+    ensures { λ r. ⌜ ((v : Value) → fits ≡ suits (formOf b) v → (fits ≡ true → now (head .entry) ++ now (body .entry) ≡ valueImage (formOf b) v) → left r (now (buf .exit)) (now (book .entry)) ≡ leaves s (now (buf .entry)) (now (book .entry)) used (value b v)) ⌝ }
+{
+    let place = s.place;
+    let start = s.start;
+    let count = s.count;
+    let wanted = s.turn;
+    let mine = same_turn(wanted, Turn::Value);
+    let first = ready(s, buf.len(), book, used, mine);
+    if let Fault::Is(n) = first {
+        return Answer::Refused(n, place);
+    }
+    let number = octets::u32_at(buf, start + 4);
+    let next = fields::next_of(book, used, number, count);
+    let fault = value_fault(next, b, fits);
+    let field = Field {
+        turn: Turn::Value,
+        fault,
+        next: Turn::Value,
+        count: count + 1,
+        start,
+    };
+    give_on(s, buf, used, field, head, body, b"")
+}
+
+// Whether a number is a value of a basic type.
+fn suits_number(b: Basic, n: u64) -> bool
+    ensures { λ r. ⌜ r ≡ suits (formOf b) (bits n) ⌝ }
+{
+    let form = kinds::form_of(b);
+    match form {
+        Form::Fixed(w) => fields::fits_octets(n, w),
+        Form::Truth => n <= 1,
+        Form::Octets => false,
+        Form::Text => false,
+    }
+}
+
+// How many octets a number of a basic type has.
+fn width_of(b: Basic) -> usize
+    ensures { λ r. ⌜ (r ≡ widthOf (formOf b)) × (r ≤ 8) ⌝ }
+{
+    let form = kinds::form_of(b);
+    match form {
+        Form::Fixed(w) => w,
+        Form::Truth => 1,
+        Form::Octets => 0,
+        Form::Text => 0,
+    }
+}
+
+// A value of the open row that is a number, by its bits.
+pub fn value_number(s: State, buf: &mut [u8], book: &[u8], used: usize, b: Basic, n: u64) -> Answer
+    ensures { λ r. ⌜ left r (now (buf .exit)) (now (book .entry)) ≡ leaves s (now (buf .entry)) (now (book .entry)) used (value b (bits n)) ⌝ }
+{
+    let fits = suits_number(b, n);
+    let from = 8 - width_of(b);
+    let head = fields::word8(n);
+    give_value(s, buf, book, used, b, fits, &head[from..], b"")
+}
+
+// Whether octets are a value of a basic type.
+fn suits_octets(b: Basic) -> bool
+    ensures { λ r. ⌜ ((xs : List ℕ) → r ≡ suits (formOf b) (held xs)) ⌝ }
+{
+    let form = kinds::form_of(b);
+    match form {
+        Form::Fixed(w) => false,
+        Form::Truth => false,
+        Form::Octets => true,
+        Form::Text => true,
+    }
+}
+
+// A value of the open row that is octets or a string.
+pub fn value_octets(
+    s: State,
+    buf: &mut [u8],
+    book: &[u8],
+    used: usize,
+    b: Basic,
+    xs: &[u8],
+) -> Answer
+    ensures { λ r. ⌜ left r (now (buf .exit)) (now (book .entry)) ≡ leaves s (now (buf .entry)) (now (book .entry)) used (value b (held (now (xs .entry)))) ⌝ }
+{
+    let fits = suits_octets(b);
+    let head = fields::word4(xs.len() as u64);
+    give_value(s, buf, book, used, b, fits, &head, xs)
+}
+
+// 12 for a row whose layout is not in the book; 22 for one with fields missing.
+fn close_fault(counting: Counting, count: u32) -> Fault
+    ensures { λ r. ⌜ says r ≡ closeFault counting count ⌝ }
+{
+    match counting {
+        Counting::Unknown => Fault::Is(12),
+        Counting::Has(k) => {
+            if k <= count {
+                Fault::None
+            } else {
+                Fault::Is(22)
+            }
+        }
+    }
+}
+
+// Behind 17 and 20, the open row closed: its length where it is stated, and the row counted.
+fn close_on(s: State, buf: &mut [u8], book: &[u8], used: usize) -> Answer
+    requires { ⌜ IsBook (now book) used × (s .start + 12 ≤ s .place) × (s .place ≤ room (length (now buf))) × (s .rows ≤ 1048576) ⌝ }
+    ensures { λ r. ⌜ left r (now (buf .exit)) (now (book .entry)) ≡ leavesOn s (now (buf .entry)) (now (book .entry)) used (does s (now (buf .entry)) (bookIn (now (book .entry)) used) closeRow) ⌝ }
+{
+    let place = s.place;
+    let start = s.start;
+    let count = s.count;
+    let rows = s.rows;
+    let number = octets::u32_at(buf, start + 4);
+    let counting = fields::count_of(book, used, number);
+    let fault = close_fault(counting, count);
+    if let Fault::Is(n) = fault {
+        return Answer::Refused(n, place);
+    }
+    let stands = octets::u32_at(buf, start + 8);
+    let size = length_word(stands < 0xffff_ffff, place - (start + 12));
+    octets::lay(buf, start + 8, &size);
+    Answer::Done(
+        State {
+            place,
+            turn: Turn::Element,
+            count: 0,
+            start: 0,
+            rows: rows + 1,
+        },
+        used,
+    )
+}
+
+// The open row closed.
+pub fn close_row(s: State, buf: &mut [u8], book: &[u8], used: usize) -> Answer
+    ensures { λ r. ⌜ left r (now (buf .exit)) (now (book .entry)) ≡ leaves s (now (buf .entry)) (now (book .entry)) used closeRow ⌝ }
+{
+    let place = s.place;
+    let wanted = s.turn;
+    let mine = same_turn(wanted, Turn::Value);
+    let first = ready(s, buf.len(), book, used, mine);
+    if let Fault::Is(n) = first {
+        return Answer::Refused(n, place);
+    }
+    close_on(s, buf, book, used)
+}
+
+// Whether a layout or a row is open.
+fn is_open(t: Turn) -> bool
+    ensures { λ r. ⌜ r ≡ isOpen t ⌝ }
+{
+    let rule = rule_of(t);
+    0 < rule.head
+}
+
+// The open layout or row given up: its octets are zero, and its start is the place.
+pub fn give_up(s: State, buf: &mut [u8], book: &[u8], used: usize) -> Answer
+    ensures { λ r. ⌜ left r (now (buf .exit)) (now (book .entry)) ≡ leaves s (now (buf .entry)) (now (book .entry)) used giveUp ⌝ }
+{
+    let place = s.place;
+    let start = s.start;
+    let rows = s.rows;
+    let turn = s.turn;
+    let mine = is_open(turn);
+    let first = ready(s, buf.len(), book, used, mine);
+    if let Fault::Is(n) = first {
+        return Answer::Refused(n, place);
+    }
+    fields::lay_zeros(buf, start, place - start);
+    Answer::Done(
+        State {
+            place: start,
+            turn: Turn::Element,
+            count: 0,
+            start: 0,
+            rows,
+        },
+        used,
+    )
+}
+
 // The end: its kind, the count of rows closed, and the end time by its bits.
 pub fn finish(s: State, buf: &mut [u8], book: &[u8], used: usize, time: u64) -> Answer
     ensures { λ r. ⌜ left r (now (buf .exit)) (now (book .entry)) ≡ leaves s (now (buf .entry)) (now (book .entry)) used (finish time) ⌝ }
 {
     let start = s.start;
     let rows = s.rows;
-    let field = Field { turn: Turn::Element, fault: Fault::None, next: Turn::Nothing, count: 0, start };
+    let field = Field {
+        turn: Turn::Element,
+        fault: Fault::None,
+        next: Turn::Nothing,
+        count: 0,
+        start,
+    };
     let head = fields::pair(3, rows as u64);
     let body = fields::word8(time);
     give(s, buf, book, used, field, &head, &body, b"")

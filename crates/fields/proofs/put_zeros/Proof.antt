@@ -27,9 +27,9 @@ put-zeros-spec =
     tie.close
     (tie.spec Inv-loop μ-loop (λ c. (search needs, refl, fill-none (now (c .args .rest)) 0)) (λ c. search needs) (λ c. search needs) (λ c. search needs)
     (λ c.
-      let l = c .before .loop in
-      (search needs, simp length-set (l .inv .1), more (now (c .before .before .args .rest)) (l .rest) (l .i) (search needs) (l .inv .2)))
+    let l = c .before .loop in
+    (search needs, simp length-set (l .inv .1), more (now (c .before .before .args .rest)) (l .rest) (l .i) (search needs) (l .inv .2)))
     (λ c. search needs)
     (λ c.
-      let l = c .before .loop in
-      whole (now (c .before .before .args .rest)) (l .rest) (l .i) (c .before .before .args .n) (search needs) (search needs) (l .inv .2)))
+    let l = c .before .loop in
+    whole (now (c .before .before .args .rest)) (l .rest) (l .i) (c .before .before .args .n) (search needs) (search needs) (l .inv .2)))
