@@ -2,3 +2,5 @@ pub mod Scripts
 pub mod Bounds
 pub mod Tests
 pub mod Values
+pub mod Calls
+pub mod Kept

@@ -1,6 +1,6 @@
 -- Every script answers and leaves what it says: the definition is run. Assumes nothing.
 use mathlib.Core.Path.{_≡_, refl}
-use mathlib.Core.Bool.{Bool, true, false}
+use mathlib.Core.Bool.{true}
 use Rattle.octets.specs.Reading.{be, part, numberIn, octetsIn, textIn, count, run}
 use Rattle.octets.specs.Writing.{word, textImage, images, over}
 use Rattle.kinds.specs.Kinds.{among, basicOf, kindAt}

@@ -3,12 +3,11 @@ use mathlib.Core.Path.{_≡_, refl, sym, ap, _∙_}
 use mathlib.Core.List.{List, []}
 use mathlib.Core.Bool.{Bool, true, false, _&&_}
 use mathlib.Core.Option.{Option, some, none}
-use Prim.Native.Nat.{ℕ, _+_, _-_, _≤_, _<_}
+use Prim.Native.Nat.{ℕ, _+_, _-_}
 use native.Mathlib.Omega.{arith}
 use native.Mathlib.Nat.{add-zero}
 use lib.ListN.{length}
 use lib.Dec.{leb, ltb}
-use borrow.Author.Tests.{leb-true, leb-false, le-leb, lt-leb}
 use Rattle.octets.specs.Reading.{Read, ok, no, _then_, choose, isOk, be, same}
 use Rattle.octets.specs.Writing.{over}
 use Rattle.layouts.specs.Layout.{Layout, layoutImage}
@@ -23,7 +22,7 @@ use Rattle.fields.specs.declared.Fault.the-variants.{None, Is}
 use Rattle.writing.specs.declared.Turn.{Turn}
 use Rattle.writing.specs.declared.State.{State}
 use Rattle.writing.specs.declared.Answer.the-variants.{Done, Refused}
-use Rattle.writing.specs.Writer.{room, bounded, fine, unless, Deed, put, layoutSoFar, addition, additionFor, early, tried, placed, answered}
+use Rattle.writing.specs.Writer.{room, bounded, fine, unless, Deed, put, layoutSoFar, addition, additionFor, early, tried, answered}
 use Rattle.writing.specs.Answers.{Left, left, leavesOf, leavesOn}
 
 -- 17, then 20.

@@ -1,5 +1,5 @@
 -- Values and the closing of a row: their own faults by what the book was asked, and a number's octets by its width. Assumes nothing.
-use mathlib.Core.Path.{_≡_, refl, sym, ap, _∙_}
+use mathlib.Core.Path.{_≡_, refl, sym, _∙_}
 use mathlib.Core.List.{List, [], _∷_}
 use mathlib.Core.Bool.{Bool, true, false, _&&_}
 use mathlib.Core.Option.{Option, some, none}
@@ -7,7 +7,7 @@ use Prim.Native.Nat.{ℕ, _+_, _-_, _≤_}
 use native.Mathlib.Omega.{arith}
 use lib.ListN.{length, drop}
 use lib.Dec.{leb, eqb}
-use Rattle.octets.specs.Reading.{Read, ok, no, _then_}
+use Rattle.octets.specs.Reading.{no, _then_}
 use Rattle.octets.specs.Writing.{word, Each, Octet}
 use Rattle.octets.proofs.Spans.{length-word}
 use Rattle.kinds.specs.declared.Basic.{Basic}
@@ -24,7 +24,7 @@ use Rattle.writing.specs.declared.Turn.the-variants as wants
 use Rattle.writing.specs.declared.State.{State}
 use Rattle.writing.specs.Writer.{room, sameTurn, unless, known, suits, isNext}
 use Rattle.writing.specs.Answers.{widthOf, valueFault, closeFault}
-use Rattle.writing.proofs.Bounds.{Bounds, bounds, turn-count, open-head}
+use Rattle.writing.proofs.Bounds.{bounds, turn-count, open-head}
 use Rattle.writing.proofs.Tests.{Ready}
 
 -- A value's own fault, by the next field.

@@ -1,6 +1,6 @@
 -- `fields::count_of` meets its contract: the count that stands in the layout found. Assumes nothing.
 use borrow.Author.Needs.{needs}
-use mathlib.Core.Path.{_≡_, refl, sym, ap, _∙_, subst}
+use mathlib.Core.Path.{_≡_, refl, sym, ap, subst}
 use denote.Ref.{now}
 use lib.ListN.{length, take}
 use Rattle.octets.specs.Reading.{isOk}

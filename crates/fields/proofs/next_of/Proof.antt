@@ -1,6 +1,6 @@
 -- `fields::next_of` meets its contract: the field of the layout found. Assumes nothing.
 use borrow.Author.Needs.{needs}
-use mathlib.Core.Path.{_≡_, refl, sym, ap, _∙_, subst}
+use mathlib.Core.Path.{_≡_, refl, sym, subst}
 use denote.Ref.{now}
 use lib.ListN.{length, take}
 use Rattle.octets.specs.Writing.{Each, Octet}

@@ -1,6 +1,6 @@
 -- `writing::attribute_count` meets its contract: its number is given as the call says. Assumes nothing.
 use borrow.Author.Needs.{needs}
-use mathlib.Core.Path.{_≡_, refl, ap}
+use mathlib.Core.Path.{ap}
 use denote.Ref.{now}
 use Rattle.octets.specs.Reading.{Read}
 use Rattle.octets.specs.Writing.{word}

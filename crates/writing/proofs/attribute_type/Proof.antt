@@ -1,6 +1,6 @@
 -- `writing::attribute_type` meets its contract: its number is given as the call says, with one less to come. Assumes nothing.
 use borrow.Author.Needs.{needs}
-use mathlib.Core.Path.{_≡_, refl, sym, ap, _∙_}
+use mathlib.Core.Path.{_≡_, refl}
 use denote.Ref.{now}
 use Prim.Native.Nat.{ℕ}
 use Rattle.octets.specs.Reading.{Read}

@@ -1,13 +1,12 @@
 -- `writing::complete` meets its contract: 17 and 20 first, the own fault, then what is behind them. Assumes nothing.
 use borrow.Author.Needs.{needs}
 use native.Mathlib.Omega.{arith}
-use Prim.Native.Nat.{ℕ, _+_, _≤_, _<_}
+use Prim.Native.Nat.{ℕ, _+_, _≤_}
 use mathlib.Core.Path.{_≡_, refl, sym, ap, _∙_}
-use mathlib.Core.Bool.{Bool, true, false}
+use mathlib.Core.Bool.{Bool}
 use mathlib.Core.List.{List}
 use denote.Ref.{now}
 use lib.ListN.{length}
-use borrow.Author.Tests.{lt-ltb}
 use Rattle.octets.specs.Writing.{Each, Octet}
 use Rattle.octets.proofs.Spans.{each-octet}
 use Rattle.layouts.specs.Book.{IsBook}
@@ -18,7 +17,7 @@ use Rattle.fields.specs.declared.Fault.the-variants.{None, Is}
 use Rattle.writing.specs.declared.Turn.{Turn}
 use Rattle.writing.specs.declared.State.{State}
 use Rattle.writing.specs.declared.Answer.the-variants.{Refused}
-use Rattle.writing.specs.Writer.{room, rule, sameTurn, isOpen, fine, attributes, early}
+use Rattle.writing.specs.Writer.{room, rule, sameTurn, fine, attributes, early}
 use Rattle.writing.specs.Answers.{Left, left, leavesOf, leavesOn}
 use Rattle.writing.proofs.Bounds.{same-turn, bounds, open-head}
 use Rattle.writing.proofs.Tests.{leaves-fault, stopped, passed, at-ready}

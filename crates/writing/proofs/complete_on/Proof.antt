@@ -3,15 +3,15 @@ use borrow.Author.Needs.{needs}
 use borrow.Author.Tests.{le-leb, lt-leb}
 use native.Mathlib.Omega.{arith}
 use Prim.Native.Nat.{ℕ, _+_, _-_, _≤_, _<_}
-use mathlib.Core.Path.{_≡_, refl, sym, ap, _∙_}
+use mathlib.Core.Path.{_≡_, refl, sym, _∙_}
 use mathlib.Core.Bool.{true}
 use mathlib.Core.List.{List, _++_}
 use denote.Ref.{now}
 use lib.ListN.{length, take, drop}
-use Rattle.octets.specs.Reading.{Read, ok, no, _then_, part}
-use Rattle.octets.specs.Writing.{over, Each, Octet}
+use Rattle.octets.specs.Reading.{ok, _then_, part}
+use Rattle.octets.specs.Writing.{over}
 use Rattle.octets.proofs.Spans.{each-octet}
-use Rattle.layouts.specs.Book.{bookIn, IsBook}
+use Rattle.layouts.specs.Book.{bookIn}
 use Rattle.layouts.specs.declared.Learning.{Learning}
 use Rattle.fields.specs.Answers.{says, learning, refusal, added}
 use Rattle.fields.specs.declared.Fault.{Fault}

@@ -1,6 +1,6 @@
 -- `writing::document_id` meets its contract: its octets are the length's, the id's and the four octets FF. Assumes nothing.
 use borrow.Author.Needs.{needs}
-use mathlib.Core.Path.{_≡_, refl, sym, ap, _∙_}
+use mathlib.Core.Path.{_≡_, refl, sym}
 use mathlib.Core.List.{List, _∷_, [], _++_, append-assoc}
 use Prim.Native.Nat.{ℕ}
 use denote.Ref.{now}

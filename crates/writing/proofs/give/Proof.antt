@@ -1,6 +1,6 @@
 -- `writing::give` meets its contract: 17 and 20 first, then what is behind them. Assumes nothing.
 use borrow.Author.Needs.{needs}
-use mathlib.Core.Path.{refl, sym, _∙_}
+use mathlib.Core.Path.{sym, _∙_}
 use mathlib.Core.List.{_++_}
 use denote.Ref.{now}
 use Rattle.writing.specs.Answers.{deedOf}

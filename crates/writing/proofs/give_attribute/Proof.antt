@@ -2,17 +2,16 @@
 use borrow.Author.Needs.{needs}
 use borrow.Author.Tests.{ne-eqb}
 use Prim.Native.Nat.{ℕ}
-use mathlib.Core.Path.{_≡_, refl, sym, ap, _∙_}
+use mathlib.Core.Path.{_≡_, refl}
 use mathlib.Core.List.{List}
 use denote.Ref.{now}
-use Rattle.octets.specs.Reading.{Read}
 use Rattle.octets.specs.Writing.{word}
 use Rattle.fields.specs.Answers.{says}
 use Rattle.fields.specs.declared.Fault.{Fault}
 use Rattle.writing.specs.declared.Turn.{Turn}
 use Rattle.writing.specs.declared.Turn.the-variants as wants
 use Rattle.writing.specs.declared.State.{State}
-use Rattle.writing.specs.Writer.{Deed, put, attributes}
+use Rattle.writing.specs.Writer.{put, attributes}
 use Rattle.writing.proofs.Tests.{gave}
 use Rattle.writing.proofs.give_attribute.Statement.{statement}
 use Rattle.writing.proofs.give_attribute.Tie as tie

@@ -1,18 +1,18 @@
 -- `writing::give_value` meets its contract: 17 and 20 first, then the next field looked up and the value put. Assumes nothing.
 use borrow.Author.Needs.{needs}
 use native.Mathlib.Omega.{arith}
-use Prim.Native.Nat.{ℕ, _+_, _≤_}
+use Prim.Native.Nat.{ℕ, _+_}
 use mathlib.Core.Path.{_≡_, refl, sym, ap, _∙_}
 use mathlib.Core.Bool.{Bool, true, false}
 use mathlib.Core.List.{List, [], _++_, append-nil}
 use denote.Ref.{now}
-use lib.ListN.{length, drop}
-use Rattle.octets.specs.Reading.{Read, no, _then_, be}
+use lib.ListN.{length}
+use Rattle.octets.specs.Reading.{be}
 use Rattle.octets.specs.Writing.{Each, Octet}
 use Rattle.octets.proofs.Spans.{each-octet}
 use Rattle.kinds.specs.declared.Basic.{Basic}
 use Rattle.kinds.specs.Kinds.{formOf}
-use Rattle.layouts.specs.Book.{find, bookIn, IsBook}
+use Rattle.layouts.specs.Book.{find, bookIn}
 use Rattle.rows.specs.Row.{Value, valueImage}
 use Rattle.fields.specs.Answers.{says, nextOf}
 use Rattle.fields.specs.declared.Fault.{Fault}

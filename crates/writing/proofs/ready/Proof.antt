@@ -1,11 +1,8 @@
 -- `writing::ready` meets its contract: 17, then 20 by each of its causes. Assumes nothing.
 use borrow.Author.Needs.{needs}
 use borrow.Author.Tests.{not-true, not-false}
-use mathlib.Core.Path.{_≡_, refl, sym, _∙_}
-use mathlib.Core.Bool.{Bool, true, false, _&&_}
+use mathlib.Core.Path.{refl, sym, _∙_}
 use denote.Ref.{now}
-use Rattle.octets.specs.Reading.{Read, no}
-use Rattle.writing.specs.Writer.{unless, fine}
 use Rattle.writing.proofs.Tests.{early-17, early-on}
 use Rattle.writing.proofs.ready.Statement.{statement}
 use Rattle.writing.proofs.ready.Tie as tie

@@ -1,6 +1,6 @@
 -- `writing::service` meets its contract: its string is given as the call says, with one less to come. Assumes nothing.
 use borrow.Author.Needs.{needs}
-use mathlib.Core.Path.{refl, _∙_, ap}
+use mathlib.Core.Path.{refl}
 use denote.Ref.{now}
 use Rattle.writing.specs.declared.Turn.the-variants as wants
 use Rattle.writing.specs.Writer.{does}

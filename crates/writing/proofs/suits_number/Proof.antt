@@ -1,6 +1,6 @@
 -- `writing::suits_number` meets its contract, by each form. Assumes nothing.
 use borrow.Author.Needs.{needs}
-use mathlib.Core.Path.{refl, sym, ap, _∙_}
+use mathlib.Core.Path.{refl, sym, _∙_}
 use Rattle.writing.proofs.suits_number.Statement.{statement}
 use Rattle.writing.proofs.suits_number.Tie as tie
 

@@ -1,11 +1,9 @@
 -- `writing::value_number` meets its contract: the last of its eight octets are its image. Assumes nothing.
 use borrow.Author.Needs.{needs}
 use Prim.Native.Nat.{ℕ, _-_}
-use mathlib.Core.Path.{_≡_, refl, sym, ap, _∙_}
+use mathlib.Core.Path.{_≡_, sym, ap, _∙_}
 use mathlib.Core.List.{List, [], _++_, append-nil}
-use denote.Ref.{now}
-use lib.ListN.{length, take, drop, length-drop}
-use lib.Seq.{take-all}
+use lib.ListN.{length, take, drop}
 use Rattle.octets.specs.Writing.{word}
 use Rattle.octets.proofs.Spans.{length-word}
 use Rattle.octets.proofs.Copies.{rest}
