@@ -1,0 +1,236 @@
+// The octets of a writer's field: numbers as octets, and octets laid over the rest of a lent buffer.
+
+ghost use mathlib.Core.Path.{_≡_};
+ghost use mathlib.Core.List.{_++_};
+ghost use Prim.Native.Nat.{ℕ, _+_, _^_, _≤_};
+ghost use lib.ListN.{length, drop, replicate};
+ghost use lib.Dec.{leb, ltb};
+ghost use Rattle.octets.specs.Reading.{ok, same};
+ghost use Rattle.octets.specs.Writing.{word, over};
+ghost use Rattle.layouts.specs.Layout.{Layout, layoutAt, layoutImage};
+ghost use Rattle.layouts.specs.Book.{find, bookIn, IsBook};
+ghost use Rattle.layouts.specs.Answers.{Reads};
+ghost use Rattle.fields.specs.Answers.{says, firstOf, nextOf, countOf, learning, refusal, added};
+use kinds::Basic;
+use layouts::Found;
+use layouts::Learning;
+use layouts::Looked;
+
+// Nothing against a call so far, or a refusal's number.
+pub enum Fault {
+    None,
+    Is(u32),
+}
+
+// The next field of a row: its layout is not in the book, no field is left, or its basic type.
+pub enum Next {
+    Unknown,
+    Missing,
+    Of(Basic),
+}
+
+// How many fields a row has: its layout is not in the book, or its attributes.
+pub enum Counting {
+    Unknown,
+    Has(u32),
+}
+
+// A number of four octets.
+pub fn word4(v: u64) -> [u8; 4]
+    ensures { λ r. ⌜ r ≡ word 4 v ⌝ }
+{
+    let mut w = [0u8; 4];
+    octets::put_number(&mut w, 4, v);
+    w
+}
+
+// A number of eight octets.
+pub fn word8(v: u64) -> [u8; 8]
+    ensures { λ r. ⌜ r ≡ word 8 v ⌝ }
+{
+    let mut w = [0u8; 8];
+    octets::put_number(&mut w, 8, v);
+    w
+}
+
+// Two numbers of four octets.
+pub fn pair(a: u64, b: u64) -> [u8; 8]
+    ensures { λ r. ⌜ r ≡ word 4 a ++ word 4 b ⌝ }
+{
+    let mut w = [0u8; 8];
+    octets::put_number(&mut w, 4, a);
+    octets::lay_number(&mut w, 4, 4, b);
+    w
+}
+
+// Whether a number fits in w octets.
+pub fn fits_octets(n: u64, w: usize) -> bool
+    ensures { λ r. ⌜ r ≡ ltb n (256 ^ w) ⌝ }
+{
+    let mut left = n;
+    let mut i = 0;
+    while i < w {
+        left = left / 256;
+        i += 1;
+    }
+    left == 0
+}
+
+// Whether three runs of octets fit where so many are left; their sum might wrap.
+pub fn fits(left: usize, a: usize, b: usize, c: usize) -> bool
+    ensures { λ r. ⌜ r ≡ leb (a + (b + c)) left ⌝ }
+{
+    if left < a {
+        return false;
+    }
+    let more = left - a;
+    if more < b {
+        return false;
+    }
+    c <= more - b
+}
+
+// Three runs of octets laid one behind another from a place on; the place behind them.
+pub fn lay3<'h, 'x, 't, 'b>(
+    buf: &'b mut [u8],
+    at: usize,
+    head: &'h [u8],
+    body: &'x [u8],
+    tail: &'t [u8],
+) -> usize
+    requires { ⌜ at + (length (now head) + (length (now body) + length (now tail))) ≤ length (now buf) ⌝ }
+    ensures { λ r. ⌜ (r ≡ at + length (now (head .entry) ++ (now (body .entry) ++ now (tail .entry)))) × (now (buf .exit) ≡ over (now (buf .entry)) at (now (head .entry) ++ (now (body .entry) ++ now (tail .entry)))) ⌝ }
+{
+    let a = octets::lay(buf, at, head);
+    let b = octets::lay(buf, a, body);
+    octets::lay(buf, b, tail)
+}
+
+// So many octets of zero put at the start of the rest that is lent.
+fn put_zeros(rest: &mut [u8], n: usize)
+    requires { ⌜ n ≤ length (now rest) ⌝ }
+    ensures { λ _. ⌜ now (rest .exit) ≡ replicate n 0 ++ drop n (now (rest .entry)) ⌝ }
+{
+    let mut i = 0;
+    while i < n {
+        rest[i] = 0;
+        i += 1;
+    }
+}
+
+// So many octets of zero laid over a lent buffer from a place on.
+pub fn lay_zeros(buf: &mut [u8], at: usize, n: usize)
+    requires { ⌜ at + n ≤ length (now buf) ⌝ }
+    ensures { λ _. ⌜ now (buf .exit) ≡ over (now (buf .entry)) at (replicate n 0) ⌝ }
+{
+    put_zeros(&mut buf[at..], n);
+}
+
+// Field n of the layout at a place that is known to be accepted.
+fn next_at(s: &[u8], at: usize, n: u32) -> Next
+    requires { ⌜ (length (now s) ≤ 1048576) × Reads (now s) at ⌝ }
+    ensures { λ r. ⌜ ((l : Layout) (end : ℕ) → layoutAt (now (s .entry)) at ≡ ok l end → r ≡ firstOf (drop n (l .attributes))) ⌝ }
+{
+    if layouts::attribute_count(s, at) <= n {
+        return Next::Missing;
+    }
+    let kind = layouts::attribute_kind(s, at, n);
+    let basic = kind.basic;
+    Next::Of(basic)
+}
+
+// Field n of the layout of a number.
+pub fn next_of(book: &[u8], used: usize, number: u32, n: u32) -> Next
+    requires { ⌜ IsBook (now book) used ⌝ }
+    ensures { λ r. ⌜ r ≡ nextOf (find number (bookIn (now (book .entry)) used)) n ⌝ }
+{
+    let found = layouts::find(book, used, number);
+    match found {
+        Found::At(p) => next_at(&book[..used], p, n),
+        Found::Nothing => Next::Unknown,
+    }
+}
+
+// The count of attributes of the layout of a number.
+pub fn count_of(book: &[u8], used: usize, number: u32) -> Counting
+    requires { ⌜ IsBook (now book) used ⌝ }
+    ensures { λ r. ⌜ r ≡ countOf (find number (bookIn (now (book .entry)) used)) ⌝ }
+{
+    let found = layouts::find(book, used, number);
+    match found {
+        Found::At(p) => Counting::Has(layouts::attribute_count(&book[..used], p)),
+        Found::Nothing => Counting::Unknown,
+    }
+}
+
+// Whether the layout at a place is two runs of octets, one behind the other, compared where they stand.
+fn same_runs<'s, 'f, 'l>(s: &'s [u8], at: usize, front: &'f [u8], last: &'l [u8]) -> bool
+    requires { ⌜ (length (now s) ≤ 1048576) × Reads (now s) at ⌝ }
+    ensures { λ r. ⌜ ((m : Layout) (end : ℕ) → layoutAt (now (s .entry)) at ≡ ok m end → r ≡ same (layoutImage m) (now (front .entry) ++ now (last .entry))) ⌝ }
+{
+    let end = layouts::layout_skip(s, at);
+    if end - at < front.len() {
+        return false;
+    }
+    let mid = at + front.len();
+    if !octets::octets_same(&s[at..mid], front) {
+        return false;
+    }
+    octets::octets_same(&s[mid..end], last)
+}
+
+// What a book has to say to a layout's octets, two runs one behind the other: known, new with the used count then, or refused.
+pub fn meet<'b, 'f, 'l>(book: &'b [u8], used: usize, front: &'f [u8], last: &'l [u8]) -> Learning
+    requires { ⌜ IsBook (now book) used × (4 ≤ length (now front)) ⌝ }
+    ensures { λ r. ⌜ r ≡ learning (bookIn (now (book .entry)) used) used (now (front .entry) ++ now (last .entry)) ⌝ }
+{
+    let number = octets::u32_at(front, 0);
+    let looked = layouts::look_in(&book[..used], number);
+    match looked {
+        Looked::There(p) => {
+            if same_runs(&book[..used], p, front, last) {
+                Learning::Known
+            } else {
+                Learning::Refused(10)
+            }
+        }
+        Looked::Missing(k) => {
+            if 64 <= k {
+                return Learning::Refused(11);
+            }
+            if !fits(32768 - used, front.len(), last.len(), 0) {
+                return Learning::Refused(11);
+            }
+            Learning::New(used + front.len() + last.len())
+        }
+    }
+}
+
+// The refusal of a layout, if it is one.
+pub fn refusal_of(learning: Learning) -> Fault
+    ensures { λ r. ⌜ says r ≡ refusal learning ⌝ }
+{
+    match learning {
+        Learning::Known => Fault::None,
+        Learning::New(v) => Fault::None,
+        Learning::Refused(n) => Fault::Is(n),
+    }
+}
+
+// A layout that is new laid behind the used octets; the used count.
+pub fn enter<'b, 'f, 'l>(
+    book: &'b mut [u8],
+    used: usize,
+    learning: Learning,
+    front: &'f [u8],
+    last: &'l [u8],
+) -> usize
+    requires { ⌜ used + length (added learning (now front ++ now last)) ≤ length (now book) ⌝ }
+    ensures { λ r. ⌜ (r ≡ used + length (added learning (now (front .entry) ++ now (last .entry)))) × (now (book .exit) ≡ over (now (book .entry)) used (added learning (now (front .entry) ++ now (last .entry)))) ⌝ }
+{
+    match learning {
+        Learning::Known => used,
+        Learning::New(v) => lay3(book, used, front, last, b""),
+        Learning::Refused(n) => used,
+    }
+}

@@ -1,0 +1,6 @@
+pub mod Scripts
+pub mod Bounds
+pub mod Tests
+pub mod Values
+pub mod Calls
+pub mod Kept

@@ -1,0 +1,110 @@
+-- Values and the closing of a row: their own faults by what the book was asked, and a number's octets by its width. Assumes nothing.
+use mathlib.Core.Path.{_≡_, refl, sym, _∙_}
+use mathlib.Core.List.{List, [], _∷_}
+use mathlib.Core.Bool.{Bool, true, false, _&&_}
+use mathlib.Core.Option.{Option, some, none}
+use Prim.Native.Nat.{ℕ, _+_, _-_, _≤_}
+use native.Mathlib.Omega.{arith}
+use lib.ListN.{length, drop}
+use lib.Dec.{leb, eqb}
+use Rattle.octets.specs.Reading.{no, _then_}
+use Rattle.octets.specs.Writing.{word, Each, Octet}
+use Rattle.octets.proofs.Spans.{length-word}
+use Rattle.kinds.specs.declared.Basic.{Basic}
+use Rattle.kinds.specs.declared.Basic.the-variants as basic
+use Rattle.kinds.specs.Kinds.{codeOf, formOf}
+use Rattle.layouts.specs.Layout.{Attribute, Layout}
+use Rattle.layouts.specs.Book.{IsBook}
+use Rattle.layouts.proofs.Checks.{good-book}
+use Rattle.rows.specs.Row.{Value, bits, valueImage, lengthImage}
+use Rattle.fields.specs.Answers.{firstOf, nextOf, countOf}
+use Rattle.fields.specs.declared.Next.{Next}
+use Rattle.fields.specs.declared.Next.the-variants as next
+use Rattle.writing.specs.declared.Turn.the-variants as wants
+use Rattle.writing.specs.declared.State.{State}
+use Rattle.writing.specs.Writer.{room, sameTurn, unless, known, suits, isNext}
+use Rattle.writing.specs.Answers.{widthOf, valueFault, closeFault}
+use Rattle.writing.proofs.Bounds.{bounds, turn-count, open-head}
+use Rattle.writing.proofs.Tests.{Ready}
+
+-- A value's own fault, by the next field.
+pub value-own : (o : Option Layout) (n : ℕ) (b : Basic) (v : Value)
+    → valueFault (nextOf o n) b (suits (formOf b) v) ≡ (known o then λ l _. unless (isNext (drop n (l .attributes)) b v) 21)
+value-own none n b v = refl
+value-own (some l) n b v = go (drop n (l .attributes))
+  where
+    go : (xs : List Attribute) → valueFault (firstOf xs) b (suits (formOf b) v) ≡ unless (isNext xs b v) 21
+    go [] = refl
+    go (a ∷ rest) = refl
+
+-- A value that does not suit its own type is always refused.
+pub unfit : (x : Next) (b : Basic) → (n : ℕ) × (valueFault x b false ≡ no n 0)
+unfit next.Unknown b = (12, refl)
+unfit next.Missing b = (21, refl)
+unfit (next.Of a) b = (21, go (eqb (codeOf a) (codeOf b)))
+  where
+    go : (t : Bool) → unless (t && false) 21 ≡ no 21 0
+    go true = refl
+    go false = refl
+
+-- The own fault of closing a row, by its layout's attributes.
+pub close-own : (o : Option Layout) (n : ℕ) → closeFault (countOf o) n ≡ (known o then λ l _. unless (leb (length (l .attributes)) n) 22)
+close-own none n = refl
+close-own (some l) n = refl
+
+pub length-size : (t : Bool) (n : ℕ) → length (lengthImage t n) ≡ 4
+length-size true n = length-word 4 n
+length-size false n = length-word 4 0xffffffff
+
+-- A number's own octets are the last of its eight.
+pub last-octets : (b : Basic) (n : ℕ) → drop (8 - widthOf (formOf b)) (word 8 n) ≡ valueImage (formOf b) (bits n)
+unfolding word
+last-octets basic.Int n = refl
+last-octets basic.UnsignedInt n = refl
+last-octets basic.Long n = refl
+last-octets basic.UnsignedLong n = refl
+last-octets basic.Float n = refl
+last-octets basic.Double n = refl
+last-octets basic.HexBinary n = refl
+last-octets basic.String n = refl
+last-octets basic.Boolean n = refl
+last-octets basic.Byte n = refl
+last-octets basic.UnsignedByte n = refl
+last-octets basic.Short n = refl
+last-octets basic.UnsignedShort n = refl
+
+pub width-most : (b : Basic) → widthOf (formOf b) ≤ 8
+width-most basic.Int = omega arith
+width-most basic.UnsignedInt = omega arith
+width-most basic.Long = omega arith
+width-most basic.UnsignedLong = omega arith
+width-most basic.Float = omega arith
+width-most basic.Double = omega arith
+width-most basic.HexBinary = omega arith
+width-most basic.String = omega arith
+width-most basic.Boolean = omega arith
+width-most basic.Byte = omega arith
+width-most basic.UnsignedByte = omega arith
+width-most basic.Short = omega arith
+width-most basic.UnsignedShort = omega arith
+
+-- What holds behind 17 and 20 in an open row.
+pub record InRow (s : State) (size : ℕ) (lent : List ℕ) (used : ℕ) : Type 0 where
+  pub book : IsBook lent used
+  pub head : s .start + 12 ≤ s .place
+  pub place : s .place ≤ room size
+  pub most : s .count ≤ 64
+  pub rows : s .rows ≤ 1048576
+
+pub in-row : (s : State) (size : ℕ) (lent : List ℕ) (used : ℕ) {mine : Bool} → Each Octet lent → mine ≡ sameTurn (s .turn) wants.Value → Ready s size lent used mine
+    → InRow s size lent used
+in-row s size lent used o e r =
+    let w = bounds s size (r .within) in
+    let t = sym e ∙ r .in-turn in
+    record {
+      book = good-book lent used o (r .book);
+      head = open-head s size w wants.Value t (omega arith);
+      place = w .place;
+      most = turn-count s size w wants.Value t .1;
+      rows = w .rows;
+    }
