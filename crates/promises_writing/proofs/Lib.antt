@@ -1,3 +1,6 @@
 pub mod Calls
 pub mod Standing
 pub mod WritesHeader
+pub mod WritesLayout
+pub mod WritesRow
+pub mod Writes

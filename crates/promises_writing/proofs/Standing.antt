@@ -21,11 +21,13 @@ use Rattle.layouts.specs.Layout.{Layout, attributeImage, layoutImage}
 use Rattle.layouts.specs.Book.{Book, find, bookImage, bookOf}
 use Rattle.layouts.proofs.Books.{GoodBook, image-snoc, book-back}
 use Rattle.layouts.proofs.Learn.{Learnt}
-use Rattle.rows.specs.Row.{lengthImage}
+use Rattle.rows.specs.Row.{Row, fieldImage, lengthImage, rowImage}
+use Rattle.elements.specs.Element.{row}
+use Rattle.elements.specs.Document.{itemImage}
 use Rattle.writing.specs.declared.Turn.{Turn}
 use Rattle.writing.specs.declared.Turn.the-variants as wants
 use Rattle.writing.specs.declared.State.{State}
-use Rattle.writing.specs.Writer.{Written, put, attributes, known, rowLayout, addition, layoutSoFar}
+use Rattle.writing.specs.Writer.{closeRow, Written, put, attributes, known, rowLayout, does, addition, layoutSoFar}
 use Rattle.promises_writing.specs.Promise.{onto}
 use Rattle.promises_writing.proofs.Calls.{leftBy}
 
@@ -168,7 +170,7 @@ stated-back true pre post p e = rw (be-at 4 0 p pre post (lit< tt) e)
 stated-back false pre post p e = rw (be-at 4 0xffffffff p pre post (lit< tt) e)
 
 -- Closing a row puts its length where zero stood.
-pub closing : (before values rest done : List ℕ) (n st : ℕ) (stated : Bool) → done ≡ before ++ (word 4 2 ++ (word 4 n ++ (lengthImage stated 0 ++ values))) → st ≡ length before
+closing : (before values rest done : List ℕ) (n st : ℕ) (stated : Bool) → done ≡ before ++ (word 4 2 ++ (word 4 n ++ (lengthImage stated 0 ++ values))) → st ≡ length before
     → (over (done ++ rest) (st + 8) (lengthImage (ltb (be 4 (done ++ rest) (st + 8)) 0xffffffff) (length done - (st + 12)))
     ≡ (before ++ (word 4 2 ++ ((word 4 n ++ lengthImage stated (length values)) ++ values))) ++ rest)
     × (length done ≡ length (before ++ (word 4 2 ++ ((word 4 n ++ lengthImage stated (length values)) ++ values))))
@@ -182,6 +184,19 @@ closing before values rest done n st stated e f =
     let is : ltb (be 4 (done ++ rest) (st + 8)) 0xffffffff ≡ stated = rw form (stated-back stated pre post (st + 8) at-length) in (
       rw (is, size, form) (over-middle pre (lengthImage stated 0) (lengthImage stated (length values)) post (st + 8) at-length (length-size stated 0 ∙ sym (length-size stated (length values))) ∙ simp append-assoc),
       long ∙ sym (simp (length-append, length-word, length-size) (omega arith)),
+    )
+
+pub close-leaves : (lent before rest done : List ℕ) (x : Spot) (r : Row)
+    → done ≡ before ++ (word 4 2 ++ (word 4 (r .number) ++ (lengthImage (r .is-stated) 0 ++ images fieldImage (r .fields)))) → x .start ≡ length before
+    → {new : List ℕ} {q : ℕ} → _≡_ {A = Read (List ℕ)} (ok [] 0) (ok new q)
+    → (leftBy (done ++ rest) (onto lent (bookImage (x .book))) (length (bookImage (x .book))) (does (stateAt done x) (done ++ rest) (x .book) closeRow) new
+    ≡ standing lent (before ++ itemImage (row r)) rest (spot (x .book) wants.Element 0 0 (x .rows + 1)))
+    × (length done ≡ length (before ++ itemImage (row r)))
+unfolding does rowImage
+close-leaves lent before rest done x r form start e =
+    let (buffer, place) = closing before (images fieldImage (r .fields)) rest done (r .number) (x .start) (r .is-stated) form start in (
+      rw (← ok-value refl e, over-none (onto lent (bookImage (x .book))) (length (bookImage (x .book))), add-zero (length (bookImage (x .book))), buffer, place),
+      place,
     )
 
 -- Giving up puts zeroes over what was opened.

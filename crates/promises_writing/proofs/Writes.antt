@@ -1,0 +1,87 @@
+-- The promise: the calls of a document inside the limits are all accepted and leave its image, which is read back.
+-- Header, items and end are put one behind the other, each item over the book that those before it left. Assumes nothing.
+use Prim.Native.Nat.{ℕ, _+_, _≤_}
+use mathlib.Core.Path.{_≡_, refl, sym, ap, _∙_}
+use mathlib.Core.List.{List, [], _∷_, _++_, append-assoc}
+use mathlib.Core.Logic.{inl, inr}
+use native.Mathlib.Omega.{arith}
+use native.Mathlib.Nat.{add-zero, zero-add}
+use lib.ListN.{length, take, drop, length-append}
+use lib.Seq.{take-append-seam}
+use Rattle.octets.specs.Reading.{ok, choose}
+use Rattle.octets.specs.Writing.{word, images}
+use Rattle.layouts.specs.Layout.{Layout}
+use Rattle.layouts.specs.Book.{Book, find, isNone, bookImage, learn}
+use Rattle.layouts.proofs.Books.{GoodBook}
+use Rattle.layouts.proofs.Learn.{Learnt, learnt, grown, good-nil}
+use Rattle.headers.specs.Header.{headerImage}
+use Rattle.elements.specs.Element.{Item, layout, row}
+use Rattle.elements.specs.Steps.{reading}
+use Rattle.elements.specs.Document.{Document, itemImage, rowCount, image, GoodItems, Good, readingOf}
+use Rattle.promises.proofs.Documents.{complete, few}
+use Rattle.writing.specs.declared.Turn.the-variants as wants
+use Rattle.writing.specs.Writer.{finish, room, fine, does, runCalls}
+use Rattle.promises_writing.specs.Promise.{each, headerCalls, itemCalls, callsOf, withLayout, bookBehind, begun, finished}
+use Rattle.promises_writing.proofs.Standing.{Spot, spot}
+use Rattle.promises_writing.proofs.WritesHeader.{Puts, puts-none, puts-both, puts-as, put-one, header-put}
+use Rattle.promises_writing.proofs.WritesLayout.{layout-put}
+use Rattle.promises_writing.proofs.WritesRow.{row-put}
+
+-- What is learnt is a layout behind the book, or nothing.
+pub learn-with : (b : Book) (l : Layout) (next : Book) (at end : ℕ) → learn b l at ≡ ok next end → next ≡ withLayout b l
+unfolding withLayout
+learn-with b l next at end e = go (learnt b l at next end e)
+  where
+    go : Learnt b l next → next ≡ choose (isNone (find (l .number) b)) (λ _. b ++ l ∷ []) (λ _. b)
+    go (inl h) = rw (h .1) (h .3)
+    go (inr h) = rw (h .0) (h .3)
+
+-- The image, by what is put.
+pub image-parts : (d : Document) → headerImage (d .header) ++ (images itemImage (d .items) ++ (word 4 3 ++ word 4 (rowCount (d .items)) ++ word 8 (d .end))) ≡ image d
+unfolding image
+image-parts d = simp append-assoc
+
+module _ (buffer lent : List ℕ) (long : 32768 ≤ length lent) where
+  items-put : (items : List Item) (done : List ℕ) (b : Book) (rows : ℕ) → GoodBook b → GoodItems b items → rows + rowCount items ≤ 1048576
+      → GoodBook (bookBehind b items)
+      × Puts buffer lent (each itemCalls items) (images itemImage items) done (spot b wants.Element 0 0 rows) (spot (bookBehind b items) wants.Element 0 0 (rows + rowCount items))
+  unfolding images
+  items-put [] done b rows s g m = (s, rw (add-zero rows) puts-none)
+  items-put (layout l ∷ rest) done b rows s g m =
+      let next : Book = g .1 .0 in
+      let again = items-put rest (done ++ itemImage (layout l)) next rows (grown b l 0 next 0 s (g .0) (g .1 .1) .good) (g .1 .2) m in
+      rw (← learn-with b l next 0 0 (g .1 .1)) (
+        again .0,
+        puts-both {a = itemCalls (layout l)} (layout-put buffer lent long b s rows (omega arith) done l next (g .0 .number) (g .1 .1) (g .0)) (again .1),
+      )
+  items-put (row r ∷ rest) done b rows s g m =
+      let sum : rows + (1 + rowCount rest) ≡ (rows + 1) + rowCount rest = omega arith in
+      let again = items-put rest (done ++ itemImage (row r)) b (rows + 1) s (g .2) (omega arith) in
+      rw sum (again .0, puts-both {a = itemCalls (row r)} (row-put buffer lent long b s rows (omega arith) done r (g .1 .0) (g .0) (g .1 .1) (g .1 .2)) (again .1))
+
+-- From a fresh state and an empty book, over any buffer with room for the image, the calls of a document inside the limits are all accepted and leave it written whole.
+pub writes : (d : Document) → Good d → (buffer book : List ℕ) → length (image d) ≤ length buffer → 32768 ≤ length book
+    → runCalls (callsOf d) (begun buffer book) ≡ ok (finished d buffer book) (length (image d))
+unfolding callsOf finished room bookImage images does
+writes d g buffer book fits long =
+    let head : List ℕ = headerImage (d .header) in
+    let body : List ℕ = images itemImage (d .items) in
+    let rows : ℕ = rowCount (d .items) in
+    let last : List ℕ = word 4 3 ++ word 4 rows ++ word 8 (d .end) in
+    let all = ap length (image-parts d) in
+    let sum = length-append head (body ++ last) in
+    let parts = length-append body last in
+    let limit = g .fits in
+    let many : rows ≤ 1048576 = omega (arith, few (d .items)) in
+    let (good, items) = items-put buffer book long (d .items) head [] 0 good-nil (g .items) (omega arith) in
+    let behind : Book = bookBehind [] (d .items) in
+    let end = put-one buffer book long (finish (d .end)) (head ++ body) last (spot behind wants.Element 0 0 rows) wants.Nothing 0 0 fine good refl refl (omega arith) in
+    let whole : Puts buffer book (callsOf d) (image d) [] (spot [] wants.Recorder 0 0 0) (spot behind wants.Nothing 0 0 rows) =
+    puts-as (image-parts d) (puts-both (header-put buffer book long [] good-nil (d .header) (g .header)) (puts-both (rw (zero-add rows) at items) end)) in
+    whole .runs (omega arith) .runs
+
+-- What was written is read back as that document.
+pub reads : (d : Document) → Good d → (buffer book : List ℕ)
+    → reading (take (finished d buffer book .state .place) (finished d buffer book .buffer)) ≡ ok (readingOf d) (length (image d))
+unfolding finished
+reads d g buffer book = rw (take-append-seam (image d) (drop (length (image d)) buffer)) (complete d g)
