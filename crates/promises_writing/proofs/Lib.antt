@@ -4,3 +4,4 @@ pub mod WritesHeader
 pub mod WritesLayout
 pub mod WritesRow
 pub mod Writes
+pub mod Given
