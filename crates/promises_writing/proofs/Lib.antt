@@ -5,3 +5,5 @@ pub mod WritesLayout
 pub mod WritesRow
 pub mod Writes
 pub mod Given
+pub mod Put
+pub mod Shapes
