@@ -7,3 +7,4 @@ pub mod Writes
 pub mod Given
 pub mod Put
 pub mod Shapes
+pub mod KeepsHeader
