@@ -8,3 +8,4 @@ pub mod Given
 pub mod Put
 pub mod Shapes
 pub mod KeepsHeader
+pub mod KeepsLayout

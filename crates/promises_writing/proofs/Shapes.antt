@@ -1,8 +1,8 @@
 -- What stands at each turn where every call was accepted since the fresh state, by what was told; and that a call which puts octets keeps it so.
 -- The octets of an element are those of the calls from its opening on; behind the place stand zeroes of what was given up, then what was lent. Assumes nothing.
 use Prim.Native.Nat.{ℕ, zero, suc, _+_, _-_, _^_, _≤_, _<_}
-use mathlib.Core.Path.{_≡_, refl, sym, ap, _∙_, subst}
-use mathlib.Core.List.{List, [], _∷_, _++_, append-assoc, append-nil}
+use mathlib.Core.Path.{_≡_, refl, _∙_, subst}
+use mathlib.Core.List.{List, [], _∷_, _++_}
 use mathlib.Core.Bool.{Bool, true, false}
 use mathlib.Core.Option.{some}
 use native.Mathlib.Omega.{arith}
@@ -22,7 +22,7 @@ use Rattle.elements.specs.Element.{Item}
 use Rattle.elements.specs.Document.{Document, itemImage, rowCount, image, GoodItems, Good}
 use Rattle.writing.specs.declared.Turn.{Turn}
 use Rattle.writing.specs.declared.Turn.the-variants as wants
-use Rattle.writing.specs.Writer.{Call, recorder, startTime, defaultNamespace, namespaceCount, uri, serviceCount, openLayout, typeName, attributeCount, attributeName, openRow, Written, room, rule, turnAt, Deed, put}
+use Rattle.writing.specs.Writer.{Call, recorder, startTime, defaultNamespace, namespaceCount, uri, serviceCount, openLayout, typeName, attributeCount, attributeName, openRow, Written, room, rule, sameTurn, turnAt, Deed, put}
 use Rattle.promises_writing.specs.Promise.{each, namespaceCalls, serviceCalls, attributeCalls, fieldCalls, itemCalls, headerCalls, callsOf, bookBehind, onto, Told}
 use Rattle.promises_writing.proofs.Calls.{in-turn, Passes, leftBy}
 use Rattle.promises_writing.proofs.Standing.{Spot, spot, stateAt, standing, put-leaves}
@@ -199,16 +199,20 @@ module _ {buffer lent : List ℕ} {told : Told} (now : Stand buffer lent told) w
         rw (drop-lies (length xs) (now .zeroes) (length (now .done)) buffer, sum),
       )
 
+  -- What stands at the turn that a call has; of a list there something is to come.
+  pub here : (t : Turn) → sameTurn (now .at .turn) t ≡ true → Shape t (now .at) (now .done) told
+  here t e = subst (λ (v : Turn). Shape v (now .at) (now .done) told) (in-turn (now .at .turn) t e) (now .shape)
+
+  pub least-here : (t : Turn) → sameTurn (now .at .turn) t ≡ true → rule (now .at .turn) .least ≤ now .at .count → rule t .least ≤ now .at .count
+  least-here t e = subst (λ (v : Turn). rule v .least ≤ now .at .count) (in-turn (now .at .turn) t e)
+
   -- A call that puts octets, by what stands at its turn.
   pub put-keeps : (next : Told) (t u : Turn) (fault : Read (Unit {0})) (xs : List ℕ) (j i : ℕ) {new : List ℕ} → PassesHere (put (stateAt (now .done) (now .at)) t fault xs u j i) new
       → (Shape t (now .at) (now .done) told → rule t .least ≤ now .at .count → length xs ≤ 1048576
       → Shape u (spot (now .at .book) u j i (now .at .rows)) (now .done ++ xs) next)
       → Inv buffer lent next (leftHere (put (stateAt (now .done) (now .at)) t fault xs u j i) new)
   put-keeps next t u fault xs j i p step =
-      let same : now .at .turn ≡ t = in-turn (now .at .turn) t (p .in-turn) in
-      let here : Shape t (now .at) (now .done) told = subst (λ (v : Turn). Shape v (now .at) (now .done) told) same (now .shape) in
-      let least : rule t .least ≤ now .at .count = subst (λ (v : Turn). rule v .least ≤ now .at .count) same (p .inside .least) in
       let fits = p .fits in
       let small : length xs ≤ 1048576 = omega (arith, room-small (length (now .done ++ rest now))) in
-      let (stand, is) = put-stand next xs (spot (now .at .book) u j i (now .at .rows)) fits (now .good) (step here least small) in
+      let (stand, is) = put-stand next xs (spot (now .at .book) u j i (now .at .rows)) fits (now .good) (step (here t (p .in-turn)) (least-here t (p .in-turn) (p .inside .least)) small) in
       record { stand = stand; is = put-leaves lent (now .done) (rest now) (now .at) t u fault xs j i (p .takes) ∙ is }

@@ -144,10 +144,10 @@ takes-learnt lent b l next small (inr h) =
     }
 
 -- The last octets of a layout put; the book takes it.
-pub complete-leaves : (lent done rest : List ℕ) (x : Spot) (t : Turn) (fault : Read (Unit {0})) (xs : List ℕ) (l : Layout) (next : Book) (takes : Takes lent (x .book) l next)
-    → leftBy (done ++ rest) (onto lent (bookImage (x .book))) (length (bookImage (x .book))) (attributes (stateAt done x) t fault xs 0) (takes .new)
+pub complete-leaves : (lent done rest : List ℕ) (x : Spot) (t : Turn) (fault : Read (Unit {0})) (xs new : List ℕ) (l : Layout) (next : Book) (takes : Takes lent (x .book) l next) → new ≡ takes .new
+    → leftBy (done ++ rest) (onto lent (bookImage (x .book))) (length (bookImage (x .book))) (attributes (stateAt done x) t fault xs 0) new
     ≡ standing lent (done ++ xs) (drop (length xs) rest) (spot next wants.Element 0 0 (x .rows))
-complete-leaves lent done rest x t fault xs l next takes = rw (takes .book, takes .used, over-seam done rest xs, length-append done xs)
+complete-leaves lent done rest x t fault xs new l next takes e = rw (e, takes .book, takes .used, over-seam done rest xs, length-append done xs)
 
 -- The open row's layout is the one that its number names.
 pub row-layout : (before post rest done : List ℕ) (x : Spot) (n : ℕ) (l : Layout) → done ≡ before ++ (word 4 2 ++ (word 4 n ++ post)) → x .start ≡ length before

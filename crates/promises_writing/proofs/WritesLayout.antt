@@ -65,7 +65,7 @@ module _ (buffer lent : List ℕ) (long : 32768 ≤ length lent) (b : Book) (goo
               fits = rw (room-same buffer done (omega arith)) (omega arith);
             } in
             runs-one c (stand buffer lent done x)
-            (rw (e, complete-leaves lent done (drop (length done) buffer) x t fault xs l next found, drop-on buffer done xs) at
+            (rw (e, complete-leaves lent done (drop (length done) buffer) x t fault xs (found .new) l next found refl, drop-on buffer done xs) at
             (accepted (stateAt done x) (onto buffer done) (onto lent (bookImage b)) (length (bookImage b)) (book-now lent b long good) c (found .new) (rw e p)));
       }
 
