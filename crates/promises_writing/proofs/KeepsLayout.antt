@@ -70,7 +70,7 @@ next-item s i g =
       rows-is = ap (λ (n : ℕ). n + rowCount (i ∷ [])) (s .rows-is) ∙ sym (count-snoc (s .items) i);
     }
 
-same-between : {b c : Book} {m n : ℕ} {d e : List ℕ} {x y : List Call} → Between b m d x → b ≡ c → m ≡ n → d ≡ e → x ≡ y → Between c n e y
+pub same-between : {b c : Book} {m n : ℕ} {d e : List ℕ} {x y : List Call} → Between b m d x → b ≡ c → m ≡ n → d ≡ e → x ≡ y → Between c n e y
 same-between s p q r t =
     record {
       h = s .h;

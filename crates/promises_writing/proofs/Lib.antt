@@ -9,3 +9,4 @@ pub mod Put
 pub mod Shapes
 pub mod KeepsHeader
 pub mod KeepsLayout
+pub mod KeepsRow

@@ -27,7 +27,7 @@ use Rattle.elements.specs.Document.{itemImage}
 use Rattle.writing.specs.declared.Turn.{Turn}
 use Rattle.writing.specs.declared.Turn.the-variants as wants
 use Rattle.writing.specs.declared.State.{State}
-use Rattle.writing.specs.Writer.{closeRow, Written, put, attributes, known, rowLayout, does, addition, layoutSoFar}
+use Rattle.writing.specs.Writer.{closeRow, giveUp, Written, put, attributes, known, rowLayout, does, addition, layoutSoFar}
 use Rattle.promises_writing.specs.Promise.{onto}
 use Rattle.promises_writing.proofs.Calls.{leftBy}
 
@@ -200,8 +200,21 @@ close-leaves lent before rest done x r form start e =
     )
 
 -- Giving up puts zeroes over what was opened.
-pub giving-up : (before more rest done : List ℕ) (st : ℕ) → done ≡ before ++ more → st ≡ length before
+giving-up : (before more rest done : List ℕ) (st : ℕ) → done ≡ before ++ more → st ≡ length before
     → over (done ++ rest) st (replicate (length done - st) 0) ≡ before ++ (replicate (length more) 0 ++ rest)
 giving-up before more rest done st e f =
     let size : length done - st ≡ length more = omega (arith, ap length e, length-append before more) in
     rw (size, behind rest e ∙ append-assoc before more rest) (over-middle before more (replicate (length more) 0) rest st f (sym (length-replicate {A = ℕ} (length more) 0)))
+
+pub give-up-leaves : (lent before more rest done : List ℕ) (x : Spot) → done ≡ before ++ more → x .start ≡ length before → {new : List ℕ} {q : ℕ} → _≡_ {A = Read (List ℕ)} (ok [] 0) (ok new q)
+    → leftBy (done ++ rest) (onto lent (bookImage (x .book))) (length (bookImage (x .book))) (does (stateAt done x) (done ++ rest) (x .book) giveUp) new
+    ≡ standing lent before (replicate (length more) 0 ++ rest) (spot (x .book) wants.Element 0 0 (x .rows))
+unfolding does
+give-up-leaves lent before more rest done x form start e =
+    rw (
+      ← ok-value refl e,
+      over-none (onto lent (bookImage (x .book))) (length (bookImage (x .book))),
+      add-zero (length (bookImage (x .book))),
+      giving-up before more rest done (x .start) form start,
+      start,
+    )
