@@ -10,3 +10,4 @@ pub mod Shapes
 pub mod KeepsHeader
 pub mod KeepsLayout
 pub mod KeepsRow
+pub mod Wrote

@@ -80,8 +80,13 @@ writes d g buffer book fits long =
     puts-as (image-parts d) (puts-both (header-put buffer book long [] good-nil (d .header) (g .header)) (puts-both (rw (zero-add rows) at items) end)) in
     whole .runs (omega arith) .runs
 
+-- The octets before the place are the image.
+pub image-stands : (d : Document) (buffer book : List ℕ) → take (finished d buffer book .state .place) (finished d buffer book .buffer) ≡ image d
+unfolding finished
+image-stands d buffer book = take-append-seam (image d) (drop (length (image d)) buffer)
+
 -- What was written is read back as that document.
 pub reads : (d : Document) → Good d → (buffer book : List ℕ)
-    → reading (take (finished d buffer book .state .place) (finished d buffer book .buffer)) ≡ ok (readingOf d) (length (image d))
+    → reading (take (finished d buffer book .state .place) (finished d buffer book .buffer)) ≡ ok (readingOf d) (finished d buffer book .state .place)
 unfolding finished
-reads d g buffer book = rw (take-append-seam (image d) (drop (length (image d)) buffer)) (complete d g)
+reads d g buffer book = ap reading (image-stands d buffer book) ∙ complete d g
