@@ -1,93 +1,21 @@
 -- One call by its tests: an accepted call has passed them all and leaves what its deed says, and a call that passes them all is accepted; then calls one after another.
 -- By the call's own order of tests. Assumes nothing.
-use Prim.Native.Nat.{ℕ, _+_, _≤_, _<_}
-use mathlib.Core.Path.{_≡_, refl, sym, ap, _∙_, subst}
+use Prim.Native.Nat.{ℕ, _+_, _≤_}
+use mathlib.Core.Path.{_≡_, refl, sym, _∙_}
 use mathlib.Core.List.{List, [], _∷_, _++_}
-use mathlib.Core.Bool.{Bool, true, false, _&&_}
+use mathlib.Core.Bool.{true, _&&_}
 use native.Mathlib.Omega.{arith}
-use lib.ListN.{length, getD}
-use lib.Dec.{leb, ltb}
-use borrow.Author.Tests.{leb-true, le-leb, ltb-true, lt-ltb, eqb-true}
-use Rattle.octets.specs.Reading.{Read, ok, no, _then_, choose, isOk}
+use lib.ListN.{length}
+use lib.Dec.{leb}
+use borrow.Author.Tests.{leb-true, le-leb}
+use Rattle.octets.specs.Reading.{Read, ok, no, isOk}
 use Rattle.octets.specs.Writing.{over}
 use Rattle.octets.proofs.Inverse.{after, settle, chosen}
 use Rattle.octets.proofs.Copies.{both-true}
 use Rattle.layouts.specs.Book.{Book, bookOf, bookIn}
-use Rattle.writing.specs.declared.Turn.{Turn}
-use Rattle.writing.specs.declared.Turn.the-variants as wants
 use Rattle.writing.specs.declared.State.{State}
-use Rattle.writing.specs.Writer.{Call, Written, room, rule, sameTurn, isOpen, bounded, fine, unless, Deed, does, addition, layoutSoFar, early, tried, placed, answered, call, runCalls}
-
--- A turn is known by its number.
-turns : List Turn
-turns =
-    wants.Recorder ∷ wants.StartTime ∷ wants.DefaultNamespace ∷ wants.NamespaceCount ∷ wants.Uri ∷ wants.ShortName ∷ wants.ServiceCount ∷ wants.Service ∷ wants.DocumentId
-    ∷ wants.Element ∷ wants.TypeName ∷ wants.AttributeCount ∷ wants.AttributeName ∷ wants.AttributeType ∷ wants.Value ∷ wants.Nothing ∷ []
-
-numbered : (t : Turn) → getD turns (rule t .number) wants.Recorder ≡ t
-unfolding turns
-numbered wants.Recorder = refl
-numbered wants.StartTime = refl
-numbered wants.DefaultNamespace = refl
-numbered wants.NamespaceCount = refl
-numbered wants.Uri = refl
-numbered wants.ShortName = refl
-numbered wants.ServiceCount = refl
-numbered wants.Service = refl
-numbered wants.DocumentId = refl
-numbered wants.Element = refl
-numbered wants.TypeName = refl
-numbered wants.AttributeCount = refl
-numbered wants.AttributeName = refl
-numbered wants.AttributeType = refl
-numbered wants.Value = refl
-numbered wants.Nothing = refl
-
-pub in-turn : (t u : Turn) → sameTurn t u ≡ true → t ≡ u
-in-turn t u e =
-    sym (numbered t) ∙ (ap (λ (n : ℕ). getD turns n wants.Recorder) (eqb-true (rule t .number) (rule u .number) e) ∙ numbered u)
-
--- A state inside its bounds, over a buffer of so many octets.
-pub record Bounds (s : State) (size : ℕ) : Type 0 where
-  pub place : s .place ≤ room size
-  pub least : rule (s .turn) .least ≤ s .count
-  pub most : s .count ≤ rule (s .turn) .most
-  pub rows : s .rows ≤ 1048576
-  pub head : 0 < rule (s .turn) .head → s .start + rule (s .turn) .head ≤ s .place
-
-opened : (t u : Bool) → choose t (λ _. u) (λ _. true) ≡ true → t ≡ true → u ≡ true
-opened true u e f = e
-opened false u e f = absurd (let z : _≡_ {A = ℕ} 0 1 = cc in omega arith)
-
-bounds : (s : State) (size : ℕ) → bounded s size ≡ true → Bounds s size
-unfolding bounded
-bounds s size e =
-    let (e₁, t₁) = both-true _ _ e in
-    let (e₂, t₂) = both-true _ _ e₁ in
-    let (e₃, t₃) = both-true _ _ e₂ in
-    let (t₅, t₄) = both-true _ _ e₃ in
-    record {
-      place = leb-true _ _ t₅;
-      least = leb-true _ _ t₄;
-      most = leb-true _ _ t₃;
-      rows = leb-true _ _ t₂;
-      head = λ o. leb-true _ _ (opened (isOpen (s .turn)) _ t₁ (lt-ltb _ _ o));
-    }
-
-bounds-pass : (s : State) (size : ℕ) → Bounds s size → bounded s size ≡ true
-unfolding bounded
-bounds-pass s size i =
-    rw (
-      le-leb (s .place) (room size) (i .place),
-      le-leb (rule (s .turn) .least) (s .count) (i .least),
-      le-leb (s .count) (rule (s .turn) .most) (i .most),
-      le-leb (s .rows) 1048576 (i .rows),
-    )
-    (go (isOpen (s .turn)) refl)
-  where
-    go : (t : Bool) → isOpen (s .turn) ≡ t → choose t (λ _. leb (s .start + rule (s .turn) .head) (s .place)) (λ _. true) ≡ true
-    go true e = le-leb _ _ (i .head (ltb-true _ _ e))
-    go false e = refl
+use Rattle.writing.specs.Writer.{Call, Written, room, bounded, fine, unless, Deed, does, addition, layoutSoFar, early, tried, placed, answered, call, runCalls}
+use Rattle.writing.proofs.Bounds.{Bounds, bounds, bounded-is}
 
 -- What a deed has to pass in a state, over a book; `new` is what the book takes of it.
 pub record Passes (s : State) (buffer : List ℕ) (used : ℕ) (b : Book) (d : Deed) (new : List ℕ) : Type 0 where
@@ -129,7 +57,7 @@ module _ (s : State) (buffer lent : List ℕ) (used : ℕ) {b : Book} {m : ℕ} 
   answers d new p =
       rw (
         is-book,
-        bounds-pass s (length buffer) (p .inside),
+        bounded-is s (length buffer) (p .inside),
         p .in-turn,
         passed (d .fault) (p .faultless) .1,
         book-in,

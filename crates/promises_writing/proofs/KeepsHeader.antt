@@ -3,13 +3,11 @@
 use Prim.Native.Nat.{ℕ, _+_, _-_, _^_, _≤_, _<_}
 use mathlib.Core.Path.{_≡_, refl, sym, ap, _∙_}
 use mathlib.Core.List.{List, [], _∷_, _++_, append-assoc, append-nil}
-use mathlib.Core.Bool.{true}
 use native.Mathlib.Omega.{arith}
 use native.Mathlib.Nat.{zero-add}
 use lib.ListN.{length, length-append}
 use lib.Dec.{leb, eqb, lit<}
 use borrow.Author.Tests.{eqb-true, leb-true}
-use Rattle.octets.specs.Reading.{choose, isOk}
 use Rattle.octets.specs.Writing.{word, textImage, images, Each, Octet, Text}
 use Rattle.octets.proofs.Spans.{each-join}
 use Rattle.octets.proofs.Ends.{chosen-ok}
@@ -17,10 +15,10 @@ use Rattle.headers.specs.Header.{Namespace, Header, headerImage, GoodNamespace,
 use Rattle.writing.specs.declared.Turn.{Turn}
 use Rattle.writing.specs.declared.Turn.the-variants as wants
 use Rattle.writing.specs.Writer.{Call, recorder, startTime, defaultNamespace, namespaceCount, uri, shortName, serviceCount, service, documentId, fine, unless, turnAt, does}
-use Rattle.promises_writing.specs.Promise.{each, namespaceCalls, serviceCalls, headerCalls, Told, adds, tell}
+use Rattle.promises_writing.specs.Promise.{namespaceCalls, serviceCalls, headerCalls, Told, adds, tell}
 use Rattle.promises_writing.proofs.Standing.{Spot, spot, stateAt, behind}
 use Rattle.promises_writing.proofs.Put.{octetsOf, images-snoc, each-snoc, header-octets}
-use Rattle.promises_writing.proofs.Shapes.{InHeader, Between, namespaced, served, Shape, Stand, rest, Inv, at-turn, PassesHere, leftHere, put-keeps}
+use Rattle.promises_writing.proofs.Shapes.{InHeader, namespaced, served, Shape, Stand, rest, Inv, at-turn, PassesHere, leftHere, put-keeps}
 
 -- A string whose octets were put fits a length.
 pub is-text : (xs : List ℕ) → Each Octet xs → length (textImage xs) ≤ 1048576 → Text xs

@@ -1,6 +1,6 @@
 -- An accepted call of a layout keeps what stands: the open layout has one field more; the call that completes it makes it an item that the book learns.
 -- What the book takes is what learning adds, since the octets in the buffer with the call's behind them are the layout's. Assumes nothing.
-use Prim.Native.Nat.{ℕ, _+_, _-_, _*_, _/_, _%_, _^_, _≤_, _<_}
+use Prim.Native.Nat.{ℕ, _+_, _-_, _/_, _%_, _^_, _≤_, _<_}
 use mathlib.Core.Path.{_≡_, refl, sym, ap, _∙_, subst}
 use mathlib.Core.List.{List, [], _∷_, _++_, append-assoc, append-nil}
 use mathlib.Core.Bool.{Bool, true, false, _&&_}
@@ -10,8 +10,8 @@ use native.Mathlib.Nat.{add-zero, zero-add}
 use lib.ListN.{length, length-append}
 use lib.Dec.{leb, ltb, eqb, lit<}
 use borrow.Author.Tests.{eqb-true, eqb-false, leb-true, ltb-true}
-use Rattle.octets.specs.Reading.{Read, ok, no, _then_, choose, isOk, same}
-use Rattle.octets.specs.Writing.{word, textImage, images, Each, Octet, Text}
+use Rattle.octets.specs.Reading.{Read, ok, no, _then_, isOk, same}
+use Rattle.octets.specs.Writing.{word, textImage, images, Each, Octet}
 use Rattle.octets.proofs.Spans.{each-join}
 use Rattle.octets.proofs.Inverse.{ok-value, after, chosen, refused}
 use Rattle.octets.proofs.Copies.{both-true, same-true}
@@ -21,19 +21,20 @@ use Rattle.kinds.specs.Kinds.{numberOf, basicOf, known, kindOf}
 use Rattle.kinds.proofs.Table.{known-ok, code-of-basic}
 use Rattle.layouts.specs.Layout.{Attribute, Layout, layoutImage, GoodAttribute, GoodLayout}
 use Rattle.layouts.specs.Book.{Book, find, bookImage, learn}
-use Rattle.layouts.proofs.Learn.{learnt, learn-known, learn-new, grown}
+use Rattle.layouts.proofs.Growing.{learnt, learn-known, learn-new, grown}
 use Rattle.headers.specs.Header.{headerImage}
 use Rattle.elements.specs.Element.{Item, layout, row}
 use Rattle.elements.specs.Document.{itemImage, rowCount, GoodItems}
 use Rattle.writing.specs.declared.Turn.{Turn}
 use Rattle.writing.specs.declared.Turn.the-variants as wants
+use Rattle.writing.specs.declared.State.{State}
 use Rattle.writing.specs.Writer.{Call, openLayout, typeName, attributeCount, attributeName, attributeType, rule, fine, unless, Deed, put, attributes, does, addition, additionFor}
+use Rattle.writing.proofs.Bounds.{turn-count, open-head}
 use Rattle.promises_writing.specs.Promise.{each, attributeCalls, itemCalls, headerCalls, withLayout, bookBehind, Told, adds, opens}
-use Rattle.promises_writing.proofs.Calls.{in-turn}
 use Rattle.promises_writing.proofs.Standing.{Spot, spot, stateAt, behind, so-far, number-first, takes-learnt, complete-leaves}
 use Rattle.promises_writing.proofs.Writes.{learn-with}
 use Rattle.promises_writing.proofs.Put.{octetsOf, images-snoc, each-snoc, layout-octets}
-use Rattle.promises_writing.proofs.Shapes.{Between, Opened, InLayout, attributed, Shape, Stand, rest, Inv, PassesHere, leftHere, put-stand, here, least-here, put-keeps}
+use Rattle.promises_writing.proofs.Shapes.{Between, Opened, attributed, Shape, Stand, rest, Inv, PassesHere, leftHere, put-stand, here, put-keeps}
 use Rattle.promises_writing.proofs.KeepsHeader.{is-text, Keeps}
 
 -- One item more behind those that stand.
@@ -187,11 +188,11 @@ module _ {buffer lent : List ℕ} {told : Told} (now : Stand buffer lent told) w
           (λ i least _. more i least (eqb-false left 0 e)))
       go true e =
           let none : left ≡ 0 = eqb-true left 0 e in
-          let same : now .at .turn ≡ t = in-turn (now .at .turn) t (p .in-turn) in
-          let eight-here : rule (now .at .turn) .head ≡ 8 = ap (λ (v : Turn). rule v .head) same ∙ eight in
-          let head = p .inside .head (omega arith) in
+          let s : State = stateAt (now .done) (now .at) in
+          let size : ℕ = length (now .done ++ rest now) in
+          let head = open-head s size (p .inside) t (p .in-turn) (omega arith) in
           subst (λ (n : ℕ). Inv buffer lent (adds told c) (leftHere now (part t fault c n) new)) (sym none)
-          (complete-keeps c t fault new (subst (λ (n : ℕ). PassesHere now (part t fault c n) new) none p) (last (here now t (p .in-turn)) (least-here now t (p .in-turn) (p .inside .least)) none) (omega arith))
+          (complete-keeps c t fault new (subst (λ (n : ℕ). PassesHere now (part t fault c n) new) none p) (last (here now t (p .in-turn)) (turn-count s size (p .inside) t (p .in-turn) .0) none) (omega arith))
 
   pub keep-layout : (n : ℕ) → n < 2 ^ 32 → Keeps now (openLayout n)
   unfolding does

@@ -1,39 +1,38 @@
 -- An accepted call of a row keeps what stands: the open row has one value more, and closing makes it an item. Giving up leaves the items before; the end makes the document whole.
 -- The row's layout is read back from its first octets, so a value taken is the next field's. Assumes nothing.
-use Prim.Native.Nat.{ℕ, _+_, _-_, _^_, _≤_, _<_}
+use Prim.Native.Nat.{ℕ, _+_, _^_, _≤_, _<_}
 use mathlib.Core.Path.{_≡_, refl, sym, ap, _∙_, subst}
 use mathlib.Core.List.{List, [], _∷_, _++_, append-assoc, append-nil}
 use mathlib.Core.Bool.{true}
 use mathlib.Core.Option.{Option, some, none}
 use native.Mathlib.Omega.{arith}
-use native.Mathlib.Nat.{add-zero}
 use lib.ListN.{length, take, drop, replicate, length-append, length-drop, replicate-append-replicate}
 use lib.Seq.{take-add, take-all}
-use lib.Dec.{leb, ltb, eqb}
+use lib.Dec.{leb, eqb}
 use borrow.Author.Tests.{eqb-true, leb-true, ltb-true}
-use Rattle.octets.specs.Reading.{Read, ok, _then_, choose, isOk}
-use Rattle.octets.specs.Writing.{word, textImage, images}
+use Rattle.octets.specs.Reading.{Read, ok, _then_, isOk}
+use Rattle.octets.specs.Writing.{word, images}
 use Rattle.octets.proofs.Copies.{both-true}
 use Rattle.octets.proofs.Ends.{chosen-ok}
 use Rattle.kinds.specs.declared.Basic.{Basic}
 use Rattle.kinds.specs.declared.Form.{Form}
 use Rattle.kinds.specs.declared.Form.the-variants as form
-use Rattle.kinds.specs.Kinds.{codeOf, formOf, basicOf}
-use Rattle.kinds.proofs.Table.{code-known}
+use Rattle.kinds.specs.Kinds.{codeOf, formOf}
+use Rattle.kinds.proofs.Table.{code-once}
 use Rattle.layouts.specs.Layout.{Attribute, Layout}
-use Rattle.layouts.specs.Book.{Book, find, bookImage}
-use Rattle.rows.specs.Row.{Value, bits, held, Field, Row, valueImage, fieldImage, lengthImage, GoodValue, FieldsOf}
+use Rattle.layouts.specs.Book.{find}
+use Rattle.rows.specs.Row.{Value, bits, held, Field, valueImage, fieldImage, lengthImage, GoodValue, FieldsOf}
 use Rattle.headers.specs.Header.{headerImage}
 use Rattle.elements.specs.Element.{row}
-use Rattle.elements.specs.Document.{Document, itemImage, rowCount, image}
+use Rattle.elements.specs.Document.{Document, itemImage, image}
 use Rattle.writing.specs.declared.Turn.{Turn}
 use Rattle.writing.specs.declared.Turn.the-variants as wants
-use Rattle.writing.specs.Writer.{Call, openRow, value, closeRow, giveUp, finish, room, rule, isOpen, fine, unless, known, rowLayout, suits, isNext, does}
-use Rattle.promises_writing.specs.Promise.{each, fieldCalls, itemCalls, headerCalls, callsOf, bookBehind, onto, GivenValue, Told, adds, opens}
+use Rattle.writing.specs.Writer.{Call, openRow, value, closeRow, giveUp, finish, isOpen, fine, unless, known, rowLayout, suits, isNext, does}
+use Rattle.promises_writing.specs.Promise.{each, fieldCalls, itemCalls, headerCalls, callsOf, GivenValue, Told, adds, opens}
 use Rattle.promises_writing.proofs.Standing.{Spot, spot, stateAt, behind, row-layout, close-leaves, give-up-leaves}
 use Rattle.promises_writing.proofs.Writes.{image-parts}
 use Rattle.promises_writing.proofs.Put.{octetsOf, each-snoc, row-octets}
-use Rattle.promises_writing.proofs.Shapes.{Between, Opened, InRow, Shape, Stand, rest, lies, room-small, here, put-keeps}
+use Rattle.promises_writing.proofs.Shapes.{Opened, InRow, Shape, Stand, rest, room-small, here, put-keeps}
 use Rattle.promises_writing.proofs.KeepsHeader.{is-text, Keeps}
 use Rattle.promises_writing.proofs.KeepsLayout.{next-item, same-between, opening, longer, one-more}
 
@@ -54,11 +53,7 @@ next-is : (attributes : List Attribute) (b : Basic) (v : Value) → isNext attri
 next-is [] b v e = absurd (let z : _≡_ {A = ℕ} 0 1 = cc in omega arith)
 next-is (a ∷ others) b v e =
     let (t, u) = both-true (eqb (codeOf (a .kind .basic)) (codeOf b)) (suits (formOf b) v) e in
-    let code : codeOf (a .kind .basic) ≡ codeOf b = eqb-true _ _ t in
-    let one : basicOf (codeOf (a .kind .basic)) ≡ some (a .kind .basic) = code-known (a .kind .basic) .1 in
-    let two : basicOf (codeOf b) ≡ some b = code-known b .1 in
-    let same : some (a .kind .basic) ≡ some b = sym one ∙ (ap basicOf code ∙ two) in
-    record { a = a; others = others; is = refl; basic = cc; suited = u }
+    record { a = a; others = others; is = refl; basic = code-once (a .kind .basic) b (eqb-true _ _ t); suited = u }
 
 suits-good : (f : Form) (v : Value) → suits f v ≡ true → GivenValue v → length (valueImage f v) ≤ 1048576 → GoodValue f v
 suits-good (form.Fixed w) (bits n) e g h = ltb-true n (256 ^ w) e

@@ -11,8 +11,8 @@ use lib.ListN.{length, take, drop, replicate, length-append, length-drop, length
 use lib.Seq.{drop-drop}
 use lib.Dec.{eqb}
 use borrow.Author.Tests.{eqb-true, eqb-false}
-use Rattle.octets.specs.Reading.{Read, ok, isOk, choose}
-use Rattle.octets.specs.Writing.{word, images, Text}
+use Rattle.octets.specs.Reading.{Read, choose}
+use Rattle.octets.specs.Writing.{images, Text}
 use Rattle.layouts.specs.Layout.{Layout, GoodLayout}
 use Rattle.layouts.specs.Book.{Book, find, bookImage}
 use Rattle.layouts.proofs.Books.{GoodBook}
@@ -23,8 +23,9 @@ use Rattle.elements.specs.Document.{Document, itemImage, rowCount, image, GoodI
 use Rattle.writing.specs.declared.Turn.{Turn}
 use Rattle.writing.specs.declared.Turn.the-variants as wants
 use Rattle.writing.specs.Writer.{Call, recorder, startTime, defaultNamespace, namespaceCount, uri, serviceCount, openLayout, typeName, attributeCount, attributeName, openRow, Written, room, rule, sameTurn, turnAt, Deed, put}
+use Rattle.writing.proofs.Bounds.{same-turn, turn-count}
 use Rattle.promises_writing.specs.Promise.{each, namespaceCalls, serviceCalls, attributeCalls, fieldCalls, itemCalls, headerCalls, callsOf, bookBehind, onto, Told}
-use Rattle.promises_writing.proofs.Calls.{in-turn, Passes, leftBy}
+use Rattle.promises_writing.proofs.Calls.{Passes, leftBy}
 use Rattle.promises_writing.proofs.Standing.{Spot, spot, stateAt, standing, put-leaves}
 use Rattle.promises_writing.proofs.WritesHeader.{room-long}
 use Rattle.promises_writing.proofs.Put.{octetsOf}
@@ -199,12 +200,9 @@ module _ {buffer lent : List ℕ} {told : Told} (now : Stand buffer lent told) w
         rw (drop-lies (length xs) (now .zeroes) (length (now .done)) buffer, sum),
       )
 
-  -- What stands at the turn that a call has; of a list there something is to come.
+  -- What stands at the turn that a call has.
   pub here : (t : Turn) → sameTurn (now .at .turn) t ≡ true → Shape t (now .at) (now .done) told
-  here t e = subst (λ (v : Turn). Shape v (now .at) (now .done) told) (in-turn (now .at .turn) t e) (now .shape)
-
-  pub least-here : (t : Turn) → sameTurn (now .at .turn) t ≡ true → rule (now .at .turn) .least ≤ now .at .count → rule t .least ≤ now .at .count
-  least-here t e = subst (λ (v : Turn). rule v .least ≤ now .at .count) (in-turn (now .at .turn) t e)
+  here t e = subst (λ (v : Turn). Shape v (now .at) (now .done) told) (same-turn (now .at .turn) t e) (now .shape)
 
   -- A call that puts octets, by what stands at its turn.
   pub put-keeps : (next : Told) (t u : Turn) (fault : Read (Unit {0})) (xs : List ℕ) (j i : ℕ) {new : List ℕ} → PassesHere (put (stateAt (now .done) (now .at)) t fault xs u j i) new
@@ -214,5 +212,5 @@ module _ {buffer lent : List ℕ} {told : Told} (now : Stand buffer lent told) w
   put-keeps next t u fault xs j i p step =
       let fits = p .fits in
       let small : length xs ≤ 1048576 = omega (arith, room-small (length (now .done ++ rest now))) in
-      let (stand, is) = put-stand next xs (spot (now .at .book) u j i (now .at .rows)) fits (now .good) (step (here t (p .in-turn)) (least-here t (p .in-turn) (p .inside .least)) small) in
+      let (stand, is) = put-stand next xs (spot (now .at .book) u j i (now .at .rows)) fits (now .good) (step (here t (p .in-turn)) (turn-count (stateAt (now .done) (now .at)) (length (now .done ++ rest now)) (p .inside) t (p .in-turn) .0) small) in
       record { stand = stand; is = put-leaves lent (now .done) (rest now) (now .at) t u fault xs j i (p .takes) ∙ is }

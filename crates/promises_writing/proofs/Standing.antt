@@ -2,32 +2,33 @@
 -- Each is an equation on lists: what is laid over falls on the seam behind the octets written, or inside them. Assumes nothing.
 use Prim.Native.Nat.{ℕ, _+_, _-_, _^_, _≤_, _<_}
 use mathlib.Core.Path.{_≡_, refl, sym, ap, _∙_}
-use mathlib.Core.List.{List, [], _∷_, _++_, append-assoc, append-nil}
-use mathlib.Core.Bool.{Bool, true, false, _&&_}
-use mathlib.Core.Option.{Option, some, none}
+use mathlib.Core.List.{List, [], _++_, append-assoc}
+use mathlib.Core.Bool.{Bool, true, false}
+use mathlib.Core.Option.{some}
 use mathlib.Core.Logic.{inl, inr}
 use native.Mathlib.Omega.{arith}
 use native.Mathlib.Nat.{add-zero}
-use lib.ListN.{length, take, drop, replicate, length-append, length-drop, length-replicate, take-append-drop}
+use lib.ListN.{length, take, drop, replicate, length-append, length-drop, length-replicate}
 use lib.Seq.{take-append-seam, drop-append-seam, drop-append-add, drop-append-le, drop-drop, take-at, drop-at}
 use lib.Dec.{ltb, lit<}
 use borrow.Author.Tests.{le-leb, lt-ltb}
-use Rattle.octets.specs.Reading.{Read, ok, choose, be, part}
+use Rattle.octets.specs.Reading.{Read, ok, be, part}
 use Rattle.octets.specs.Writing.{word, textImage, images, over}
 use Rattle.octets.proofs.Spans.{length-word, be-word}
 use Rattle.octets.proofs.Inverse.{ok-value}
 use Rattle.octets.proofs.Copies.{same-refl}
 use Rattle.layouts.specs.Layout.{Layout, attributeImage, layoutImage}
 use Rattle.layouts.specs.Book.{Book, find, bookImage, bookOf}
-use Rattle.layouts.proofs.Books.{GoodBook, image-snoc, book-back}
-use Rattle.layouts.proofs.Learn.{Learnt}
+use Rattle.layouts.proofs.Books.{GoodBook, image-snoc, octets-book}
+use Rattle.layouts.proofs.Growing.{Learnt}
 use Rattle.rows.specs.Row.{Row, fieldImage, lengthImage, rowImage}
 use Rattle.elements.specs.Element.{row}
 use Rattle.elements.specs.Document.{itemImage}
 use Rattle.writing.specs.declared.Turn.{Turn}
 use Rattle.writing.specs.declared.Turn.the-variants as wants
 use Rattle.writing.specs.declared.State.{State}
-use Rattle.writing.specs.Writer.{closeRow, giveUp, Written, put, attributes, known, rowLayout, does, addition, layoutSoFar}
+use Rattle.writing.specs.Writer.{closeRow, giveUp, Written, put, attributes, rowLayout, does, addition, layoutSoFar}
+use Rattle.fields.proofs.Over.{over-nil}
 use Rattle.promises_writing.specs.Promise.{onto}
 use Rattle.promises_writing.proofs.Calls.{leftBy}
 
@@ -57,16 +58,12 @@ onto-length lent xs h = simp (length-append, length-drop) (omega arith)
 pub book-now : (lent : List ℕ) (b : Book) → 32768 ≤ length lent → GoodBook b → bookOf (onto lent (bookImage b)) (length (bookImage b)) ≡ ok b (length (bookImage b))
 book-now lent b long g =
     let small = g .small in
-    book-back b (onto lent (bookImage b)) g (rw (onto-length lent (bookImage b) (omega arith)) long) (take-append-seam (bookImage b) (drop (length (bookImage b)) lent))
+    octets-book b (drop (length (bookImage b)) lent) g (rw (onto-length lent (bookImage b) (omega arith)) long)
 
 pub behind : {d f : List ℕ} (xs : List ℕ) → d ≡ f → d ++ xs ≡ f ++ xs
 behind xs e = ap (λ (z : List ℕ). z ++ xs) e
 
--- Laying octets over a list: none, on a seam, and over as many.
-over-none : (s : List ℕ) (at : ℕ) → over s at [] ≡ s
-unfolding over
-over-none s at = rw (add-zero at) (take-append-drop at s)
-
+-- Laying octets over a list: on a seam, and over as many.
 over-seam : (done rest xs : List ℕ) → over (done ++ rest) (length done) xs ≡ (done ++ xs) ++ drop (length xs) rest
 unfolding over
 over-seam done rest xs = rw (take-append-seam done rest, drop-append-add done rest (length xs)) (sym (append-assoc done xs (drop (length xs) rest)))
@@ -95,7 +92,7 @@ pub put-leaves : (lent done rest : List ℕ) (x : Spot) (t u : Turn) (fault : Re
 put-leaves lent done rest x t u fault xs j i e =
     rw (
       ← ok-value refl e,
-      over-none (onto lent (bookImage (x .book))) (length (bookImage (x .book))),
+      over-nil (onto lent (bookImage (x .book))) (length (bookImage (x .book))),
       add-zero (length (bookImage (x .book))),
       over-seam done rest xs,
       length-append done xs,
@@ -132,7 +129,7 @@ takes-learnt lent b l next small (inl h) =
     record {
       new = [];
       takes = rw (number-first l small, h .1, h .2, same-refl (layoutImage l));
-      book = rw (h .3) (over-none (onto lent (bookImage b)) (length (bookImage b)));
+      book = rw (h .3) (over-nil (onto lent (bookImage b)) (length (bookImage b)));
       used = rw (h .3) (add-zero (length (bookImage b)));
     }
 takes-learnt lent b l next small (inr h) =
@@ -195,7 +192,7 @@ pub close-leaves : (lent before rest done : List ℕ) (x : Spot) (r : Row)
 unfolding does rowImage
 close-leaves lent before rest done x r form start e =
     let (buffer, place) = closing before (images fieldImage (r .fields)) rest done (r .number) (x .start) (r .is-stated) form start in (
-      rw (← ok-value refl e, over-none (onto lent (bookImage (x .book))) (length (bookImage (x .book))), add-zero (length (bookImage (x .book))), buffer, place),
+      rw (← ok-value refl e, over-nil (onto lent (bookImage (x .book))) (length (bookImage (x .book))), add-zero (length (bookImage (x .book))), buffer, place),
       place,
     )
 
@@ -213,7 +210,7 @@ unfolding does
 give-up-leaves lent before more rest done x form start e =
     rw (
       ← ok-value refl e,
-      over-none (onto lent (bookImage (x .book))) (length (bookImage (x .book))),
+      over-nil (onto lent (bookImage (x .book))) (length (bookImage (x .book))),
       add-zero (length (bookImage (x .book))),
       giving-up before more rest done (x .start) form start,
       start,

@@ -1,7 +1,7 @@
 -- The promise: the calls of a document inside the limits are all accepted and leave its image, which is read back.
 -- Header, items and end are put one behind the other, each item over the book that those before it left. Assumes nothing.
 use Prim.Native.Nat.{ℕ, _+_, _≤_}
-use mathlib.Core.Path.{_≡_, refl, sym, ap, _∙_}
+use mathlib.Core.Path.{_≡_, refl, ap, _∙_}
 use mathlib.Core.List.{List, [], _∷_, _++_, append-assoc}
 use mathlib.Core.Logic.{inl, inr}
 use native.Mathlib.Omega.{arith}
@@ -13,7 +13,7 @@ use Rattle.octets.specs.Writing.{word, images}
 use Rattle.layouts.specs.Layout.{Layout}
 use Rattle.layouts.specs.Book.{Book, find, isNone, bookImage, learn}
 use Rattle.layouts.proofs.Books.{GoodBook}
-use Rattle.layouts.proofs.Learn.{Learnt, learnt, grown, good-nil}
+use Rattle.layouts.proofs.Growing.{Learnt, learnt, grown, good-nil}
 use Rattle.headers.specs.Header.{headerImage}
 use Rattle.elements.specs.Element.{Item, layout, row}
 use Rattle.elements.specs.Steps.{reading}
@@ -21,8 +21,8 @@ use Rattle.elements.specs.Document.{Document, itemImage, rowCount, image, GoodI
 use Rattle.promises.proofs.Documents.{complete, few}
 use Rattle.writing.specs.declared.Turn.the-variants as wants
 use Rattle.writing.specs.Writer.{finish, room, fine, does, runCalls}
-use Rattle.promises_writing.specs.Promise.{each, headerCalls, itemCalls, callsOf, withLayout, bookBehind, begun, finished}
-use Rattle.promises_writing.proofs.Standing.{Spot, spot}
+use Rattle.promises_writing.specs.Promise.{each, itemCalls, callsOf, withLayout, bookBehind, begun, finished}
+use Rattle.promises_writing.proofs.Standing.{spot}
 use Rattle.promises_writing.proofs.WritesHeader.{Puts, puts-none, puts-both, puts-as, put-one, header-put}
 use Rattle.promises_writing.proofs.WritesLayout.{layout-put}
 use Rattle.promises_writing.proofs.WritesRow.{row-put}

@@ -1,14 +1,14 @@
 -- The calls of a header put its image.
 -- A call that puts octets and meets no fault is accepted where they fit; runs of such calls join. Assumes nothing.
 use Prim.Native.Nat.{ℕ, suc, _+_, _-_, _≤_}
-use mathlib.Core.Path.{_≡_, refl, sym, ap, _∙_, subst}
+use mathlib.Core.Path.{_≡_, refl, ap, subst}
 use mathlib.Core.List.{List, [], _∷_, _++_, append-assoc, append-nil}
-use mathlib.Core.Bool.{Bool, true, false}
+use mathlib.Core.Bool.{true}
 use native.Mathlib.Omega.{arith}
 use lib.ListN.{length, drop, length-append}
 use lib.Dec.{leb, eqb, eqb·suc-zero}
 use borrow.Author.Tests.{le-leb, eq-eqb}
-use Rattle.octets.specs.Reading.{Read, ok, isOk, choose}
+use Rattle.octets.specs.Reading.{Read, isOk}
 use Rattle.octets.specs.Writing.{word, textImage, images}
 use Rattle.layouts.specs.Book.{Book, bookImage}
 use Rattle.layouts.proofs.Books.{GoodBook}
@@ -16,8 +16,9 @@ use Rattle.headers.specs.Header.{Namespace, Header, namespaceImage, headerImage
 use Rattle.writing.specs.declared.Turn.{Turn}
 use Rattle.writing.specs.declared.Turn.the-variants as wants
 use Rattle.writing.specs.Writer.{Call, recorder, startTime, defaultNamespace, namespaceCount, uri, shortName, serviceCount, service, documentId, Written, room, rule, fine, unless, put, turnAt, does}
+use Rattle.writing.proofs.Bounds.{Bounds}
 use Rattle.promises_writing.specs.Promise.{each, namespaceCalls, serviceCalls, headerCalls, onto}
-use Rattle.promises_writing.proofs.Calls.{Bounds, Passes, accepted, Runs, runs-both, runs-none, runs-one}
+use Rattle.promises_writing.proofs.Calls.{Passes, accepted, Runs, runs-both, runs-none, runs-one}
 use Rattle.promises_writing.proofs.Standing.{Spot, spot, stateAt, standing, onto-length, book-now, drop-on, put-leaves}
 
 -- What stands in a lent buffer whose first octets were written, all behind them as lent.

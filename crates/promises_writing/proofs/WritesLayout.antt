@@ -1,9 +1,9 @@
 -- The calls of a layout that can be learnt put its image, and the book takes it.
 -- Up to the last call octets are put behind those written; that one completes the layout. Assumes nothing.
-use Prim.Native.Nat.{ℕ, suc, _+_, _-_, _*_, _%_, _^_, _≤_, _<_}
+use Prim.Native.Nat.{ℕ, suc, _-_, _^_, _≤_, _<_}
 use mathlib.Core.Path.{_≡_, refl, sym, ap, _∙_}
 use mathlib.Core.List.{List, [], _∷_, _++_, append-assoc, append-nil}
-use mathlib.Core.Bool.{Bool, true, false}
+use mathlib.Core.Bool.{true}
 use native.Mathlib.Omega.{arith}
 use lib.ListN.{length, drop, length-append}
 use lib.Dec.{leb, eqb·suc-zero}
@@ -13,18 +13,17 @@ use Rattle.octets.specs.Reading.{Read, ok, _then_, isOk}
 use Rattle.octets.specs.Writing.{word, textImage, images, Each}
 use Rattle.octets.proofs.Spans.{length-word}
 use Rattle.kinds.specs.declared.Kind.{Kind}
-use Rattle.kinds.specs.Kinds.{numberOf, codeOf, kindOf}
+use Rattle.kinds.specs.Kinds.{numberOf, kindOf}
 use Rattle.kinds.proofs.Table.{code-known, kind-some}
 use Rattle.layouts.specs.Layout.{Attribute, Layout, attributeImage, layoutImage, GoodAttribute, GoodLayout}
 use Rattle.layouts.specs.Book.{Book, bookImage, learn}
 use Rattle.layouts.proofs.Books.{GoodBook}
-use Rattle.layouts.proofs.Learn.{learnt}
+use Rattle.layouts.proofs.Growing.{learnt}
 use Rattle.elements.specs.Element.{layout}
 use Rattle.elements.specs.Document.{itemImage}
 use Rattle.writing.specs.declared.Turn.{Turn}
 use Rattle.writing.specs.declared.Turn.the-variants as wants
-use Rattle.writing.specs.declared.State.{State}
-use Rattle.writing.specs.Writer.{Call, openLayout, typeName, attributeCount, attributeName, attributeType, room, rule, fine, unless, put, attributes, does}
+use Rattle.writing.specs.Writer.{Call, openLayout, typeName, attributeCount, attributeName, attributeType, rule, fine, unless, attributes, does}
 use Rattle.promises_writing.specs.Promise.{each, attributeCalls, itemCalls, onto}
 use Rattle.promises_writing.proofs.Calls.{Passes, accepted, runs-one}
 use Rattle.promises_writing.proofs.Standing.{Spot, spot, stateAt, book-now, drop-on, behind, so-far, takes-learnt, complete-leaves}
@@ -33,10 +32,10 @@ use Rattle.promises_writing.proofs.WritesHeader.{stand, room-same, Puts
 -- A good type is no fault.
 kind-taken : (k : Kind) → k .derived < 256 → isOk (kindOf 0 (numberOf k) 0 then λ _ _. fine) ≡ true
 kind-taken k g =
-    let c = code-known (k .basic) .0 in
-    rw (kind-some 0 (numberOf k) 0 (k .basic) (omega arith) (sym (digits-mod (k .derived) c)))
+    let c = code-known (k .basic) .1 in
+    rw (kind-some 0 (numberOf k) 0 (k .basic) (omega arith) (sym (digits-mod (k .derived) (omega arith))))
 
-pub layout-starts : (l : Layout)
+layout-starts : (l : Layout)
     → layoutImage l ≡ word 4 (l .number) ++ (textImage (l .type-name) ++ (word 4 (length (l .attributes)) ++ images attributeImage (l .attributes)))
 unfolding layoutImage
 layout-starts l = simp append-assoc

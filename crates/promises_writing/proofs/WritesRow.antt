@@ -1,16 +1,16 @@
 -- The calls of a row whose layout is in the book put its image.
 -- Its length stands as zero while values are put behind it, and closing puts it. Assumes nothing.
 use Prim.Native.Nat.{ℕ, suc, _+_, _^_, _≤_, _<_}
-use mathlib.Core.Path.{_≡_, refl, sym, ap, _∙_, subst}
+use mathlib.Core.Path.{_≡_, refl, sym, ap, _∙_}
 use mathlib.Core.List.{List, [], _∷_, _++_, append-assoc, append-nil}
-use mathlib.Core.Bool.{Bool, true, false}
+use mathlib.Core.Bool.{true}
 use mathlib.Core.Option.{some}
 use native.Mathlib.Omega.{arith}
 use native.Mathlib.Nat.{add-zero, zero-add, le-refl}
 use lib.ListN.{length, drop, length-append}
 use lib.Seq.{drop-drop}
 use borrow.Author.Tests.{le-leb, lt-ltb, eq-eqb}
-use Rattle.octets.specs.Reading.{Read, ok, _then_, isOk}
+use Rattle.octets.specs.Reading.{Read, _then_, isOk}
 use Rattle.octets.specs.Writing.{word, images}
 use Rattle.octets.proofs.Spans.{length-word}
 use Rattle.kinds.specs.declared.Form.{Form}
@@ -19,16 +19,16 @@ use Rattle.kinds.specs.Kinds.{codeOf, formOf}
 use Rattle.layouts.specs.Layout.{Attribute, Layout, GoodLayout}
 use Rattle.layouts.specs.Book.{Book, find, bookImage}
 use Rattle.layouts.proofs.Books.{GoodBook}
-use Rattle.layouts.proofs.Find.{each-find}
+use Rattle.layouts.proofs.Finding.{each-find}
 use Rattle.rows.specs.Row.{Value, bits, held, Field, Row, valueImage, fieldImage, lengthImage, GoodValue, FieldsOf}
 use Rattle.elements.specs.Element.{row}
 use Rattle.elements.specs.Document.{itemImage}
 use Rattle.writing.specs.declared.Turn.the-variants as wants
-use Rattle.writing.specs.Writer.{openRow, value, closeRow, room, rule, fine, unless, known, rowLayout, suits, isNext, does}
+use Rattle.writing.specs.Writer.{openRow, value, closeRow, room, fine, unless, known, rowLayout, suits, isNext, does}
 use Rattle.promises_writing.specs.Promise.{each, fieldCalls, itemCalls, onto}
 use Rattle.promises_writing.proofs.Calls.{Passes, accepted, Runs, runs-both, runs-one}
 use Rattle.promises_writing.proofs.Standing.{Spot, spot, stateAt, standing, book-now, row-layout, length-size, close-leaves}
-use Rattle.promises_writing.proofs.WritesHeader.{stand, room-same, Puts, puts-none, puts-both, Ready, ready-bounds, put-one}
+use Rattle.promises_writing.proofs.WritesHeader.{stand, room-same, Puts, puts-none, puts-both, ready-bounds, put-one}
 
 good-suits : (f : Form) (v : Value) → GoodValue f v → suits f v ≡ true
 good-suits (form.Fixed w) (bits n) g = lt-ltb n (256 ^ w) g

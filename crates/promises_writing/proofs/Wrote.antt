@@ -7,12 +7,12 @@ use native.Mathlib.Omega.{arith}
 use lib.ListN.{length, take, drop, replicate, length-replicate}
 use lib.Seq.{drop-at, length-take-le}
 use lib.Dec.{lit<}
-use Rattle.octets.specs.Reading.{ok, _then_}
+use Rattle.octets.specs.Reading.{ok}
 use Rattle.octets.specs.Writing.{word, images, over, Each}
 use Rattle.octets.proofs.Spans.{length-word, word-octets}
-use Rattle.octets.proofs.Inverse.{after, settle}
+use Rattle.octets.proofs.Inverse.{ok-value, after, settle}
 use Rattle.layouts.specs.Book.{Book, bookImage, bookOf}
-use Rattle.layouts.proofs.Learn.{good-nil}
+use Rattle.layouts.proofs.Growing.{good-nil}
 use Rattle.elements.specs.Steps.{reading}
 use Rattle.elements.specs.Document.{Document, rowCount, image, readingOf}
 use Rattle.promises.proofs.Documents.{one-meaning}
@@ -22,8 +22,8 @@ use Rattle.writing.specs.Writer.{Call, recorder, startTime, defaultNamespace, n
 use Rattle.promises_writing.specs.Promise.{bookBehind, onto, begun, finished, Given, Told, nothing-told, tell, tellAll, told, Wrote}
 use Rattle.promises_writing.proofs.Calls.{passed-all}
 use Rattle.promises_writing.proofs.Standing.{Spot, spot, stateAt, standing, book-now}
-use Rattle.promises_writing.proofs.Writes.{image-stands, reads}
-use Rattle.promises_writing.proofs.Shapes.{Ended, Shape, Stand, rest, lies, written, Inv}
+use Rattle.promises_writing.proofs.Writes.{writes, image-stands, reads}
+use Rattle.promises_writing.proofs.Shapes.{Ended, Shape, Stand, rest, lies, Inv}
 use Rattle.promises_writing.proofs.KeepsHeader.{Keeps, keep-recorder, keep-start, keep-default, keep-namespaces, keep-uri, keep-short, keep-services, keep-service, keep-id}
 use Rattle.promises_writing.proofs.KeepsLayout.{keep-layout, keep-name, keep-attributes, keep-attribute, keep-type}
 use Rattle.promises_writing.proofs.KeepsRow.{keep-row, keep-value, keep-close, keep-given-up, keep-finish}
@@ -138,6 +138,13 @@ wrote calls g buffer book long w n e last =
       inside = rw (← end .is) (now .inside);
       left = i .is ∙ finished-stands buffer book (now .done) (now .zeroes) (now .at) (end .d) (end .is) (end .spot-is) (now .inside);
     }
+
+-- Where nothing was given up, so that the calls are just what was told, all behind the image is as lent.
+pub wrote-plain : (calls : List Call) (buffer book : List ℕ) → 32768 ≤ length book → (w : Written) (n : ℕ) → runCalls calls (begun buffer book) ≡ ok w n → told calls ≡ calls
+    → (h : Wrote calls buffer book w) → w ≡ finished (h .document) buffer book
+wrote-plain calls buffer book long w n e plain h =
+    let d : Document = h .document in
+    ok-value (rw (sym plain ∙ h .said) at e) (writes d (h .good) buffer book (omega (arith, h .inside)) long)
 
 -- The book that accepted calls leave is one that the next call takes: it is not refused by 17.
 pub book-again : (calls : List Call) → Each Given calls → (buffer book : List ℕ) → 32768 ≤ length book → (w : Written) (n : ℕ) → runCalls calls (begun buffer book) ≡ ok w n
