@@ -4,7 +4,6 @@ pub mod WritesHeader
 pub mod WritesLayout
 pub mod WritesRow
 pub mod Writes
-pub mod Given
 pub mod Put
 pub mod Shapes
 pub mod KeepsHeader

@@ -3,13 +3,12 @@
 use Prim.Native.Nat.{ℕ}
 use mathlib.Core.Path.{_≡_, refl, sym, ap, _∙_}
 use mathlib.Core.List.{List, [], _∷_, _++_, append-assoc, append-nil}
-use lib.ListN.{length}
 use Rattle.octets.specs.Writing.{word, textImage, images}
 use Rattle.layouts.specs.Layout.{Layout, attributeImage, layoutImage}
 use Rattle.rows.specs.Row.{Row, fieldImage, lengthImage}
 use Rattle.headers.specs.Header.{Header, namespaceImage, headerImage}
 use Rattle.elements.specs.Element.{layout}
-use Rattle.writing.specs.Writer.{Call, serviceCount, documentId, openRow, fresh, does}
+use Rattle.writing.specs.Writer.{Call, openRow, fresh, does}
 use Rattle.promises_writing.specs.Promise.{each, namespaceCalls, serviceCalls, attributeCalls, fieldCalls, itemCalls, headerCalls}
 
 -- The octets that a call puts, where they do not depend on the state.
@@ -40,13 +39,13 @@ images-each f g one (a ∷ xs) = images-join octetsOf (f a) (each f xs) ∙ rw (
 pub header-octets : (h : Header) → images octetsOf (headerCalls h) ≡ headerImage h
 unfolding headerCalls headerImage namespaceImage does images
 header-octets h =
-    rw (
-      images-join octetsOf (each namespaceCalls (h .others)) (serviceCount (length (h .services)) ∷ (each serviceCalls (h .services) ++ documentId (h .id) ∷ [])),
-      images-each namespaceCalls namespaceImage (λ n. simp append-nil) (h .others),
-      images-join octetsOf (each serviceCalls (h .services)) (documentId (h .id) ∷ []),
-      images-each serviceCalls textImage (λ xs. simp append-nil) (h .services),
+    simp (
+      images-join octetsOf,
+      images-each namespaceCalls namespaceImage (λ n. simp append-nil),
+      images-each serviceCalls textImage (λ xs. simp append-nil),
+      append-assoc,
+      append-nil,
     )
-    (simp (append-assoc, append-nil))
 
 pub layout-octets : (l : Layout) → images octetsOf (itemCalls (layout l)) ≡ word 4 1 ++ layoutImage l
 unfolding layoutImage attributeImage does images
