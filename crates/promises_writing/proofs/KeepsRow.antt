@@ -34,7 +34,7 @@ use Rattle.promises_writing.proofs.Writes.{image-parts}
 use Rattle.promises_writing.proofs.Put.{octetsOf, each-snoc, row-octets}
 use Rattle.promises_writing.proofs.Shapes.{Opened, InRow, Shape, Stand, rest, room-small, here, put-keeps}
 use Rattle.promises_writing.proofs.KeepsHeader.{is-text, Keeps}
-use Rattle.promises_writing.proofs.KeepsLayout.{next-item, same-between, opening, longer, one-more}
+use Rattle.promises_writing.proofs.Items.{next-item, same-between, opening, longer, one-more}
 
 -- A layout that is looked up without fault is there.
 known-is : (o : Option Layout) → isOk (known o then λ _ _. fine) ≡ true → (l : Layout) × (o ≡ some l)

@@ -6,6 +6,7 @@ pub mod WritesRow
 pub mod Writes
 pub mod Put
 pub mod Shapes
+pub mod Items
 pub mod KeepsHeader
 pub mod KeepsLayout
 pub mod KeepsRow

@@ -104,7 +104,7 @@ served h n = namespaced h (length (h .others)) ++ ((serviceCount n ∷ []) ++ ea
 abbrev pub attributed : Layout → ℕ → List Call
 attributed l n = (openLayout (l .number) ∷ typeName (l .type-name) ∷ attributeCount n ∷ []) ++ each attributeCalls (l .attributes)
 
--- By turn.
+-- What stands at each turn.
 abbrev pub Shape : Turn → Spot → List ℕ → Told → Type 0
 Shape wants.Recorder x = InHeader (λ h n name. []) (λ h n. Unit {0}) x
 Shape wants.StartTime x = InHeader (λ h n name. recorder (h .recorder) ∷ []) (λ h n. Unit {0}) x
@@ -127,6 +127,7 @@ Shape wants.Nothing x = Ended x
 abbrev pub lies : List ℕ → ℕ → ℕ → List ℕ
 lies buffer place zeroes = replicate zeroes 0 ++ drop (place + zeroes) buffer
 
+-- All that stands over a lent buffer and a lent book, where so much was told.
 pub record Stand (buffer lent : List ℕ) (told : Told) : Type 0 where
   pub done : List ℕ
   pub zeroes : ℕ
@@ -141,6 +142,7 @@ rest {buffer} now = lies buffer (length (now .done)) (now .zeroes)
 abbrev pub written : {buffer lent : List ℕ} {told : Told} → Stand buffer lent told → Written
 written {lent = lent} now = standing lent (now .done) (rest now) (now .at)
 
+-- What is kept from call to call.
 pub record Inv (buffer lent : List ℕ) (told : Told) (w : Written) : Type 0 where
   pub stand : Stand buffer lent told
   pub is : w ≡ written stand

@@ -59,7 +59,7 @@ bookBehind b [] = b
 bookBehind b (layout l ∷ rest) = bookBehind (withLayout b l) rest
 bookBehind b (row r ∷ rest) = bookBehind b rest
 
--- A fresh state and an empty book, over a lent buffer and lent octets for the book.
+-- From where the image is promised: a fresh state and an empty book, over a lent buffer and lent octets for the book.
 abbrev pub begun : List ℕ → List ℕ → Written
 begun buffer book = record { state = fresh; buffer = buffer; book = book; used = 0 }
 
@@ -67,7 +67,7 @@ begun buffer book = record { state = fresh; buffer = buffer; book = book; used =
 abbrev pub onto : List ℕ → List ℕ → List ℕ
 onto lent xs = xs ++ drop (length xs) lent
 
--- A document written whole: the place behind its image and nothing more wanted, its image at the buffer's start, the book of its layouts.
+-- A document written whole: its image at the buffer's start with the place behind it, nothing more wanted, its rows counted, and the book of its layouts; octets behind the place are as lent.
 unfoldable pub finished : Document → List ℕ → List ℕ → Written
 finished d buffer book =
     record {
