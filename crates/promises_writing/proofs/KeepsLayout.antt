@@ -53,8 +53,8 @@ record Learns (b : Book) (l : Layout) : Type 0 where
   next : Book
   learns : learn b l 0 ≡ ok next 0
 
-learns-of : (b : Book) (l : Layout) (new : List ℕ) (q : ℕ) → l .number < 2 ^ 32 → addition true b (length (bookImage b)) (layoutImage l) ≡ ok new q → Learns b l
-learns-of b l new q small e = go (find (l .number) b) refl (subst (λ (n : ℕ). additionFor b (length (bookImage b)) (layoutImage l) (find n b) ≡ ok new q) (number-first l small) e)
+learns-of : (b : Book) (l : Layout) (new : List ℕ) (q : ℕ) → GoodLayout l → addition true b (length (bookImage b)) (layoutImage l) ≡ ok new q → Learns b l
+learns-of b l new q g e = go (find (l .number) b) refl (subst (λ (n : ℕ). additionFor b (length (bookImage b)) (layoutImage l) (find n b) ≡ ok new q) (number-first l g) e)
   where
     go : (o : Option Layout) → find (l .number) b ≡ o → additionFor b (length (bookImage b)) (layoutImage l) o ≡ ok new q → Learns b l
     go (some m) f h =
@@ -92,9 +92,9 @@ module _ {buffer lent : List ℕ} {told : Told} (now : Stand buffer lent told) w
       let low : 4 ≤ length more = omega (arith, o .start, ap length (o .is), length-append (o .before) more) in
       let taken : addition true (x .book) (length (bookImage (x .book))) (layoutImage l) ≡ ok new (p .end) =
       rw (so-far (o .before) more (rest now) xs (now .done) x l (o .is) (o .start) low whole) at (p .takes) in
-      let found = learns-of (x .book) l new (p .end) (i .good .number) taken in
+      let found = learns-of (x .book) l new (p .end) (i .good) taken in
       let next : Book = found .next in
-      let takes = takes-learnt lent (x .book) l next (i .good .number) (learnt (x .book) l 0 next 0 (found .learns)) in
+      let takes = takes-learnt lent (x .book) l next (i .good) (learnt (x .book) l 0 next 0 (found .learns)) in
       let calls : List Call = told .settled ++ itemCalls (layout l) in
       let all : now .done ++ xs ≡ o .before ++ itemImage (layout l) = behind xs (o .is) ∙ (append-assoc (o .before) more xs ∙ ap (λ (z : List ℕ). o .before ++ z) whole) in
       let item : Between (withLayout (x .book) l) (x .rows + 0) (o .before ++ itemImage (layout l)) calls = next-item (o .between) (layout l) (i .good, (next, found .learns, tt)) in

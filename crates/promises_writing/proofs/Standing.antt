@@ -13,12 +13,14 @@ use lib.Seq.{take-append-seam, drop-append-seam, drop-append-add, drop-append-le
 use lib.Dec.{ltb, lit<}
 use borrow.Author.Tests.{le-leb, lt-ltb}
 use Rattle.octets.specs.Reading.{Read, ok, be, part}
-use Rattle.octets.specs.Writing.{word, textImage, images, over}
-use Rattle.octets.proofs.Spans.{length-word, be-word}
+use Rattle.octets.specs.Writing.{word, images, over}
+use Rattle.octets.proofs.Spans.{all-spans, length-word, be-word}
 use Rattle.octets.proofs.Inverse.{ok-value}
 use Rattle.octets.proofs.Copies.{same-refl}
-use Rattle.layouts.specs.Layout.{Layout, attributeImage, layoutImage}
+use Rattle.layouts.specs.Layout.{Layout, layoutImage, GoodLayout}
 use Rattle.layouts.specs.Book.{Book, find, bookImage, bookOf}
+use Rattle.layouts.proofs.Layouts.{layout-inverse}
+use Rattle.layouts.proofs.Parts.{layout-number}
 use Rattle.layouts.proofs.Books.{GoodBook, image-snoc, octets-book}
 use Rattle.layouts.proofs.Growing.{Learnt}
 use Rattle.rows.specs.Row.{Row, fieldImage, lengthImage, rowImage}
@@ -28,6 +30,7 @@ use Rattle.writing.specs.declared.Turn.{Turn}
 use Rattle.writing.specs.declared.Turn.the-variants as wants
 use Rattle.writing.specs.declared.State.{State}
 use Rattle.writing.specs.Writer.{closeRow, giveUp, Written, put, attributes, rowLayout, does, addition, layoutSoFar}
+use Rattle.writing.proofs.Values.{length-size}
 use Rattle.fields.proofs.Over.{over-nil}
 use Rattle.promises_writing.specs.Promise.{onto}
 use Rattle.promises_writing.proofs.Calls.{leftBy}
@@ -111,11 +114,8 @@ so-far before more rest xs done x l e start h whole =
     ∙ (sym (drop-append-le 4 more xs h) ∙ (ap (drop 4) whole ∙ drop-at (word 4 1) (layoutImage l) 4 (length-word 4 1))))
 
 -- A layout's number stands first in it.
-pub number-first : (l : Layout) → l .number < 2 ^ 32 → be 4 (layoutImage l) 0 ≡ l .number
-unfolding layoutImage
-number-first l h =
-    let post : List ℕ = textImage (l .type-name) ++ (word 4 (length (l .attributes)) ++ images attributeImage (l .attributes)) in
-    ap (λ (s : List ℕ). be 4 s 0) (simp append-assoc) ∙ be-at 4 (l .number) 0 [] post h refl
+pub number-first : (l : Layout) → GoodLayout l → be 4 (layoutImage l) 0 ≡ l .number
+number-first l g = let s : List ℕ = layoutImage l in layout-number s 0 (layout-inverse s .back l tt g (all-spans s)) .1
 
 -- What a book takes of a layout that it learns, and what stands in the lent octets then.
 pub record Takes (lent : List ℕ) (b : Book) (l : Layout) (next : Book) : Type 0 where
@@ -124,18 +124,18 @@ pub record Takes (lent : List ℕ) (b : Book) (l : Layout) (next : Book) : Type 
   pub book : over (onto lent (bookImage b)) (length (bookImage b)) new ≡ onto lent (bookImage next)
   pub used : length (bookImage b) + length new ≡ length (bookImage next)
 
-pub takes-learnt : (lent : List ℕ) (b : Book) (l : Layout) (next : Book) → l .number < 2 ^ 32 → Learnt b l next → Takes lent b l next
-takes-learnt lent b l next small (inl h) =
+pub takes-learnt : (lent : List ℕ) (b : Book) (l : Layout) (next : Book) → GoodLayout l → Learnt b l next → Takes lent b l next
+takes-learnt lent b l next g (inl h) =
     record {
       new = [];
-      takes = rw (number-first l small, h .1, h .2, same-refl (layoutImage l));
+      takes = rw (number-first l g, h .1, h .2, same-refl (layoutImage l));
       book = rw (h .3) (over-nil (onto lent (bookImage b)) (length (bookImage b)));
       used = rw (h .3) (add-zero (length (bookImage b)));
     }
-takes-learnt lent b l next small (inr h) =
+takes-learnt lent b l next g (inr h) =
     record {
       new = layoutImage l;
-      takes = rw (number-first l small, h .0, lt-ltb (length b) 64 (h .1), le-leb (length (bookImage b) + length (layoutImage l)) 32768 (h .2));
+      takes = rw (number-first l g, h .0, lt-ltb (length b) 64 (h .1), le-leb (length (bookImage b) + length (layoutImage l)) 32768 (h .2));
       book = rw (h .3, image-snoc b l) (over-onto lent (bookImage b) (layoutImage l));
       used = rw (h .3, image-snoc b l, length-append (bookImage b) (layoutImage l));
     }
@@ -156,10 +156,6 @@ row-layout before post rest done x n l e start small found =
     ap (λ (z : List ℕ). be 4 z (x .start + 4)) form
     ∙ be-at 4 n (x .start + 4) (before ++ word 4 2) (post ++ rest) small (omega (arith, length-append before (word 4 2), length-word 4 2)) in
     rw (number, found)
-
-pub length-size : (t : Bool) (n : ℕ) → length (lengthImage t n) ≡ 4
-length-size true n = length-word 4 n
-length-size false n = length-word 4 0xffffffff
 
 -- Whether an open row is stated is read back from its length, which is zero yet.
 stated-back : (t : Bool) (pre post : List ℕ) (p : ℕ) → p ≡ length pre → ltb (be 4 (pre ++ (lengthImage t 0 ++ post)) p) 0xffffffff ≡ t

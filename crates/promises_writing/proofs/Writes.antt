@@ -57,7 +57,7 @@ module _ (buffer lent : List ℕ) (long : 32768 ≤ length lent) where
       let again = items-put rest (done ++ itemImage (layout l)) next rows (grown b l 0 next 0 s (g .0) (g .1 .1) .good) (g .1 .2) m in
       rw (← learn-with b l next 0 0 (g .1 .1)) (
         again .0,
-        puts-both {a = itemCalls (layout l)} (layout-put buffer lent long b s rows (omega arith) done l next (g .0 .number) (g .1 .1) (g .0)) (again .1),
+        puts-both {a = itemCalls (layout l)} (layout-put buffer lent long b s rows (omega arith) done l next (g .0) (g .1 .1)) (again .1),
       )
   items-put (row r ∷ rest) done b rows s g m =
       let sum : rows + (1 + rowCount rest) ≡ (rows + 1) + rowCount rest = omega arith in

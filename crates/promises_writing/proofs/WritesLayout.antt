@@ -1,6 +1,6 @@
 -- The calls of a layout that can be learnt put its image, and the book takes it.
 -- Up to the last call octets are put behind those written; that one completes the layout. Assumes nothing.
-use Prim.Native.Nat.{ℕ, suc, _-_, _^_, _≤_, _<_}
+use Prim.Native.Nat.{ℕ, suc, _-_, _≤_, _<_}
 use mathlib.Core.Path.{_≡_, refl, sym, ap, _∙_}
 use mathlib.Core.List.{List, [], _∷_, _++_, append-assoc, append-nil}
 use mathlib.Core.Bool.{true}
@@ -41,7 +41,7 @@ unfolding layoutImage
 layout-starts l = simp append-assoc
 
 module _ (buffer lent : List ℕ) (long : 32768 ≤ length lent) (b : Book) (good : GoodBook b) (rows : ℕ) (few : rows ≤ 1048576)
-    (before : List ℕ) (l : Layout) (next : Book) (small : l .number < 2 ^ 32) (learns : learn b l 0 ≡ ok next 0) where
+    (before : List ℕ) (l : Layout) (next : Book) (inside : GoodLayout l) (learns : learn b l 0 ≡ ok next 0) where
   -- The call that completes the layout.
   complete-one : (c : Call) (done more xs : List ℕ) (t : Turn) (k : ℕ) (fault : Read (Unit {0})) → done ≡ before ++ more → 4 ≤ length more
       → more ++ xs ≡ word 4 1 ++ layoutImage l
@@ -53,7 +53,7 @@ module _ (buffer lent : List ℕ) (long : 32768 ≤ length lent) (b : Book) (goo
         runs = λ h.
             let x : Spot = spot b t k (length before) rows in
             let sum = length-append done xs in
-            let found = takes-learnt lent b l next small (learnt b l 0 next 0 learns) in
+            let found = takes-learnt lent b l next inside (learnt b l 0 next 0 learns) in
             let p : Passes (stateAt done x) (onto buffer done) (length (bookImage b)) b (attributes (stateAt done x) t fault xs 0) (found .new) =
             record {
               inside = ready-bounds buffer done x r (omega arith);
@@ -115,9 +115,9 @@ module _ (buffer lent : List ℕ) (long : 32768 ≤ length lent) (b : Book) (goo
       (attributes-put rest a (done ++ word 4 k) (more ++ word 4 k) (behind (word 4 k) form ∙ append-assoc before more (word 4 k)) (rw length-append (omega arith)) h g
       (simp append-assoc whole))
 
-  pub layout-put : GoodLayout l → Puts buffer lent (itemCalls (layout l)) (itemImage (layout l)) before (spot b wants.Element 0 0 rows) (spot next wants.Element 0 0 rows)
+  pub layout-put : Puts buffer lent (itemCalls (layout l)) (itemImage (layout l)) before (spot b wants.Element 0 0 rows) (spot next wants.Element 0 0 rows)
   unfolding does
-  layout-put g =
+  layout-put =
       let top : List ℕ = word 4 1 ++ word 4 (l .number) in
       let name : List ℕ = textImage (l .type-name) in
       let long-top : length top ≡ 8 = length-append (word 4 1) (word 4 (l .number)) ∙ omega (arith, length-word 4 1, length-word 4 (l .number)) in
@@ -126,5 +126,5 @@ module _ (buffer lent : List ℕ) (long : 32768 ≤ length lent) (b : Book) (goo
       (put-one buffer lent long (openLayout (l .number)) before top (spot b wants.Element 0 0 rows) wants.TypeName 0 (length before) fine good refl refl (omega arith))
       (puts-both {a = typeName (l .type-name) ∷ []}
       (put-one buffer lent long (typeName (l .type-name)) (before ++ top) name (spot b wants.TypeName 0 (length before) rows) wants.AttributeCount 0 (length before) fine good refl refl (rw (length-append before top) (omega arith)))
-      (counted-put (l .attributes) ((before ++ top) ++ name) (top ++ name) (append-assoc before top name) (rw (length-append top name) (omega arith)) (g .few) (g .attributes)
+      (counted-put (l .attributes) ((before ++ top) ++ name) (top ++ name) (append-assoc before top name) (rw (length-append top name) (omega arith)) (inside .few) (inside .attributes)
       (rw (layout-starts l) (simp append-assoc)))))

@@ -25,9 +25,10 @@ use Rattle.elements.specs.Element.{row}
 use Rattle.elements.specs.Document.{itemImage}
 use Rattle.writing.specs.declared.Turn.the-variants as wants
 use Rattle.writing.specs.Writer.{openRow, value, closeRow, room, fine, unless, known, rowLayout, suits, isNext, does}
+use Rattle.writing.proofs.Values.{length-size}
 use Rattle.promises_writing.specs.Promise.{each, fieldCalls, itemCalls, onto}
 use Rattle.promises_writing.proofs.Calls.{Passes, accepted, Runs, runs-both, runs-one}
-use Rattle.promises_writing.proofs.Standing.{Spot, spot, stateAt, standing, book-now, row-layout, length-size, close-leaves}
+use Rattle.promises_writing.proofs.Standing.{Spot, spot, stateAt, standing, book-now, row-layout, close-leaves}
 use Rattle.promises_writing.proofs.WritesHeader.{stand, room-same, Puts, puts-none, puts-both, ready-bounds, put-one}
 
 good-suits : (f : Form) (v : Value) → GoodValue f v → suits f v ≡ true
