@@ -28,6 +28,7 @@ use Rattle.promises_writing.proofs.KeepsHeader.{Keeps, keep-recorder, k
 use Rattle.promises_writing.proofs.KeepsLayout.{keep-layout, keep-name, keep-attributes, keep-attribute, keep-type}
 use Rattle.promises_writing.proofs.KeepsRow.{keep-row, keep-value, keep-close, keep-given-up, keep-finish}
 
+-- Every call that can be given.
 keep : {buffer lent : List ℕ} {so-far : Told} (now : Stand buffer lent so-far) (c : Call) → Given c → Keeps now c
 keep now (recorder xs) g = keep-recorder now xs g
 keep now (startTime n) g = keep-start now n g
@@ -50,6 +51,7 @@ keep now giveUp g = keep-given-up now
 keep now (finish n) g = keep-finish now n g
 
 module _ (buffer lent : List ℕ) (long : 32768 ≤ length lent) where
+  -- Accepted calls, one after another, from where they begin.
   call-keeps : (so-far : Told) (w : Written) (c : Call) → Inv buffer lent so-far w → Given c → {v : Written} {n : ℕ} → call (w .state) (w .buffer) (w .book) (w .used) c ≡ ok v n
       → Inv buffer lent (tell so-far c) v
   call-keeps so-far w c i g {v} {n} e =
@@ -121,6 +123,7 @@ finished-stands : (buffer book done : List ℕ) (z : ℕ) (x : Spot) (d : Docume
 unfolding finished
 finished-stands buffer book done z x d is spot-is inside = rw (lies-over buffer (length done) z inside, is, spot-is)
 
+-- Whatever calls are accepted from a fresh state and an empty book: where they end finished, what they told is a document inside the limits, and it stands written.
 pub wrote : (calls : List Call) → Each Given calls → (buffer book : List ℕ) → 32768 ≤ length book → (w : Written) (n : ℕ) → runCalls calls (begun buffer book) ≡ ok w n
     → w .state .turn ≡ wants.Nothing → Wrote calls buffer book w
 unfolding told
