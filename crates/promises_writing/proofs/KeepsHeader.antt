@@ -1,0 +1,187 @@
+-- An accepted call of a header keeps what stands: the header told has one field more, and the last one makes it whole.
+-- Each call is its turn's, so what stands there is known, and its octets are put behind. Assumes nothing.
+use Prim.Native.Nat.{ℕ, _+_, _-_, _^_, _≤_, _<_}
+use mathlib.Core.Path.{_≡_, refl, sym, ap, _∙_}
+use mathlib.Core.List.{List, [], _∷_, _++_, append-assoc, append-nil}
+use native.Mathlib.Omega.{arith}
+use native.Mathlib.Nat.{zero-add}
+use lib.ListN.{length, length-append}
+use lib.Dec.{leb, eqb, lit<}
+use borrow.Author.Tests.{eqb-true, leb-true}
+use Rattle.octets.specs.Writing.{word, textImage, images, Each, Octet, Text}
+use Rattle.octets.proofs.Spans.{each-join}
+use Rattle.octets.proofs.Ends.{chosen-ok}
+use Rattle.headers.specs.Header.{Namespace, Header, headerImage, GoodNamespace, GoodHeader}
+use Rattle.writing.specs.declared.Turn.{Turn}
+use Rattle.writing.specs.declared.Turn.the-variants as wants
+use Rattle.writing.specs.Writer.{Call, recorder, startTime, defaultNamespace, namespaceCount, uri, shortName, serviceCount, service, documentId, fine, unless, turnAt, does}
+use Rattle.promises_writing.specs.Promise.{namespaceCalls, serviceCalls, headerCalls, Told, adds, tell}
+use Rattle.promises_writing.proofs.Standing.{Spot, spot, stateAt, behind}
+use Rattle.promises_writing.proofs.Put.{octetsOf, images-snoc, each-snoc, header-octets}
+use Rattle.promises_writing.proofs.Shapes.{InHeader, namespaced, served, Shape, Stand, rest, Inv, at-turn, PassesHere, leftHere, put-keeps}
+
+-- A string whose octets were put fits a length.
+pub is-text : (xs : List ℕ) → Each Octet xs → length (textImage xs) ≤ 1048576 → Text xs
+unfolding textImage
+is-text xs e h = (e, omega (arith, length-append (word 4 (length xs)) xs))
+
+-- A header by its fields in image order.
+abbrev header : List ℕ → ℕ → List ℕ → List Namespace → List (List ℕ) → List ℕ → Header
+header r s d o v i = record { recorder = r; start = s; default = d; others = o; services = v; id = i }
+
+good-header : {r : List ℕ} {s : ℕ} {d : List ℕ} {o : List Namespace} {v : List (List ℕ)} {i : List ℕ} → Text r → s < 2 ^ 64 → Text d → length o ≤ 16 → Each GoodNamespace o
+    → length v ≤ 16 → Each Text v → length i ≡ 16 → Each Octet i → GoodHeader (header r s d o v i)
+good-header g₁ g₂ g₃ g₄ g₅ g₆ g₇ g₈ g₉ =
+    record { recorder = g₁; start = g₂; default = g₃; few-others = g₄; others = g₅; few-services = g₆; services = g₇; id-length = g₈; id = g₉ }
+
+-- One call more of a header.
+on : {calls more : Header → ℕ → List ℕ → List Call} {Counts Next : Header → ℕ → Type 0} {x : Spot} {done : List ℕ} {told : Told} (c : Call) (u : Turn) (j : ℕ)
+    (i : InHeader calls Counts x done told) (h : Header) (n : ℕ) (name : List ℕ) → GoodHeader h → Text name → Next h n
+    → calls (i .h) (i .n) (i .name) ++ c ∷ [] ≡ more h n name → InHeader more Next (spot (x .book) u j (x .start) (x .rows)) (done ++ octetsOf c) (adds told c)
+on {told = told} c u j i h n name good text counts said =
+    record {
+      h = h;
+      n = n;
+      name = name;
+      good = good;
+      text = text;
+      counts = counts;
+      said = ap (λ (z : List Call). z ++ c ∷ []) (i .said) ∙ said;
+      is = behind (octetsOf c) (i .is) ∙ sym (images-snoc octetsOf (told .latest) c);
+      first = i .first;
+      no-start = i .no-start;
+      no-rows = i .no-rows;
+      no-book = i .no-book;
+    }
+
+module _ {buffer lent : List ℕ} {told : Told} (now : Stand buffer lent told) where
+  -- What a call keeps, where it is accepted here.
+  abbrev pub Keeps : Call → Type 0
+  Keeps c = (new : List ℕ) → PassesHere now (does (stateAt (now .done) (now .at)) (now .done ++ rest now) (now .at .book) c) new
+      → Inv buffer lent (tell told c) (leftHere now (does (stateAt (now .done) (now .at)) (now .done ++ rest now) (now .at .book) c) new)
+
+  pub keep-recorder : (xs : List ℕ) → Each Octet xs → Keeps (recorder xs)
+  unfolding does
+  keep-recorder xs o new p =
+      put-keeps now (adds told (recorder xs)) wants.Recorder wants.StartTime fine (word 4 4 ++ textImage xs) 0 (now .at .start) p λ i _ small.
+      let h = i .h in
+      let g = i .good in
+      let text : Text xs = is-text xs o (omega (arith, length-append (word 4 4) (textImage xs))) in
+      on (recorder xs) wants.StartTime 0 i (header xs (h .start) (h .default) (h .others) (h .services) (h .id)) 0 []
+      (good-header text (g .start) (g .default) (g .few-others) (g .others) (g .few-services) (g .services) (g .id-length) (g .id)) (tt, lit< tt) tt refl
+
+  pub keep-start : (n : ℕ) → n < 2 ^ 64 → Keeps (startTime n)
+  unfolding does
+  keep-start n small new p =
+      put-keeps now (adds told (startTime n)) wants.StartTime wants.DefaultNamespace fine (word 8 n) 0 (now .at .start) p λ i _ _.
+      let h = i .h in
+      let g = i .good in
+      on (startTime n) wants.DefaultNamespace 0 i (header (h .recorder) n (h .default) (h .others) (h .services) (h .id)) 0 []
+      (good-header (g .recorder) small (g .default) (g .few-others) (g .others) (g .few-services) (g .services) (g .id-length) (g .id)) (tt, lit< tt) tt refl
+
+  pub keep-default : (xs : List ℕ) → Each Octet xs → Keeps (defaultNamespace xs)
+  unfolding does
+  keep-default xs o new p =
+      put-keeps now (adds told (defaultNamespace xs)) wants.DefaultNamespace wants.NamespaceCount fine (textImage xs) 0 (now .at .start) p λ i _ small.
+      let h = i .h in
+      let g = i .good in
+      on (defaultNamespace xs) wants.NamespaceCount 0 i (header (h .recorder) (h .start) xs (h .others) (h .services) (h .id)) 0 []
+      (good-header (g .recorder) (g .start) (is-text xs o small) (g .few-others) (g .others) (g .few-services) (g .services) (g .id-length) (g .id)) (tt, lit< tt) tt refl
+
+  -- The count is that of the namespaces to come: none are given yet.
+  pub keep-namespaces : (n : ℕ) → Keeps (namespaceCount n)
+  unfolding does
+  keep-namespaces n new p =
+      put-keeps now (adds told (namespaceCount n)) wants.NamespaceCount (turnAt n wants.Uri wants.ServiceCount) (unless (leb n 16) 4) (word 4 n) n (now .at .start) p λ i _ _.
+      let h = i .h in
+      let g = i .good in
+      let most : n ≤ 16 = leb-true n 16 (chosen-ok (leb n 16) (λ _. fine) 4 0 (p .faultless)) in
+      let h₁ : Header = header (h .recorder) (h .start) (h .default) [] (h .services) (h .id) in
+      let g₁ : GoodHeader h₁ = good-header (g .recorder) (g .start) (g .default) (omega arith) tt (g .few-services) (g .services) (g .id-length) (g .id) in
+      at-turn (λ u. Shape u (spot (now .at .book) u n (now .at .start) (now .at .rows)) (now .done ++ word 4 n) (adds told (namespaceCount n))) n wants.Uri wants.ServiceCount
+      (λ _. on (namespaceCount n) wants.Uri n i h₁ n [] g₁ (tt, lit< tt) (zero-add n, most) refl)
+      (λ none. on (namespaceCount n) wants.ServiceCount n i h₁ 0 [] g₁ (tt, lit< tt) tt (ap (namespaced h₁) none))
+
+  pub keep-uri : (xs : List ℕ) → Each Octet xs → Keeps (uri xs)
+  unfolding does
+  keep-uri xs o new p =
+      put-keeps now (adds told (uri xs)) wants.Uri wants.ShortName fine (textImage xs) (now .at .count) (now .at .start) p λ i _ small.
+      on (uri xs) wants.ShortName (now .at .count) i (i .h) (i .n) xs (i .good) (is-text xs o small) (i .counts) refl
+
+  pub keep-short : (xs : List ℕ) → Each Octet xs → Keeps (shortName xs)
+  unfolding does
+  keep-short xs o new p =
+      let left : ℕ = now .at .count - 1 in
+      put-keeps now (adds told (shortName xs)) wants.ShortName (turnAt left wants.Uri wants.ServiceCount) fine (textImage xs) left (now .at .start) p λ i one small.
+      let h = i .h in
+      let g = i .good in
+      let sum = i .counts in
+      let more : Namespace = record { uri = i .name; short = xs } in
+      let others : List Namespace = h .others ++ more ∷ [] in
+      let long : length others ≡ length (h .others) + 1 = length-append (h .others) (more ∷ []) in
+      let h₁ : Header = header (h .recorder) (h .start) (h .default) others (h .services) (h .id) in
+      let g₁ : GoodHeader h₁ =
+      good-header (g .recorder) (g .start) (g .default) (omega arith) (each-join GoodNamespace (h .others) (more ∷ []) (g .others) (record { uri = i .text; short = is-text xs o small }, tt))
+      (g .few-services) (g .services) (g .id-length) (g .id) in
+      let said : (namespaced h (i .n) ++ uri (i .name) ∷ []) ++ shortName xs ∷ [] ≡ namespaced h₁ (i .n) = rw (each-snoc namespaceCalls (h .others) more) (simp append-assoc) in
+      at-turn (λ u. Shape u (spot (now .at .book) u left (now .at .start) (now .at .rows)) (now .done ++ textImage xs) (adds told (shortName xs))) left wants.Uri wants.ServiceCount
+      (λ _. on (shortName xs) wants.Uri left i h₁ (i .n) [] g₁ (tt, lit< tt) (omega arith, sum .1) said)
+      (λ none.
+      let all : i .n ≡ length others = omega arith in
+      on (shortName xs) wants.ServiceCount left i h₁ 0 [] g₁ (tt, lit< tt) tt (said ∙ ap (namespaced h₁) all))
+
+  -- The count is that of the services to come: none are given yet.
+  pub keep-services : (n : ℕ) → Keeps (serviceCount n)
+  unfolding does
+  keep-services n new p =
+      put-keeps now (adds told (serviceCount n)) wants.ServiceCount (turnAt n wants.Service wants.DocumentId) (unless (leb n 16) 4) (word 4 n) n (now .at .start) p λ i _ _.
+      let h = i .h in
+      let g = i .good in
+      let most : n ≤ 16 = leb-true n 16 (chosen-ok (leb n 16) (λ _. fine) 4 0 (p .faultless)) in
+      let h₁ : Header = header (h .recorder) (h .start) (h .default) (h .others) [] (h .id) in
+      let g₁ : GoodHeader h₁ = good-header (g .recorder) (g .start) (g .default) (g .few-others) (g .others) (omega arith) tt (g .id-length) (g .id) in
+      at-turn (λ u. Shape u (spot (now .at .book) u n (now .at .start) (now .at .rows)) (now .done ++ word 4 n) (adds told (serviceCount n))) n wants.Service wants.DocumentId
+      (λ _. on (serviceCount n) wants.Service n i h₁ n [] g₁ (tt, lit< tt) (zero-add n, most) refl)
+      (λ none. on (serviceCount n) wants.DocumentId n i h₁ 0 [] g₁ (tt, lit< tt) tt (ap (served h₁) none))
+
+  pub keep-service : (xs : List ℕ) → Each Octet xs → Keeps (service xs)
+  unfolding does
+  keep-service xs o new p =
+      let left : ℕ = now .at .count - 1 in
+      put-keeps now (adds told (service xs)) wants.Service (turnAt left wants.Service wants.DocumentId) fine (textImage xs) left (now .at .start) p λ i one small.
+      let h = i .h in
+      let g = i .good in
+      let sum = i .counts in
+      let services : List (List ℕ) = h .services ++ xs ∷ [] in
+      let long : length services ≡ length (h .services) + 1 = length-append (h .services) (xs ∷ []) in
+      let h₁ : Header = header (h .recorder) (h .start) (h .default) (h .others) services (h .id) in
+      let g₁ : GoodHeader h₁ =
+      good-header (g .recorder) (g .start) (g .default) (g .few-others) (g .others) (omega arith) (each-join Text (h .services) (xs ∷ []) (g .services) (is-text xs o small, tt)) (g .id-length) (g .id) in
+      let said : served h (i .n) ++ service xs ∷ [] ≡ served h₁ (i .n) = rw (each-snoc serviceCalls (h .services) xs) (simp append-assoc) in
+      at-turn (λ u. Shape u (spot (now .at .book) u left (now .at .start) (now .at .rows)) (now .done ++ textImage xs) (adds told (service xs))) left wants.Service wants.DocumentId
+      (λ _. on (service xs) wants.Service left i h₁ (i .n) [] g₁ (tt, lit< tt) (omega arith, sum .1) said)
+      (λ none.
+      let all : i .n ≡ length services = omega arith in
+      on (service xs) wants.DocumentId left i h₁ 0 [] g₁ (tt, lit< tt) tt (said ∙ ap (served h₁) all))
+
+  pub keep-id : (xs : List ℕ) → Each Octet xs → Keeps (documentId xs)
+  unfolding does headerCalls images
+  keep-id xs o new p =
+      put-keeps now (adds told (documentId xs)) wants.DocumentId wants.Element (unless (eqb (length xs) 16) 5) (octetsOf (documentId xs)) 0 (now .at .start) p λ i _ _.
+      let h = i .h in
+      let g = i .good in
+      let size : length xs ≡ 16 = eqb-true (length xs) 16 (chosen-ok (eqb (length xs) 16) (λ _. fine) 5 0 (p .faultless)) in
+      let h₁ : Header = header (h .recorder) (h .start) (h .default) (h .others) (h .services) xs in
+      let all : told .latest ++ documentId xs ∷ [] ≡ headerCalls h₁ = ap (λ (z : List Call). z ++ documentId xs ∷ []) (i .said) ∙ simp append-assoc in (
+        record {
+          h = h₁;
+          items = [];
+          header = good-header (g .recorder) (g .start) (g .default) (g .few-others) (g .others) (g .few-services) (g .services) size o;
+          good = tt;
+          is = behind (octetsOf (documentId xs)) (i .is) ∙ (sym (images-snoc octetsOf (told .latest) (documentId xs)) ∙ (ap (images octetsOf) all ∙ (header-octets h₁ ∙ sym (append-nil (headerImage h₁)))));
+          said = rw (i .first) (all ∙ sym (append-nil (headerCalls h₁)));
+          book-is = i .no-book;
+          rows-is = i .no-rows;
+        },
+        i .no-start,
+      )

@@ -1,0 +1,227 @@
+-- An accepted call of a row keeps what stands: the open row has one value more, and closing makes it an item. Giving up leaves the items before; the end makes the document whole.
+-- The row's layout is read back from its first octets, so a value taken is the next field's. Assumes nothing.
+use Prim.Native.Nat.{ℕ, _+_, _^_, _≤_, _<_}
+use mathlib.Core.Path.{_≡_, refl, sym, ap, _∙_, subst}
+use mathlib.Core.List.{List, [], _∷_, _++_, append-assoc, append-nil}
+use mathlib.Core.Bool.{true}
+use mathlib.Core.Option.{Option, some, none}
+use native.Mathlib.Omega.{arith}
+use lib.ListN.{length, take, drop, replicate, length-append, length-drop, replicate-append-replicate}
+use lib.Seq.{take-add, take-all}
+use lib.Dec.{leb, eqb}
+use borrow.Author.Tests.{eqb-true, leb-true, ltb-true}
+use Rattle.octets.specs.Reading.{Read, ok, _then_, isOk}
+use Rattle.octets.specs.Writing.{word, images}
+use Rattle.octets.proofs.Copies.{both-true}
+use Rattle.octets.proofs.Ends.{chosen-ok}
+use Rattle.kinds.specs.declared.Basic.{Basic}
+use Rattle.kinds.specs.declared.Form.{Form}
+use Rattle.kinds.specs.declared.Form.the-variants as form
+use Rattle.kinds.specs.Kinds.{codeOf, formOf}
+use Rattle.kinds.proofs.Table.{code-once}
+use Rattle.layouts.specs.Layout.{Attribute, Layout}
+use Rattle.layouts.specs.Book.{find}
+use Rattle.rows.specs.Row.{Value, bits, held, Field, valueImage, fieldImage, lengthImage, GoodValue, FieldsOf}
+use Rattle.headers.specs.Header.{headerImage}
+use Rattle.elements.specs.Element.{row}
+use Rattle.elements.specs.Document.{Document, itemImage, image}
+use Rattle.writing.specs.declared.Turn.{Turn}
+use Rattle.writing.specs.declared.Turn.the-variants as wants
+use Rattle.writing.specs.Writer.{Call, openRow, value, closeRow, giveUp, finish, isOpen, fine, unless, known, rowLayout, suits, isNext, does}
+use Rattle.promises_writing.specs.Promise.{each, fieldCalls, itemCalls, headerCalls, callsOf, GivenValue, Told, adds, opens}
+use Rattle.promises_writing.proofs.Standing.{Spot, spot, stateAt, behind, row-layout, close-leaves, give-up-leaves}
+use Rattle.promises_writing.proofs.Writes.{image-parts}
+use Rattle.promises_writing.proofs.Put.{octetsOf, each-snoc, row-octets}
+use Rattle.promises_writing.proofs.Shapes.{Opened, InRow, Shape, Stand, rest, room-small, here, put-keeps}
+use Rattle.promises_writing.proofs.KeepsHeader.{is-text, Keeps}
+use Rattle.promises_writing.proofs.Items.{next-item, same-between, opening, longer, one-more}
+
+-- A layout that is looked up without fault is there.
+known-is : (o : Option Layout) → isOk (known o then λ _ _. fine) ≡ true → (l : Layout) × (o ≡ some l)
+known-is (some l) e = (l, refl)
+known-is none e = absurd (let z : _≡_ {A = ℕ} 0 1 = cc in omega arith)
+
+-- A value that is taken is the next field's.
+record Next (attributes : List Attribute) (b : Basic) (v : Value) : Type 0 where
+  a : Attribute
+  others : List Attribute
+  is : attributes ≡ a ∷ others
+  basic : a .kind .basic ≡ b
+  suited : suits (formOf b) v ≡ true
+
+next-is : (attributes : List Attribute) (b : Basic) (v : Value) → isNext attributes b v ≡ true → Next attributes b v
+next-is [] b v e = absurd (let z : _≡_ {A = ℕ} 0 1 = cc in omega arith)
+next-is (a ∷ others) b v e =
+    let (t, u) = both-true (eqb (codeOf (a .kind .basic)) (codeOf b)) (suits (formOf b) v) e in
+    record { a = a; others = others; is = refl; basic = code-once (a .kind .basic) b (eqb-true _ _ t); suited = u }
+
+suits-good : (f : Form) (v : Value) → suits f v ≡ true → GivenValue v → length (valueImage f v) ≤ 1048576 → GoodValue f v
+suits-good (form.Fixed w) (bits n) e g h = ltb-true n (256 ^ w) e
+suits-good (form.Fixed w) (held xs) e g h = absurd (let z : _≡_ {A = ℕ} 0 1 = cc in omega arith)
+suits-good form.Truth (bits n) e g h = leb-true n 1 e
+suits-good form.Truth (held xs) e g h = absurd (let z : _≡_ {A = ℕ} 0 1 = cc in omega arith)
+suits-good form.Octets (bits n) e g h = absurd (let z : _≡_ {A = ℕ} 0 1 = cc in omega arith)
+suits-good form.Octets (held xs) e g h = is-text xs g h
+suits-good form.Text (bits n) e g h = absurd (let z : _≡_ {A = ℕ} 0 1 = cc in omega arith)
+suits-good form.Text (held xs) e g h = is-text xs g h
+
+fields-snoc : (attributes : List Attribute) (fs : List Field) (a : Attribute) (f : Field) → FieldsOf attributes fs → f .attribute ≡ a
+    → GoodValue (formOf (a .kind .basic)) (f .value) → FieldsOf (attributes ++ a ∷ []) (fs ++ f ∷ [])
+fields-snoc [] [] a f g e h = (e, h, tt)
+fields-snoc [] (x ∷ fs) a f g e h = absurd g
+fields-snoc (y ∷ others) [] a f g e h = absurd g
+fields-snoc (y ∷ others) (x ∷ fs) a f g e h = (g .0, g .1, fields-snoc others fs a f (g .2) e h)
+
+-- The octets of an open row.
+row-form : {x : Spot} {done : List ℕ} {told : Told} (i : InRow x done told)
+    → done ≡ i .opened .before ++ (word 4 2 ++ (word 4 (i .r .number) ++ (lengthImage (i .r .is-stated) 0 ++ images fieldImage (i .r .fields))))
+row-form i = i .opened .is ∙ ap (λ (z : List ℕ). i .opened .before ++ z) (ap (images octetsOf) (i .said) ∙ row-octets (i .r))
+
+-- What is open at a turn.
+opened-at : (t : Turn) {x : Spot} {done : List ℕ} (told : Told) → Shape t x done told → isOpen t ≡ true → Opened x done told
+opened-at wants.Recorder told i e = absurd (let z : _≡_ {A = ℕ} 0 1 = cc in omega arith)
+opened-at wants.StartTime told i e = absurd (let z : _≡_ {A = ℕ} 0 1 = cc in omega arith)
+opened-at wants.DefaultNamespace told i e = absurd (let z : _≡_ {A = ℕ} 0 1 = cc in omega arith)
+opened-at wants.NamespaceCount told i e = absurd (let z : _≡_ {A = ℕ} 0 1 = cc in omega arith)
+opened-at wants.Uri told i e = absurd (let z : _≡_ {A = ℕ} 0 1 = cc in omega arith)
+opened-at wants.ShortName told i e = absurd (let z : _≡_ {A = ℕ} 0 1 = cc in omega arith)
+opened-at wants.ServiceCount told i e = absurd (let z : _≡_ {A = ℕ} 0 1 = cc in omega arith)
+opened-at wants.Service told i e = absurd (let z : _≡_ {A = ℕ} 0 1 = cc in omega arith)
+opened-at wants.DocumentId told i e = absurd (let z : _≡_ {A = ℕ} 0 1 = cc in omega arith)
+opened-at wants.Element told i e = absurd (let z : _≡_ {A = ℕ} 0 1 = cc in omega arith)
+opened-at wants.TypeName told i e = i .opened
+opened-at wants.AttributeCount told i e = i .opened
+opened-at wants.AttributeName told i e = i .opened
+opened-at wants.AttributeType told i e = i .opened
+opened-at wants.Value told i e = i .opened
+opened-at wants.Nothing told i e = absurd (let z : _≡_ {A = ℕ} 0 1 = cc in omega arith)
+
+module _ {buffer lent : List ℕ} {told : Told} (now : Stand buffer lent told) where
+  -- The layout that an open row's number names is the row's.
+  row-here : (i : Shape wants.Value (now .at) (now .done) told) → rowLayout (stateAt (now .done) (now .at)) (now .done ++ rest now) (now .at .book) ≡ ok (i .l) 0
+  row-here i =
+      row-layout (i .opened .before) (lengthImage (i .r .is-stated) 0 ++ images fieldImage (i .r .fields)) (rest now) (now .done) (now .at) (i .r .number) (i .l) (row-form i) (i .opened .start) (i .small) (i .found)
+
+  pub keep-row : (n : ℕ) (stated : _) → n < 2 ^ 32 → Keeps now (openRow n stated)
+  unfolding does
+  keep-row n stated small new p =
+      let found = known-is (find n (now .at .book)) (p .faultless) in
+      put-keeps now (opens told (openRow n stated)) wants.Element wants.Value (known (find n (now .at .book)) then λ _ _. fine) (octetsOf (openRow n stated)) 0 (length (now .done)) p λ i _ _.
+      record {
+        opened = opening (now .at) (now .done) told (openRow n stated) wants.Value i;
+        r = record { number = n; is-stated = stated; fields = [] };
+        l = found .0;
+        small = small;
+        found = found .1;
+        few = omega arith;
+        fields = tt;
+        said = refl;
+      }
+
+  -- A value of the next field, behind those given.
+  valued : (b : Basic) (v : Value) → GivenValue v → length (valueImage (formOf b) v) ≤ 1048576 → (i : Shape wants.Value (now .at) (now .done) told)
+      → Next (drop (now .at .count) (i .l .attributes)) b v
+      → Shape wants.Value (spot (now .at .book) wants.Value (now .at .count + 1) (now .at .start) (now .at .rows)) (now .done ++ octetsOf (value b v)) (adds told (value b v))
+  valued b v g small i next =
+      let k : ℕ = now .at .count in
+      let attributes : List Attribute = i .l .attributes in
+      let f : Field = record { attribute = next .a; value = v } in
+      let good : GoodValue (formOf (next .a .kind .basic)) v = rw (next .basic) (suits-good (formOf b) v (next .suited) g small) in
+      let taken : take (k + 1) attributes ≡ take k attributes ++ next .a ∷ [] = take-add k 1 attributes ∙ ap (λ (z : List Attribute). take k attributes ++ take 1 z) (next .is) in
+      record {
+        opened = longer (value b v) wants.Value (k + 1) (i .opened);
+        r = record { number = i .r .number; is-stated = i .r .is-stated; fields = i .r .fields ++ f ∷ [] };
+        l = i .l;
+        small = i .small;
+        found = i .found;
+        few = omega (arith, length-drop k attributes, ap length (next .is));
+        fields = subst (λ (z : List Attribute). FieldsOf z (i .r .fields ++ f ∷ [])) (sym taken) (fields-snoc (take k attributes) (i .r .fields) (next .a) f (i .fields) refl good);
+        said = one-more (value b v) (i .said)
+            ∙ ap (λ (z : List Call). openRow (i .r .number) (i .r .is-stated) ∷ z)
+            (ap (λ (z : Basic). each fieldCalls (i .r .fields) ++ value z v ∷ []) (sym (next .basic)) ∙ sym (each-snoc fieldCalls (i .r .fields) f));
+      }
+
+  pub keep-value : (b : Basic) (v : Value) → GivenValue v → Keeps now (value b v)
+  unfolding does
+  keep-value b v g new p =
+      let fault : Read (Unit {0}) =
+      rowLayout (stateAt (now .done) (now .at)) (now .done ++ rest now) (now .at .book) then λ l _. unless (isNext (drop (now .at .count) (l .attributes)) b v) 21 in
+      let faultless : isOk fault ≡ true = p .faultless in
+      put-keeps now (adds told (value b v)) wants.Value wants.Value fault (valueImage (formOf b) v) (now .at .count + 1) (now .at .start) p λ i _ small.
+      let next = next-is (drop (now .at .count) (i .l .attributes)) b v (chosen-ok (isNext (drop (now .at .count) (i .l .attributes)) b v) (λ _. fine) 21 0 (rw (row-here i) at faultless)) in
+      valued b v g small i next
+
+  pub keep-close : Keeps now closeRow
+  unfolding does
+  keep-close new p =
+      let x = now .at in
+      let fault : Read (Unit {0}) = rowLayout (stateAt (now .done) x) (now .done ++ rest now) (x .book) then λ l _. unless (leb (length (l .attributes)) (x .count)) 22 in
+      let faultless : isOk fault ≡ true = p .faultless in
+      let i = here now wants.Value (p .in-turn) in
+      let attributes : List Attribute = i .l .attributes in
+      let all : length attributes ≤ x .count = leb-true (length attributes) (x .count) (chosen-ok (leb (length attributes) (x .count)) (λ _. fine) 22 0 (rw (row-here i) at faultless)) in
+      let fields : FieldsOf attributes (i .r .fields) = subst (λ (z : List Attribute). FieldsOf z (i .r .fields)) (take-all (x .count) attributes all) (i .fields) in
+      let before : List ℕ = i .opened .before in
+      let (leaves, place) = close-leaves lent before (rest now) (now .done) x (i .r) (row-form i) (i .opened .start) (p .takes) in
+      let said : told .latest ++ closeRow ∷ [] ≡ itemCalls (row (i .r)) = one-more closeRow (i .said) in
+      let item = next-item (i .opened .between) (row (i .r)) (i .small, (i .l, i .found, fields), tt) in
+      record {
+        stand =
+            record {
+              done = before ++ itemImage (row (i .r));
+              zeroes = now .zeroes;
+              at = spot (x .book) wants.Element 0 0 (x .rows + 1);
+              inside = rw (← place) (now .inside);
+              good = now .good;
+              shape = (same-between item refl refl refl (ap (λ (z : List Call). told .settled ++ z) (sym said)), refl);
+            };
+        is = leaves ∙ rw place;
+      }
+
+  pub keep-given-up : Keeps now giveUp
+  unfolding does
+  keep-given-up new p =
+      let x = now .at in
+      let o = opened-at (x .turn) told (now .shape) (p .in-turn) in
+      let more : List ℕ = images octetsOf (told .latest) in
+      let size : length (now .done) ≡ length (o .before) + length more = ap length (o .is) ∙ length-append (o .before) more in
+      let inside = now .inside in
+      let sum : length (now .done) + now .zeroes ≡ length (o .before) + (length more + now .zeroes) = omega arith in
+      record {
+        stand =
+            record {
+              done = o .before;
+              zeroes = length more + now .zeroes;
+              at = spot (x .book) wants.Element 0 0 (x .rows);
+              inside = omega arith;
+              good = now .good;
+              shape = (same-between (o .between) refl refl refl (sym (append-nil (told .settled))), refl);
+            };
+        is = give-up-leaves lent (o .before) more (rest now) (now .done) x (o .is) (o .start) (p .takes)
+            ∙ rw (← append-assoc (replicate (length more) 0) (replicate (now .zeroes) 0) (drop (length (now .done) + now .zeroes) buffer), replicate-append-replicate {A = ℕ} (length more) (now .zeroes) 0, sum);
+      }
+
+  pub keep-finish : (n : ℕ) → n < 2 ^ 64 → Keeps now (finish n)
+  unfolding does callsOf
+  keep-finish n small new p =
+      let x = now .at in
+      let xs : List ℕ = word 4 3 ++ word 4 (x .rows) ++ word 8 n in
+      let fits = p .fits in
+      put-keeps now (adds told (finish n)) wants.Element wants.Nothing fine xs 0 (x .start) p λ (i, start) _ _.
+      let d : Document = record { header = i .h; items = i .items; end = n } in
+      let is : now .done ++ xs ≡ image d =
+      behind xs (i .is) ∙ (append-assoc (headerImage (i .h)) (images itemImage (i .items)) xs
+      ∙ (ap (λ (z : ℕ). headerImage (i .h) ++ (images itemImage (i .items) ++ (word 4 3 ++ word 4 z ++ word 8 n))) (i .rows-is) ∙ image-parts d)) in
+      record {
+        d = d;
+        good =
+            record {
+              header = i .header;
+              items = i .good;
+              end = small;
+              fits = omega (arith, ap length is, length-append (now .done) xs, room-small (length (now .done ++ rest now)));
+            };
+        is = is;
+        said = sym (append-assoc (told .settled) (told .latest) (finish n ∷ [])) ∙ (one-more (finish n) (i .said) ∙ append-assoc (headerCalls (i .h)) (each itemCalls (i .items)) (finish n ∷ []));
+        spot-is = rw (i .book-is, start, i .rows-is);
+      }

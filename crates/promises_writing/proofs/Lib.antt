@@ -1,0 +1,13 @@
+pub mod Calls
+pub mod Standing
+pub mod WritesHeader
+pub mod WritesLayout
+pub mod WritesRow
+pub mod Writes
+pub mod Put
+pub mod Shapes
+pub mod Items
+pub mod KeepsHeader
+pub mod KeepsLayout
+pub mod KeepsRow
+pub mod Wrote

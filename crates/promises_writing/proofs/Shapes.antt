@@ -1,0 +1,218 @@
+-- What stands at each turn where every call was accepted since the fresh state, by what was told; and that a call which puts octets keeps it so.
+-- The octets of an element are those of the calls from its opening on; behind the place stand zeroes of what was given up, then what was lent. Assumes nothing.
+use Prim.Native.Nat.{ℕ, zero, suc, _+_, _-_, _^_, _≤_, _<_}
+use mathlib.Core.Path.{_≡_, refl, _∙_, subst}
+use mathlib.Core.List.{List, [], _∷_, _++_}
+use mathlib.Core.Bool.{Bool, true, false}
+use mathlib.Core.Option.{some}
+use native.Mathlib.Omega.{arith}
+use native.Mathlib.Nat.{add-zero}
+use lib.ListN.{length, take, drop, replicate, length-append, length-drop, length-replicate}
+use lib.Seq.{drop-drop}
+use lib.Dec.{eqb}
+use borrow.Author.Tests.{eqb-true, eqb-false}
+use Rattle.octets.specs.Reading.{Read, choose}
+use Rattle.octets.specs.Writing.{images, Text}
+use Rattle.layouts.specs.Layout.{Layout, GoodLayout}
+use Rattle.layouts.specs.Book.{Book, find, bookImage}
+use Rattle.layouts.proofs.Books.{GoodBook}
+use Rattle.rows.specs.Row.{Row, FieldsOf}
+use Rattle.headers.specs.Header.{Header, headerImage, GoodHeader}
+use Rattle.elements.specs.Element.{Item}
+use Rattle.elements.specs.Document.{Document, itemImage, rowCount, image, GoodItems, Good}
+use Rattle.writing.specs.declared.Turn.{Turn}
+use Rattle.writing.specs.declared.Turn.the-variants as wants
+use Rattle.writing.specs.Writer.{Call, recorder, startTime, defaultNamespace, namespaceCount, uri, serviceCount, openLayout, typeName, attributeCount, attributeName, openRow, Written, room, rule, sameTurn, turnAt, Deed, put}
+use Rattle.writing.proofs.Bounds.{same-turn, turn-count}
+use Rattle.promises_writing.specs.Promise.{each, namespaceCalls, serviceCalls, attributeCalls, fieldCalls, itemCalls, headerCalls, callsOf, bookBehind, onto, Told}
+use Rattle.promises_writing.proofs.Calls.{Passes, leftBy}
+use Rattle.promises_writing.proofs.Standing.{Spot, spot, stateAt, standing, put-leaves}
+use Rattle.promises_writing.proofs.WritesHeader.{room-long}
+use Rattle.promises_writing.proofs.Put.{octetsOf}
+
+-- A header as far as it was given, by the calls told; the count of the list being given; the URI whose short name is to come.
+pub record InHeader (calls : Header → ℕ → List ℕ → List Call) (Counts : Header → ℕ → Type 0) (x : Spot) (done : List ℕ) (told : Told) : Type 0 where
+  pub h : Header
+  pub n : ℕ
+  pub name : List ℕ
+  pub good : GoodHeader h
+  pub text : Text name
+  pub counts : Counts h n
+  pub said : told .latest ≡ calls h n name
+  pub is : done ≡ images octetsOf (told .latest)
+  pub first : told .settled ≡ []
+  pub no-start : x .start ≡ 0
+  pub no-rows : x .rows ≡ 0
+  pub no-book : x .book ≡ []
+
+-- A header and items, whole.
+pub record Between (book : Book) (rows : ℕ) (done : List ℕ) (calls : List Call) : Type 0 where
+  pub h : Header
+  pub items : List Item
+  pub header : GoodHeader h
+  pub good : GoodItems [] items
+  pub is : done ≡ headerImage h ++ images itemImage items
+  pub said : calls ≡ headerCalls h ++ each itemCalls items
+  pub book-is : book ≡ bookBehind [] items
+  pub rows-is : rows ≡ rowCount items
+
+-- An element that was opened behind them.
+pub record Opened (x : Spot) (done : List ℕ) (told : Told) : Type 0 where
+  pub before : List ℕ
+  pub between : Between (x .book) (x .rows) before (told .settled)
+  pub start : x .start ≡ length before
+  pub is : done ≡ before ++ images octetsOf (told .latest)
+
+-- A layout as far as it was given; the count of its attributes; the attribute's name whose type is to come.
+pub record InLayout (calls : Layout → ℕ → List ℕ → List Call) (Counts : Layout → ℕ → Type 0) (x : Spot) (done : List ℕ) (told : Told) : Type 0 where
+  pub opened : Opened x done told
+  pub l : Layout
+  pub n : ℕ
+  pub name : List ℕ
+  pub good : GoodLayout l
+  pub text : Text name
+  pub counts : Counts l n
+  pub said : told .latest ≡ calls l n name
+
+-- A row as far as it was given.
+pub record InRow (x : Spot) (done : List ℕ) (told : Told) : Type 0 where
+  pub opened : Opened x done told
+  pub r : Row
+  pub l : Layout
+  pub small : r .number < 2 ^ 32
+  pub found : find (r .number) (x .book) ≡ some l
+  pub few : x .count ≤ length (l .attributes)
+  pub fields : FieldsOf (take (x .count) (l .attributes)) (r .fields)
+  pub said : told .latest ≡ (openRow (r .number) (r .is-stated) ∷ []) ++ each fieldCalls (r .fields)
+
+-- A document, whole.
+pub record Ended (x : Spot) (done : List ℕ) (told : Told) : Type 0 where
+  pub d : Document
+  pub good : Good d
+  pub is : done ≡ image d
+  pub said : told .settled ++ told .latest ≡ callsOf d
+  pub spot-is : x ≡ spot (bookBehind [] (d .items)) wants.Nothing 0 0 (rowCount (d .items))
+
+-- The calls of a header to its namespaces, and to its services, where so many are to be given.
+abbrev pub namespaced : Header → ℕ → List Call
+namespaced h n = (recorder (h .recorder) ∷ startTime (h .start) ∷ defaultNamespace (h .default) ∷ namespaceCount n ∷ []) ++ each namespaceCalls (h .others)
+
+abbrev pub served : Header → ℕ → List Call
+served h n = namespaced h (length (h .others)) ++ ((serviceCount n ∷ []) ++ each serviceCalls (h .services))
+
+-- The calls of a layout to its attributes, where so many are to be given.
+abbrev pub attributed : Layout → ℕ → List Call
+attributed l n = (openLayout (l .number) ∷ typeName (l .type-name) ∷ attributeCount n ∷ []) ++ each attributeCalls (l .attributes)
+
+-- What stands at each turn.
+abbrev pub Shape : Turn → Spot → List ℕ → Told → Type 0
+Shape wants.Recorder x = InHeader (λ h n name. []) (λ h n. Unit {0}) x
+Shape wants.StartTime x = InHeader (λ h n name. recorder (h .recorder) ∷ []) (λ h n. Unit {0}) x
+Shape wants.DefaultNamespace x = InHeader (λ h n name. recorder (h .recorder) ∷ startTime (h .start) ∷ []) (λ h n. Unit {0}) x
+Shape wants.NamespaceCount x = InHeader (λ h n name. recorder (h .recorder) ∷ startTime (h .start) ∷ defaultNamespace (h .default) ∷ []) (λ h n. Unit {0}) x
+Shape wants.Uri x = InHeader (λ h n name. namespaced h n) (λ h n. (length (h .others) + x .count ≡ n) × (n ≤ 16)) x
+Shape wants.ShortName x = InHeader (λ h n name. namespaced h n ++ uri name ∷ []) (λ h n. (length (h .others) + x .count ≡ n) × (n ≤ 16)) x
+Shape wants.ServiceCount x = InHeader (λ h n name. namespaced h (length (h .others))) (λ h n. Unit {0}) x
+Shape wants.Service x = InHeader (λ h n name. served h n) (λ h n. (length (h .services) + x .count ≡ n) × (n ≤ 16)) x
+Shape wants.DocumentId x = InHeader (λ h n name. served h (length (h .services))) (λ h n. Unit {0}) x
+Shape wants.Element x = λ done told. Between (x .book) (x .rows) done (told .settled ++ told .latest) × (x .start ≡ 0)
+Shape wants.TypeName x = InLayout (λ l n name. openLayout (l .number) ∷ []) (λ l n. Unit {0}) x
+Shape wants.AttributeCount x = InLayout (λ l n name. openLayout (l .number) ∷ typeName (l .type-name) ∷ []) (λ l n. Unit {0}) x
+Shape wants.AttributeName x = InLayout (λ l n name. attributed l n) (λ l n. (length (l .attributes) + x .count ≡ n) × (n ≤ 64)) x
+Shape wants.AttributeType x = InLayout (λ l n name. attributed l n ++ attributeName name ∷ []) (λ l n. (length (l .attributes) + x .count ≡ n) × (n ≤ 64)) x
+Shape wants.Value x = InRow x
+Shape wants.Nothing x = Ended x
+
+-- What lies behind a place: zeroes of what was given up, then what was lent.
+abbrev pub lies : List ℕ → ℕ → ℕ → List ℕ
+lies buffer place zeroes = replicate zeroes 0 ++ drop (place + zeroes) buffer
+
+-- All that stands over a lent buffer and a lent book, where so much was told.
+pub record Stand (buffer lent : List ℕ) (told : Told) : Type 0 where
+  pub done : List ℕ
+  pub zeroes : ℕ
+  pub at : Spot
+  pub inside : length done + zeroes ≤ length buffer
+  pub good : GoodBook (at .book)
+  pub shape : Shape (at .turn) at done told
+
+abbrev pub rest : {buffer lent : List ℕ} {told : Told} → Stand buffer lent told → List ℕ
+rest {buffer} now = lies buffer (length (now .done)) (now .zeroes)
+
+abbrev pub written : {buffer lent : List ℕ} {told : Told} → Stand buffer lent told → Written
+written {lent = lent} now = standing lent (now .done) (rest now) (now .at)
+
+-- What is kept from call to call.
+pub record Inv (buffer lent : List ℕ) (told : Told) (w : Written) : Type 0 where
+  pub stand : Stand buffer lent told
+  pub is : w ≡ written stand
+
+-- Octets put over what lies behind the place.
+drop-lies : (n z p : ℕ) (s : List ℕ) → drop n (lies s p z) ≡ lies s (p + n) (z - n)
+drop-lies zero z p s =
+    let same : z - 0 ≡ z = omega arith in
+    rw (same, add-zero p)
+drop-lies (suc n) zero p s =
+    let none : 0 - suc n ≡ 0 = omega arith in
+    rw (none, add-zero p, add-zero (p + suc n)) (drop-drop (suc n) p s)
+drop-lies (suc n) (suc z) p s =
+    let less : suc z - suc n ≡ z - n = omega arith in
+    let next : p + suc z ≡ suc p + z = omega arith in
+    let more : suc p + n ≡ p + suc n = omega arith in
+    rw (less, next) (drop-lies n z (suc p) s ∙ rw more)
+
+lies-length : (n z : ℕ) (s : List ℕ) → n + z ≤ length s → n + length (lies s n z) ≡ length s
+lies-length n z s h = rw (length-append, length-replicate, length-drop) (omega arith)
+
+pub room-small : (size : ℕ) → room size ≤ 1048576
+unfolding room
+room-small size = omega arith
+
+-- Where a list's turn leads.
+pub at-turn : (P : Turn → Type 0) (n : ℕ) (more behind : Turn) → ((n ≡ 0 → ⊥) → P more) → (n ≡ 0 → P behind) → P (turnAt n more behind)
+at-turn P n more behind f g = go (eqb n 0) refl
+  where
+    go : (t : Bool) → eqb n 0 ≡ t → P (choose t (λ _. behind) (λ _. more))
+    go true e = g (eqb-true n 0 e)
+    go false e = f (eqb-false n 0 e)
+
+module _ {buffer lent : List ℕ} {told : Told} (now : Stand buffer lent told) where
+  -- What a deed has to pass here, and what it leaves.
+  abbrev pub PassesHere : Deed → List ℕ → Type 0
+  PassesHere d new = Passes (stateAt (now .done) (now .at)) (now .done ++ rest now) (length (bookImage (now .at .book))) (now .at .book) d new
+
+  abbrev pub leftHere : Deed → List ℕ → Written
+  leftHere d new = leftBy (now .done ++ rest now) (onto lent (bookImage (now .at .book))) (length (bookImage (now .at .book))) d new
+
+  -- What stands where octets were put that fit: the place moves behind them, and what lay there is covered.
+  pub put-stand : (next : Told) (xs : List ℕ) (y : Spot) → length (now .done) + length xs ≤ room (length (now .done ++ rest now)) → GoodBook (y .book) → Shape (y .turn) y (now .done ++ xs) next
+      → (stand : Stand buffer lent next) × (standing lent (now .done ++ xs) (drop (length xs) (rest now)) y ≡ written stand)
+  put-stand next xs y fits good shape =
+      let size = length-append (now .done) (rest now) in
+      let long = lies-length (length (now .done)) (now .zeroes) buffer (now .inside) in
+      let sum = length-append (now .done) xs in (
+        record {
+          done = now .done ++ xs;
+          zeroes = now .zeroes - length xs;
+          at = y;
+          inside = omega (arith, room-long (length (now .done ++ rest now)), now .inside);
+          good = good;
+          shape = shape;
+        },
+        rw (drop-lies (length xs) (now .zeroes) (length (now .done)) buffer, sum),
+      )
+
+  -- What stands at the turn that a call has.
+  pub here : (t : Turn) → sameTurn (now .at .turn) t ≡ true → Shape t (now .at) (now .done) told
+  here t e = subst (λ (v : Turn). Shape v (now .at) (now .done) told) (same-turn (now .at .turn) t e) (now .shape)
+
+  -- A call that puts octets, by what stands at its turn.
+  pub put-keeps : (next : Told) (t u : Turn) (fault : Read (Unit {0})) (xs : List ℕ) (j i : ℕ) {new : List ℕ} → PassesHere (put (stateAt (now .done) (now .at)) t fault xs u j i) new
+      → (Shape t (now .at) (now .done) told → rule t .least ≤ now .at .count → length xs ≤ 1048576
+      → Shape u (spot (now .at .book) u j i (now .at .rows)) (now .done ++ xs) next)
+      → Inv buffer lent next (leftHere (put (stateAt (now .done) (now .at)) t fault xs u j i) new)
+  put-keeps next t u fault xs j i p step =
+      let fits = p .fits in
+      let small : length xs ≤ 1048576 = omega (arith, room-small (length (now .done ++ rest now))) in
+      let (stand, is) = put-stand next xs (spot (now .at .book) u j i (now .at .rows)) fits (now .good) (step (here t (p .in-turn)) (turn-count (stateAt (now .done) (now .at)) (length (now .done ++ rest now)) (p .inside) t (p .in-turn) .0) small) in
+      record { stand = stand; is = put-leaves lent (now .done) (rest now) (now .at) t u fault xs j i (p .takes) ∙ is }

@@ -1,0 +1,213 @@
+-- What stands between two calls, and what each kind of deed makes of it: octets put behind those written, a layout completed, a row closed, an element given up.
+-- Each is an equation on lists: what is laid over falls on the seam behind the octets written, or inside them. Assumes nothing.
+use Prim.Native.Nat.{ℕ, _+_, _-_, _^_, _≤_, _<_}
+use mathlib.Core.Path.{_≡_, refl, sym, ap, _∙_}
+use mathlib.Core.List.{List, [], _++_, append-assoc}
+use mathlib.Core.Bool.{Bool, true, false}
+use mathlib.Core.Option.{some}
+use mathlib.Core.Logic.{inl, inr}
+use native.Mathlib.Omega.{arith}
+use native.Mathlib.Nat.{add-zero}
+use lib.ListN.{length, take, drop, replicate, length-append, length-drop, length-replicate}
+use lib.Seq.{take-append-seam, drop-append-seam, drop-append-add, drop-append-le, drop-drop, take-at, drop-at}
+use lib.Dec.{ltb, lit<}
+use borrow.Author.Tests.{le-leb, lt-ltb}
+use Rattle.octets.specs.Reading.{Read, ok, be, part}
+use Rattle.octets.specs.Writing.{word, images, over}
+use Rattle.octets.proofs.Spans.{all-spans, length-word, be-word}
+use Rattle.octets.proofs.Inverse.{ok-value}
+use Rattle.octets.proofs.Copies.{same-refl}
+use Rattle.layouts.specs.Layout.{Layout, layoutImage, GoodLayout}
+use Rattle.layouts.specs.Book.{Book, find, bookImage, bookOf}
+use Rattle.layouts.proofs.Layouts.{layout-inverse}
+use Rattle.layouts.proofs.Parts.{layout-number}
+use Rattle.layouts.proofs.Books.{GoodBook, image-snoc, octets-book}
+use Rattle.layouts.proofs.Growing.{Learnt}
+use Rattle.rows.specs.Row.{Row, fieldImage, lengthImage, rowImage}
+use Rattle.elements.specs.Element.{row}
+use Rattle.elements.specs.Document.{itemImage}
+use Rattle.writing.specs.declared.Turn.{Turn}
+use Rattle.writing.specs.declared.Turn.the-variants as wants
+use Rattle.writing.specs.declared.State.{State}
+use Rattle.writing.specs.Writer.{closeRow, giveUp, Written, put, attributes, rowLayout, does, addition, layoutSoFar}
+use Rattle.writing.proofs.Values.{length-size}
+use Rattle.fields.proofs.Over.{over-nil}
+use Rattle.promises_writing.specs.Promise.{onto}
+use Rattle.promises_writing.proofs.Calls.{leftBy}
+
+-- The book that was learnt, and a state but for its place.
+pub record Spot : Type 0 where
+  pub book : Book
+  pub turn : Turn
+  pub count : ℕ
+  pub start : ℕ
+  pub rows : ℕ
+
+abbrev pub spot : Book → Turn → ℕ → ℕ → ℕ → Spot
+spot book turn count start rows = record { book = book; turn = turn; count = count; start = start; rows = rows }
+
+abbrev pub stateAt : List ℕ → Spot → State
+stateAt done x = record { place = length done; turn = x .turn; count = x .count; start = x .start; rows = x .rows }
+
+-- What stands where octets were written: anything behind them, and the book's image in the lent octets.
+abbrev pub standing : (lent done rest : List ℕ) → Spot → Written
+standing lent done rest x =
+    record { state = stateAt done x; buffer = done ++ rest; book = onto lent (bookImage (x .book)); used = length (bookImage (x .book)) }
+
+pub onto-length : (lent xs : List ℕ) → length xs ≤ length lent → length (onto lent xs) ≡ length lent
+onto-length lent xs h = simp (length-append, length-drop) (omega arith)
+
+-- The book is read back from the lent octets.
+pub book-now : (lent : List ℕ) (b : Book) → 32768 ≤ length lent → GoodBook b → bookOf (onto lent (bookImage b)) (length (bookImage b)) ≡ ok b (length (bookImage b))
+book-now lent b long g =
+    let small = g .small in
+    octets-book b (drop (length (bookImage b)) lent) g (rw (onto-length lent (bookImage b) (omega arith)) long)
+
+pub behind : {d f : List ℕ} (xs : List ℕ) → d ≡ f → d ++ xs ≡ f ++ xs
+behind xs e = ap (λ (z : List ℕ). z ++ xs) e
+
+-- Laying octets over a list: on a seam, and over as many.
+over-seam : (done rest xs : List ℕ) → over (done ++ rest) (length done) xs ≡ (done ++ xs) ++ drop (length xs) rest
+unfolding over
+over-seam done rest xs = rw (take-append-seam done rest, drop-append-add done rest (length xs)) (sym (append-assoc done xs (drop (length xs) rest)))
+
+-- What was lent, behind octets put.
+pub drop-on : (lent done xs : List ℕ) → drop (length xs) (drop (length done) lent) ≡ drop (length (done ++ xs)) lent
+drop-on lent done xs = rw (drop-drop (length xs) (length done) lent, length-append done xs)
+
+over-onto : (lent done xs : List ℕ) → over (onto lent done) (length done) xs ≡ onto lent (done ++ xs)
+over-onto lent done xs = rw (over-seam done (drop (length done) lent) xs, drop-on lent done xs)
+
+over-middle : (pre old new post : List ℕ) (at : ℕ) → at ≡ length pre → length old ≡ length new → over (pre ++ (old ++ post)) at new ≡ pre ++ (new ++ post)
+unfolding over
+over-middle pre old new post at e f =
+    rw (e, take-append-seam pre (old ++ post), drop-append-add pre (old ++ post) (length new), ← f, drop-append-seam old post)
+
+-- A number read back from where it was put.
+be-at : (w n at : ℕ) (pre post : List ℕ) → n < 256 ^ w → at ≡ length pre → be w (pre ++ (word w n ++ post)) at ≡ n
+be-at w n at pre post h e = rw e (be-word w n pre post h)
+
+-- Octets put behind those that stand; the book takes nothing.
+pub put-leaves : (lent done rest : List ℕ) (x : Spot) (t u : Turn) (fault : Read (Unit {0})) (xs : List ℕ) (j i : ℕ) {new : List ℕ} {q : ℕ}
+    → _≡_ {A = Read (List ℕ)} (ok [] 0) (ok new q)
+    → leftBy (done ++ rest) (onto lent (bookImage (x .book))) (length (bookImage (x .book))) (put (stateAt done x) t fault xs u j i) new
+    ≡ standing lent (done ++ xs) (drop (length xs) rest) (spot (x .book) u j i (x .rows))
+put-leaves lent done rest x t u fault xs j i e =
+    rw (
+      ← ok-value refl e,
+      over-nil (onto lent (bookImage (x .book))) (length (bookImage (x .book))),
+      add-zero (length (bookImage (x .book))),
+      over-seam done rest xs,
+      length-append done xs,
+    )
+
+-- The open layout from its number on, with the call's octets behind it: all but the kind.
+pub so-far : (before more rest xs done : List ℕ) (x : Spot) (l : Layout) → done ≡ before ++ more → x .start ≡ length before → 4 ≤ length more
+    → more ++ xs ≡ word 4 1 ++ layoutImage l → layoutSoFar (stateAt done x) (done ++ rest) xs ≡ layoutImage l
+unfolding layoutSoFar part
+so-far before more rest xs done x l e start h whole =
+    let size : length (drop 4 more) ≡ length done - (x .start + 4) = omega (arith, length-drop 4 more, ap length e, length-append before more) in
+    let from : drop (x .start + 4) (done ++ rest) ≡ drop 4 more ++ rest =
+    rw (e, start, append-assoc before more rest, drop-append-add before (more ++ rest) 4) (drop-append-le 4 more rest h) in
+    ap (λ (z : List ℕ). take (length done - (x .start + 4)) z ++ xs) from
+    ∙ (ap (λ (z : List ℕ). z ++ xs) (take-at (drop 4 more) rest (length done - (x .start + 4)) size)
+    ∙ (sym (drop-append-le 4 more xs h) ∙ (ap (drop 4) whole ∙ drop-at (word 4 1) (layoutImage l) 4 (length-word 4 1))))
+
+-- A layout's number stands first in it.
+pub number-first : (l : Layout) → GoodLayout l → be 4 (layoutImage l) 0 ≡ l .number
+number-first l g = let s : List ℕ = layoutImage l in layout-number s 0 (layout-inverse s .back l tt g (all-spans s)) .1
+
+-- What a book takes of a layout that it learns, and what stands in the lent octets then.
+pub record Takes (lent : List ℕ) (b : Book) (l : Layout) (next : Book) : Type 0 where
+  pub new : List ℕ
+  pub takes : addition true b (length (bookImage b)) (layoutImage l) ≡ ok new 0
+  pub book : over (onto lent (bookImage b)) (length (bookImage b)) new ≡ onto lent (bookImage next)
+  pub used : length (bookImage b) + length new ≡ length (bookImage next)
+
+pub takes-learnt : (lent : List ℕ) (b : Book) (l : Layout) (next : Book) → GoodLayout l → Learnt b l next → Takes lent b l next
+takes-learnt lent b l next g (inl h) =
+    record {
+      new = [];
+      takes = rw (number-first l g, h .1, h .2, same-refl (layoutImage l));
+      book = rw (h .3) (over-nil (onto lent (bookImage b)) (length (bookImage b)));
+      used = rw (h .3) (add-zero (length (bookImage b)));
+    }
+takes-learnt lent b l next g (inr h) =
+    record {
+      new = layoutImage l;
+      takes = rw (number-first l g, h .0, lt-ltb (length b) 64 (h .1), le-leb (length (bookImage b) + length (layoutImage l)) 32768 (h .2));
+      book = rw (h .3, image-snoc b l) (over-onto lent (bookImage b) (layoutImage l));
+      used = rw (h .3, image-snoc b l, length-append (bookImage b) (layoutImage l));
+    }
+
+-- The last octets of a layout put; the book takes it.
+pub complete-leaves : (lent done rest : List ℕ) (x : Spot) (t : Turn) (fault : Read (Unit {0})) (xs new : List ℕ) (l : Layout) (next : Book) (takes : Takes lent (x .book) l next) → new ≡ takes .new
+    → leftBy (done ++ rest) (onto lent (bookImage (x .book))) (length (bookImage (x .book))) (attributes (stateAt done x) t fault xs 0) new
+    ≡ standing lent (done ++ xs) (drop (length xs) rest) (spot next wants.Element 0 0 (x .rows))
+complete-leaves lent done rest x t fault xs new l next takes e = rw (e, takes .book, takes .used, over-seam done rest xs, length-append done xs)
+
+-- The open row's layout is the one that its number names.
+pub row-layout : (before post rest done : List ℕ) (x : Spot) (n : ℕ) (l : Layout) → done ≡ before ++ (word 4 2 ++ (word 4 n ++ post)) → x .start ≡ length before
+    → n < 2 ^ 32 → find n (x .book) ≡ some l → rowLayout (stateAt done x) (done ++ rest) (x .book) ≡ ok l 0
+unfolding rowLayout
+row-layout before post rest done x n l e start small found =
+    let form : done ++ rest ≡ (before ++ word 4 2) ++ (word 4 n ++ (post ++ rest)) = behind rest e ∙ simp append-assoc in
+    let number : be 4 (done ++ rest) (x .start + 4) ≡ n =
+    ap (λ (z : List ℕ). be 4 z (x .start + 4)) form
+    ∙ be-at 4 n (x .start + 4) (before ++ word 4 2) (post ++ rest) small (omega (arith, length-append before (word 4 2), length-word 4 2)) in
+    rw (number, found)
+
+-- Whether an open row is stated is read back from its length, which is zero yet.
+stated-back : (t : Bool) (pre post : List ℕ) (p : ℕ) → p ≡ length pre → ltb (be 4 (pre ++ (lengthImage t 0 ++ post)) p) 0xffffffff ≡ t
+stated-back true pre post p e = rw (be-at 4 0 p pre post (lit< tt) e)
+stated-back false pre post p e = rw (be-at 4 0xffffffff p pre post (lit< tt) e)
+
+-- Closing a row puts its length where zero stood.
+closing : (before values rest done : List ℕ) (n st : ℕ) (stated : Bool) → done ≡ before ++ (word 4 2 ++ (word 4 n ++ (lengthImage stated 0 ++ values))) → st ≡ length before
+    → (over (done ++ rest) (st + 8) (lengthImage (ltb (be 4 (done ++ rest) (st + 8)) 0xffffffff) (length done - (st + 12)))
+    ≡ (before ++ (word 4 2 ++ ((word 4 n ++ lengthImage stated (length values)) ++ values))) ++ rest)
+    × (length done ≡ length (before ++ (word 4 2 ++ ((word 4 n ++ lengthImage stated (length values)) ++ values))))
+closing before values rest done n st stated e f =
+    let pre : List ℕ = (before ++ word 4 2) ++ word 4 n in
+    let post : List ℕ = values ++ rest in
+    let form : done ++ rest ≡ pre ++ (lengthImage stated 0 ++ post) = behind rest e ∙ simp append-assoc in
+    let long : length done ≡ length before + 12 + length values = ap length e ∙ simp (length-append, length-word, length-size) (omega arith) in
+    let size : length done - (st + 12) ≡ length values = omega arith in
+    let at-length : st + 8 ≡ length pre = sym (simp (length-append, length-word) (omega arith)) in
+    let is : ltb (be 4 (done ++ rest) (st + 8)) 0xffffffff ≡ stated = rw form (stated-back stated pre post (st + 8) at-length) in (
+      rw (is, size, form) (over-middle pre (lengthImage stated 0) (lengthImage stated (length values)) post (st + 8) at-length (length-size stated 0 ∙ sym (length-size stated (length values))) ∙ simp append-assoc),
+      long ∙ sym (simp (length-append, length-word, length-size) (omega arith)),
+    )
+
+pub close-leaves : (lent before rest done : List ℕ) (x : Spot) (r : Row)
+    → done ≡ before ++ (word 4 2 ++ (word 4 (r .number) ++ (lengthImage (r .is-stated) 0 ++ images fieldImage (r .fields)))) → x .start ≡ length before
+    → {new : List ℕ} {q : ℕ} → _≡_ {A = Read (List ℕ)} (ok [] 0) (ok new q)
+    → (leftBy (done ++ rest) (onto lent (bookImage (x .book))) (length (bookImage (x .book))) (does (stateAt done x) (done ++ rest) (x .book) closeRow) new
+    ≡ standing lent (before ++ itemImage (row r)) rest (spot (x .book) wants.Element 0 0 (x .rows + 1)))
+    × (length done ≡ length (before ++ itemImage (row r)))
+unfolding does rowImage
+close-leaves lent before rest done x r form start e =
+    let (buffer, place) = closing before (images fieldImage (r .fields)) rest done (r .number) (x .start) (r .is-stated) form start in (
+      rw (← ok-value refl e, over-nil (onto lent (bookImage (x .book))) (length (bookImage (x .book))), add-zero (length (bookImage (x .book))), buffer, place),
+      place,
+    )
+
+-- Giving up puts zeroes over what was opened.
+giving-up : (before more rest done : List ℕ) (st : ℕ) → done ≡ before ++ more → st ≡ length before
+    → over (done ++ rest) st (replicate (length done - st) 0) ≡ before ++ (replicate (length more) 0 ++ rest)
+giving-up before more rest done st e f =
+    let size : length done - st ≡ length more = omega (arith, ap length e, length-append before more) in
+    rw (size, behind rest e ∙ append-assoc before more rest) (over-middle before more (replicate (length more) 0) rest st f (sym (length-replicate {A = ℕ} (length more) 0)))
+
+pub give-up-leaves : (lent before more rest done : List ℕ) (x : Spot) → done ≡ before ++ more → x .start ≡ length before → {new : List ℕ} {q : ℕ} → _≡_ {A = Read (List ℕ)} (ok [] 0) (ok new q)
+    → leftBy (done ++ rest) (onto lent (bookImage (x .book))) (length (bookImage (x .book))) (does (stateAt done x) (done ++ rest) (x .book) giveUp) new
+    ≡ standing lent before (replicate (length more) 0 ++ rest) (spot (x .book) wants.Element 0 0 (x .rows))
+unfolding does
+give-up-leaves lent before more rest done x form start e =
+    rw (
+      ← ok-value refl e,
+      over-nil (onto lent (bookImage (x .book))) (length (bookImage (x .book))),
+      add-zero (length (bookImage (x .book))),
+      giving-up before more rest done (x .start) form start,
+      start,
+    )
