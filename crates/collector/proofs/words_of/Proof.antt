@@ -1,0 +1,10 @@
+-- `collector::words_of` meets its contract: the element by its cases. Assumes nothing.
+use borrow.Author.Needs.{needs}
+use Rattle.collector.proofs.words_of.Statement.{statement}
+use Rattle.collector.proofs.words_of.Tie as tie
+
+pub words-of-spec : {M : Type 1} → statement M
+words-of-spec =
+    tie.close
+    (tie.spec (λ c. search needs) (λ c. search needs) (λ c. search needs) (λ c. search needs) (λ c. search needs) (λ c. search needs) (λ c κs. search needs)
+    (λ c. search needs) (λ c. search needs) (λ c. rw (c .before .met .given .1)) (λ c. rw (c .before .before .met2 .given .1, c .bit-of .ensures)) (λ c. rw (c .before .met3 .given .1)))

@@ -1,0 +1,143 @@
+/* ipdr.h: reading IPDR/XDR documents of version 4 from C.
+ *
+ * Link with target/staticlib/libcollector.a, which `rt staticlib collector` makes. It is for x86-64, needs no other
+ * library, allocates nothing, keeps nothing between calls, and may be called from several threads at once.
+ *
+ * Every call takes any octets and any numbers, comes to an end, and answers 0 where it accepts, else a refusal: one
+ * number that holds which fault was met first and where (see ipdr_refusal_number and ipdr_refusal_place). A refusal
+ * leaves every octet and every word that was lent as it was.
+ *
+ * What is lent:
+ * - a document: its octets and how many there are. It is read where it stands and never written. At most
+ *   IPDR_DOCUMENT_MOST octets; more are refused.
+ * - a book, for steps: IPDR_BOOK_SIZE octets or more, in which the layouts met are kept. See ipdr_step.
+ * - `out`: eight words of 64 bits, aligned as uint64_t is.
+ * No pointer may be null, not even with a length of 0, and what is lent for writing overlaps nothing else that is lent.
+ *
+ * ipdr_whole uses some 33,000 octets of stack, the other two less than 1,000.
+ *
+ * To check a document:
+ *
+ *     uint64_t rows, refused = ipdr_whole(doc, doc_len, &rows);
+ *     if (refused)
+ *         printf("%u at %u\n", ipdr_refusal_number(refused), ipdr_refusal_place(refused));
+ *
+ * To read one from its first octet, element by element:
+ *
+ *     static uint8_t book[IPDR_BOOK_SIZE];
+ *     uint64_t out[8], refused;
+ *     uint32_t at, rows = 0, used = 0;
+ *
+ *     if ((refused = ipdr_header(doc, doc_len, out)) != 0)
+ *         return refused;
+ *     at = (uint32_t)out[IPDR_HEADER_NEXT];
+ *     do {
+ *         if ((refused = ipdr_step(doc, doc_len, at, rows, book, sizeof book, used, out)) != 0)
+ *             return refused;
+ *         ... the element from at to out[IPDR_STEP_NEXT]: what it is stands in out ...
+ *         at = (uint32_t)out[IPDR_STEP_NEXT];
+ *         rows = (uint32_t)out[IPDR_STEP_ROWS];
+ *         used = (uint32_t)out[IPDR_STEP_USED];
+ *     } while (out[IPDR_STEP_KIND] != IPDR_END);
+ *
+ * To read on from the middle, no header is needed: start the same loop with `at` at an element's first octet, `rows`
+ * at the count of rows before it, and `book` and `used` as an earlier reading left them, or with layouts put there by
+ * hand. Keep at, rows, used and the first `used` octets of the book, and a reading can go on at any later time.
+ */
+#ifndef IPDR_H
+#define IPDR_H
+
+#include <stddef.h>
+#include <stdint.h>
+
+#ifdef __cplusplus
+extern "C" {
+#endif
+
+#define IPDR_DOCUMENT_MOST 1048576 /* octets in a document */
+#define IPDR_BOOK_SIZE 32768       /* octets that a lent book has at least, and that layouts may fill */
+#define IPDR_BOOK_MOST 64          /* layouts in a book */
+#define IPDR_ROWS_MOST 1048576     /* rows passed that a step may be told */
+
+/* Refusal numbers, each with the place that comes with it. The first fault in reading order is the one given. */
+enum ipdr_refusal {
+    IPDR_CUT_SHORT = 1,    /* a field passes the document's end, or the octets that its length states do: the field */
+    IPDR_TOO_LONG = 2,     /* the document is over the limit; before all else: 0 */
+    IPDR_VERSION = 3,      /* the version is not 4: 0 */
+    IPDR_COUNT = 4,        /* over 16 namespaces or service definitions, or 64 attributes: the count */
+    IPDR_ID = 5,           /* the document id's length is not 16: that length */
+    IPDR_OPEN = 6,         /* the four octets after the header are not FF FF FF FF: there */
+    IPDR_KIND = 7,         /* an element's kind is not 1, 2 or 3: the kind */
+    IPDR_TYPE = 8,         /* no such type: the type */
+    IPDR_USER_TYPE = 9,    /* a user-defined type: the type */
+    IPDR_DIFFERS = 10,     /* a layout's number is known with other content: the number */
+    IPDR_BOOK_FULL = 11,   /* the book has no room for a new layout: the number */
+    IPDR_NO_LAYOUT = 12,   /* a row names a layout that is not in the book: the number */
+    IPDR_ROW_LENGTH = 13,  /* a row's stated length is not that of its values: the length */
+    IPDR_BOOLEAN = 14,     /* a boolean is not 0 or 1: that octet */
+    IPDR_END_COUNT = 15,   /* the end's count is not that of the rows: the count */
+    IPDR_AFTER_END = 16,   /* octets follow the end: the first of them */
+    IPDR_LENT = 17         /* steps only, after 2: the book is too short, used is over IPDR_BOOK_SIZE, the used octets
+                              are not whole valid layouts of different numbers, or rows is over IPDR_ROWS_MOST: 0 */
+};
+
+/* A refusal taken apart. A place is an index into the document: it is at most the document's length or, for a step
+ * past the document's end, the place that the step was given. */
+static inline uint32_t ipdr_refusal_number(uint64_t refused) { return (uint32_t)(refused >> 32); }
+static inline uint32_t ipdr_refusal_place(uint64_t refused) { return (uint32_t)(refused & UINT32_MAX); }
+
+/* A time from its 64 bits: seconds since 1970-01-01 00:00:00 UTC, which may be negative. */
+static inline int64_t ipdr_time(uint64_t bits)
+{
+    return bits <= INT64_MAX ? (int64_t)bits : -1 - (int64_t)(UINT64_MAX - bits);
+}
+
+/* The header check.
+ *
+ * Answers 0 with these words in `out`, the other four as they were, or a refusal: 1 to 6. */
+enum ipdr_header_word {
+    IPDR_HEADER_START = 0,      /* the start time's bits, for ipdr_time */
+    IPDR_HEADER_NAMESPACES = 1, /* how many other namespaces, at most 16 */
+    IPDR_HEADER_SERVICES = 2,   /* how many service definitions, at most 16 */
+    IPDR_HEADER_NEXT = 3        /* the place behind the header, where the first element begins */
+};
+uint64_t ipdr_header(const uint8_t *doc, size_t doc_len, uint64_t out[8]);
+
+/* One step: the element at a place.
+ *
+ * at    any place; one at or past the document's end is refused by 1 at that place
+ * rows  how many rows stand before it in the document
+ * book  the layouts met so far, one after another from its first octet, each as it stands in the document from its
+ *       number to its last type, without the kind; book_len is at least IPDR_BOOK_SIZE
+ * used  how many octets of the book they fill; 0 for an empty book, whatever it holds
+ *
+ * Answers 0 with all eight words in `out`, or a refusal: 1, 2, 4, 7 to 17. A layout that the book does not have is put
+ * behind its used octets, and then only the new used count and those octets differ; in all else the book is as it was.
+ * The header is not looked at, nor whether an element begins at the place. Every step checks the used octets of the
+ * book, so a book that was spoilt between two steps is refused. */
+enum ipdr_step_word {
+    IPDR_STEP_KIND = 0,      /* IPDR_LAYOUT, IPDR_ROW or IPDR_END */
+    IPDR_STEP_NEXT = 1,      /* the place behind the element; behind the end it is the document's length */
+    IPDR_STEP_ROWS = 2,      /* how many rows are passed now */
+    IPDR_STEP_USED = 3,      /* how many octets of the book are used now */
+    IPDR_STEP_NUMBER = 4,    /* a layout's number, or that of a row's layout: 32 bits */
+    IPDR_STEP_COUNT = 5,     /* how many attributes a layout, or fields a row has, at most 64 */
+    IPDR_STEP_STATED = 6,    /* 1 where a row states its length; else, and for a layout and the end, 0 */
+    IPDR_STEP_END_COUNT = 4, /* the end: the count of rows in the document */
+    IPDR_STEP_END_TIME = 5   /* the end: the end time's bits, for ipdr_time */
+    /* the eighth word is 0 */
+};
+enum ipdr_kind { IPDR_LAYOUT = 1, IPDR_ROW = 2, IPDR_END = 3 };
+uint64_t ipdr_step(const uint8_t *doc, size_t doc_len, uint32_t at, uint32_t rows, uint8_t *book, size_t book_len,
+                   uint32_t used, uint64_t out[8]);
+
+/* The whole check: header and elements to the end, over a book of its own, in time linear in the document's length.
+ *
+ * Answers 0 with the count of rows in `rows`, or the refusal of a reading from the first octet: 1 to 16. */
+uint64_t ipdr_whole(const uint8_t *doc, size_t doc_len, uint64_t *rows);
+
+#ifdef __cplusplus
+}
+#endif
+
+#endif

@@ -1,0 +1,495 @@
+/* Calls each entry point for C on the specimen, on changed specimens and on documents at the limits, and compares the
+ * answer and everything lent: on acceptance with what is due, on a refusal with what it was before.
+ * A line for each check; the last line is `N passed, M failed`. */
+#include "ipdr.h"
+
+#include <stdio.h>
+#include <string.h>
+
+#define WORDS 8
+#define SPECIMEN_SIZE 137
+
+static const uint8_t specimen[SPECIMEN_SIZE] = {
+    0, 0, 0, 4,                                     /* 0: version */
+    0, 0, 0, 0,                                     /* 4: recorder */
+    0, 0, 0, 0, 0, 1, 0x51, 0x80,                   /* 8: start time */
+    0, 0, 0, 0,                                     /* 16: default namespace */
+    0, 0, 0, 0,                                     /* 20: count of other namespaces */
+    0, 0, 0, 0,                                     /* 24: count of service definitions */
+    0, 0, 0, 16,                                    /* 28: document id */
+    0, 0, 0, 0, 0, 0, 0, 0, 0, 0, 0, 0, 0, 0, 0, 0, /* 32 */
+    0xff, 0xff, 0xff, 0xff,                         /* 48 */
+    0, 0, 0, 1, 0, 0, 0, 7,                         /* 52: layout, 56: its number */
+    0, 0, 0, 1, 'A',                                /* 60: type name */
+    0, 0, 0, 2,                                     /* 65: count of attributes */
+    0, 0, 0, 1, 'u', 0, 0, 0, 0x22,                 /* 69: attribute, 74: its type */
+    0, 0, 0, 1, 'd', 0, 0, 0, 0x2a,                 /* 78: attribute, 83: its type */
+    0, 0, 0, 2, 0, 0, 0, 7,                         /* 87: row, 91: its number */
+    0, 0, 0, 5, 0, 0, 0, 10, 0xfe,                  /* 95: its length, 99: its values */
+    0, 0, 0, 2, 0, 0, 0, 7,                         /* 104: row, 108: its number */
+    0xff, 0xff, 0xff, 0xff, 0, 0, 0, 0, 0x7f,       /* 112: its length, 116: its values */
+    0, 0, 0, 3, 0, 0, 0, 2,                         /* 121: end, 125: its count */
+    0, 0, 0, 0, 0, 1, 0x51, 0x81,                   /* 129: end time */
+};
+
+enum { HEADER_END = 52, LAYOUT_NUMBER = 56, FIRST_ROW = 87, SECOND_ROW = 104, END_AT = 121 };
+enum { LAYOUT_SIZE = FIRST_ROW - LAYOUT_NUMBER };
+
+static int passed, failed;
+
+static void check(const char *what, int holds)
+{
+    printf("%s: %s\n", holds ? "ok" : "FAILED", what);
+    if (holds)
+        passed++;
+    else
+        failed++;
+}
+
+/* Octets put one after another. */
+struct octets {
+    size_t len;
+    uint8_t at[IPDR_DOCUMENT_MOST + 1];
+};
+
+static struct octets made;
+
+static void put(const uint8_t *octets, size_t count)
+{
+    memcpy(made.at + made.len, octets, count);
+    made.len += count;
+}
+
+static void put_zeros(size_t count)
+{
+    memset(made.at + made.len, 0, count);
+    made.len += count;
+}
+
+static void put_number(uint32_t n)
+{
+    const uint8_t octets[4] = {(uint8_t)(n >> 24), (uint8_t)(n >> 16), (uint8_t)(n >> 8), (uint8_t)n};
+    put(octets, sizeof octets);
+}
+
+static void begin(size_t specimen_octets)
+{
+    made.len = 0;
+    put(specimen, specimen_octets);
+}
+
+static void put_end(uint32_t count)
+{
+    put_number(3);
+    put_number(count);
+    put_zeros(8);
+}
+
+/* A layout from its kind on, of a number and a type name of so many octets, with no attributes: 12 octets of a book
+ * beside the name's. */
+static void put_layout(uint32_t number, size_t name)
+{
+    put_number(1);
+    put_number(number);
+    put_number((uint32_t)name);
+    put_zeros(name);
+    put_number(0);
+}
+
+/* The specimen with four octets changed to those of a number. */
+static void change(size_t place, uint32_t number)
+{
+    begin(place);
+    put_number(number);
+    put(specimen + place + 4, SPECIMEN_SIZE - place - 4);
+}
+
+static void change_octet(size_t place, uint8_t octet)
+{
+    begin(SPECIMEN_SIZE);
+    made.at[place] = octet;
+}
+
+/* What is lent, and as it was before a call. */
+static uint64_t out[WORDS], out_before[WORDS];
+static uint8_t book[IPDR_BOOK_SIZE + 100], book_before[sizeof book];
+static size_t book_len = IPDR_BOOK_SIZE;
+
+static void lend_words(void)
+{
+    for (int i = 0; i < WORDS; i++)
+        out_before[i] = UINT64_C(0x0123456789abcdef) + (uint64_t)i;
+    memcpy(out, out_before, sizeof out);
+}
+
+/* A book that begins with these octets; behind them it holds anything. */
+static void lend_book(const uint8_t *octets, size_t count)
+{
+    memset(book_before, 0x55, sizeof book_before);
+    memcpy(book_before, octets, count);
+    memcpy(book, book_before, sizeof book);
+}
+
+static int is_refusal(uint64_t answer, uint32_t number, uint32_t place)
+{
+    return answer == ((uint64_t)number << 32 | place) && ipdr_refusal_number(answer) == number && ipdr_refusal_place(answer) == place;
+}
+
+static int words_are(const uint64_t words[WORDS])
+{
+    return memcmp(out, words, sizeof out) == 0;
+}
+
+static int book_is_as_lent(void)
+{
+    return memcmp(book, book_before, sizeof book) == 0;
+}
+
+static void header_accepts(const char *what, uint64_t start, uint64_t namespaces, uint64_t services, uint64_t next)
+{
+    lend_words();
+    uint64_t words[WORDS] = {start, namespaces, services, next, out[4], out[5], out[6], out[7]};
+    check(what, ipdr_header(made.at, made.len, out) == 0 && words_are(words));
+}
+
+static void header_refuses(const char *what, uint32_t number, uint32_t place)
+{
+    lend_words();
+    check(what, is_refusal(ipdr_header(made.at, made.len, out), number, place) && words_are(out_before));
+}
+
+static void whole_accepts(const char *what, uint64_t rows)
+{
+    uint64_t lent = UINT64_C(0xfedcba9876543210);
+    check(what, ipdr_whole(made.at, made.len, &lent) == 0 && lent == rows);
+}
+
+static void whole_refuses(const char *what, uint32_t number, uint32_t place)
+{
+    const uint64_t before = UINT64_C(0xfedcba9876543210);
+    uint64_t lent = before;
+    check(what, is_refusal(ipdr_whole(made.at, made.len, &lent), number, place) && lent == before);
+}
+
+/* A step that puts no layout into the book. */
+static void step_accepts(const char *what, uint32_t at, uint32_t rows, uint32_t used, const uint64_t words[WORDS])
+{
+    lend_words();
+    check(what, ipdr_step(made.at, made.len, at, rows, book, book_len, used, out) == 0 && words_are(words) && book_is_as_lent());
+}
+
+/* A step that puts the document's octets from a place on behind the used ones of the book. */
+static void step_learns(const char *what, uint32_t at, uint32_t used, size_t from, size_t count, const uint64_t words[WORDS])
+{
+    lend_words();
+    int accepted = ipdr_step(made.at, made.len, at, 0, book, book_len, used, out) == 0;
+    memcpy(book_before + used, made.at + from, count);
+    check(what, accepted && words_are(words) && book_is_as_lent());
+}
+
+static void step_refuses(const char *what, uint32_t at, uint32_t rows, uint32_t used, uint32_t number, uint32_t place)
+{
+    lend_words();
+    uint64_t answer = ipdr_step(made.at, made.len, at, rows, book, book_len, used, out);
+    check(what, is_refusal(answer, number, place) && words_are(out_before) && book_is_as_lent());
+}
+
+static void lend_empty_book(void)
+{
+    lend_book(specimen, 0);
+}
+
+static void lend_specimen_book(void)
+{
+    lend_book(specimen + LAYOUT_NUMBER, LAYOUT_SIZE);
+}
+
+/* What is refused by a step at the header's end over an empty book is refused by the whole check too. */
+static void both_refuse(const char *what, uint32_t number, uint32_t place)
+{
+    lend_empty_book();
+    step_refuses(what, HEADER_END, 0, 0, number, place);
+    whole_refuses(what, number, place);
+}
+
+static void header_and_whole_refuse(const char *what, uint32_t number, uint32_t place)
+{
+    header_refuses(what, number, place);
+    whole_refuses(what, number, place);
+}
+
+static const uint64_t layout_words[WORDS] = {IPDR_LAYOUT, FIRST_ROW, 0, LAYOUT_SIZE, 7, 2, 0, 0};
+static const uint64_t first_row_words[WORDS] = {IPDR_ROW, SECOND_ROW, 1, LAYOUT_SIZE, 7, 2, 1, 0};
+static const uint64_t second_row_words[WORDS] = {IPDR_ROW, END_AT, 2, LAYOUT_SIZE, 7, 2, 0, 0};
+static const uint64_t end_words[WORDS] = {IPDR_END, SPECIMEN_SIZE, 2, LAYOUT_SIZE, 2, 86401, 0, 0};
+
+static void try_specimen(void)
+{
+    begin(SPECIMEN_SIZE);
+    header_accepts("header of the specimen", 86400, 0, 0, HEADER_END);
+    whole_accepts("whole check of the specimen: two rows", 2);
+    lend_empty_book();
+    step_learns("step at 52: layout 7 of two attributes, put into the book", HEADER_END, 0, LAYOUT_NUMBER, LAYOUT_SIZE, layout_words);
+    step_accepts("step at 52 again: the layout is known", HEADER_END, 0, LAYOUT_SIZE, layout_words);
+    step_accepts("step at 87: a stated row", FIRST_ROW, 0, LAYOUT_SIZE, first_row_words);
+    step_accepts("step at 104: an unstated row", SECOND_ROW, 1, LAYOUT_SIZE, second_row_words);
+    step_accepts("step at 121: the end", END_AT, 2, LAYOUT_SIZE, end_words);
+    check("times before 1970 are negative", ipdr_time(UINT64_MAX) == -1 && ipdr_time((uint64_t)INT64_MAX + 1) == INT64_MIN && ipdr_time(86401) == 86401);
+}
+
+/* The changes of the specimen that the rules list. */
+static void try_changes(void)
+{
+    begin(0);
+    header_and_whole_refuse("empty input: 1 at 0", IPDR_CUT_SHORT, 0);
+    change(0, 3);
+    header_and_whole_refuse("version 3: 3 at 0", IPDR_VERSION, 0);
+    change(125, 3);
+    whole_refuses("count 3: 15 at 125", IPDR_END_COUNT, 125);
+    begin(SPECIMEN_SIZE);
+    put_zeros(1);
+    whole_refuses("one octet more: 16 at 137", IPDR_AFTER_END, 137);
+    begin(SPECIMEN_SIZE - 1);
+    whole_refuses("one octet less: 1 at 129", IPDR_CUT_SHORT, 129);
+    change(91, 8);
+    whole_refuses("row of layout 8: 12 at 91", IPDR_NO_LAYOUT, 91);
+    change(95, 6);
+    whole_refuses("length 6: 13 at 95", IPDR_ROW_LENGTH, 95);
+    change(95, 4);
+    whole_refuses("length 4: 13 at 95", IPDR_ROW_LENGTH, 95);
+    change(74, 0x20);
+    both_refuse("type 00000020: 8 at 74", IPDR_TYPE, 74);
+    change(74, 0x80000022);
+    both_refuse("type 80000022: 9 at 74", IPDR_USER_TYPE, 74);
+    change(74, 0x922);
+    whole_accepts("type 00000922: accepted", 2);
+
+    begin(SPECIMEN_SIZE);
+    lend_specimen_book();
+    step_accepts("from 104 with the layout in the book: the row", SECOND_ROW, 1, LAYOUT_SIZE, second_row_words);
+    step_accepts("from 104 with the layout in the book: the end", END_AT, 2, LAYOUT_SIZE, end_words);
+    uint64_t words[WORDS] = {IPDR_ROW, END_AT, 1, LAYOUT_SIZE, 7, 2, 0, 0};
+    step_accepts("from 104 with no row passed: the row", SECOND_ROW, 0, LAYOUT_SIZE, words);
+    step_refuses("from 104 with no row passed: 15 at 125", END_AT, 1, LAYOUT_SIZE, IPDR_END_COUNT, 125);
+    lend_empty_book();
+    step_refuses("from 104 with an empty book: 12 at 108", SECOND_ROW, 1, 0, IPDR_NO_LAYOUT, 108);
+
+    /* The second attribute short, the first row's value FFFE: two octets more, so one more in the length. */
+    change_octet(86, 0x2c);
+    made.len = 95;
+    put_number(6);
+    put(specimen + 99, 4);
+    put((const uint8_t[]){0xff, 0xfe}, 2);
+    put(specimen + SECOND_ROW, 16);
+    put((const uint8_t[]){0x00, 0x7f}, 2);
+    put(specimen + END_AT, 16);
+    whole_accepts("the second attribute short: accepted", 2);
+    lend_book(made.at + LAYOUT_NUMBER, LAYOUT_SIZE);
+    uint64_t short_words[WORDS] = {IPDR_ROW, SECOND_ROW + 1, 1, LAYOUT_SIZE, 7, 2, 1, 0};
+    step_accepts("a row with a short", FIRST_ROW, 0, LAYOUT_SIZE, short_words);
+}
+
+static void try_header_refusals(void)
+{
+    for (size_t size = 0; size < HEADER_END; size++) {
+        static const uint8_t fields[] = {0, 4, 8, 16, 20, 24, 28, 48, 52};
+        uint32_t place = 0;
+        for (size_t i = 0; fields[i] <= size; i++)
+            place = fields[i];
+        char what[60];
+        snprintf(what, sizeof what, "header cut after %zu octets: 1 at %u", size, place);
+        begin(size);
+        header_and_whole_refuse(what, IPDR_CUT_SHORT, place);
+    }
+    change(4, 0xffffffff);
+    header_and_whole_refuse("recorder of FFFFFFFF octets: 1 at 4", IPDR_CUT_SHORT, 4);
+    change(20, 17);
+    header_and_whole_refuse("17 namespaces: 4 at 20", IPDR_COUNT, 20);
+    change(24, 17);
+    header_and_whole_refuse("17 service definitions: 4 at 24", IPDR_COUNT, 24);
+    change(28, 15);
+    header_and_whole_refuse("document id of 15 octets: 5 at 28", IPDR_ID, 28);
+    change(48, 0xfffffffe);
+    header_and_whole_refuse("FFFFFFFE behind the header: 6 at 48", IPDR_OPEN, 48);
+
+    begin(20);
+    put_number(16);
+    put_zeros(16 * 8);
+    put_number(16);
+    put_zeros(16 * 4);
+    put(specimen + 28, HEADER_END - 28);
+    put_end(0);
+    header_accepts("header with both lists full", 86400, 16, 16, HEADER_END + 16 * 8 + 16 * 4);
+    whole_accepts("a document with both lists full and no rows", 0);
+    change(8, 0x80000000);
+    header_accepts("header with a start time before 1970", 0x8000000000015180, 0, 0, HEADER_END);
+}
+
+static void try_element_refusals(void)
+{
+    change(HEADER_END, 4);
+    both_refuse("kind 4: 7 at 52", IPDR_KIND, HEADER_END);
+    change(HEADER_END, 0);
+    both_refuse("kind 0: 7 at 52", IPDR_KIND, HEADER_END);
+    begin(HEADER_END + 3);
+    both_refuse("kind cut short: 1 at 52", IPDR_CUT_SHORT, HEADER_END);
+    change(60, 0xffffffff);
+    both_refuse("type name of FFFFFFFF octets: 1 at 60", IPDR_CUT_SHORT, 60);
+    change(65, 65);
+    both_refuse("65 attributes: 4 at 65", IPDR_COUNT, 65);
+    change(74, 0x10022);
+    both_refuse("type 00010022: 8 at 74", IPDR_TYPE, 74);
+    change(74, 0x2e);
+    both_refuse("type 0000002e: 8 at 74", IPDR_TYPE, 74);
+
+    begin(FIRST_ROW);
+    put(specimen + HEADER_END, FIRST_ROW - HEADER_END);
+    put_end(0);
+    whole_accepts("a layout twice: adds nothing", 0);
+    made.at[FIRST_ROW + 12] = 'B';
+    whole_refuses("a layout of a known number with another name: 10 at 91", IPDR_DIFFERS, 91);
+    lend_specimen_book();
+    step_refuses("a layout of a known number with another name: 10 at 91", FIRST_ROW, 0, LAYOUT_SIZE, IPDR_DIFFERS, 91);
+
+    begin(SPECIMEN_SIZE);
+    lend_specimen_book();
+    change(91, 8);
+    step_refuses("row of layout 8: 12 at 91", FIRST_ROW, 0, LAYOUT_SIZE, IPDR_NO_LAYOUT, 91);
+    change(95, 6);
+    step_refuses("length 6: 13 at 95", FIRST_ROW, 0, LAYOUT_SIZE, IPDR_ROW_LENGTH, 95);
+    change(95, 4);
+    step_refuses("length 4: 13 at 95", FIRST_ROW, 0, LAYOUT_SIZE, IPDR_ROW_LENGTH, 95);
+    change(95, 0xfffffffe);
+    step_refuses("length FFFFFFFE: 1 at 95", FIRST_ROW, 0, LAYOUT_SIZE, IPDR_CUT_SHORT, 95);
+    begin(98);
+    step_refuses("length cut short: 1 at 95", FIRST_ROW, 0, LAYOUT_SIZE, IPDR_CUT_SHORT, 95);
+    begin(120);
+    step_refuses("value of an unstated row cut short: 1 at 120", SECOND_ROW, 1, LAYOUT_SIZE, IPDR_CUT_SHORT, 120);
+
+    /* The second attribute boolean: FE is none, and 7F of the second row neither. */
+    change_octet(86, 0x29);
+    whole_refuses("boolean FE: 14 at 103", IPDR_BOOLEAN, 103);
+    lend_book(made.at + LAYOUT_NUMBER, LAYOUT_SIZE);
+    step_refuses("boolean FE: 14 at 103", FIRST_ROW, 0, LAYOUT_SIZE, IPDR_BOOLEAN, 103);
+    step_refuses("boolean 7F: 14 at 120", SECOND_ROW, 1, LAYOUT_SIZE, IPDR_BOOLEAN, 120);
+
+    /* The second attribute a string: FF FF FF FF before it is a length. */
+    change_octet(86, 0x28);
+    made.len = 120;
+    put_number(0xffffffff);
+    put_end(1);
+    lend_book(made.at + LAYOUT_NUMBER, LAYOUT_SIZE);
+    step_refuses("string of FFFFFFFF octets: 1 at 120", SECOND_ROW, 0, LAYOUT_SIZE, IPDR_CUT_SHORT, 120);
+
+    lend_specimen_book();
+    change(125, 3);
+    step_refuses("count 3: 15 at 125", END_AT, 2, LAYOUT_SIZE, IPDR_END_COUNT, 125);
+    begin(SPECIMEN_SIZE - 1);
+    step_refuses("end time cut short: 1 at 129", END_AT, 2, LAYOUT_SIZE, IPDR_CUT_SHORT, 129);
+    begin(SPECIMEN_SIZE);
+    put_zeros(1);
+    step_refuses("one octet more: 16 at 137", END_AT, 2, LAYOUT_SIZE, IPDR_AFTER_END, 137);
+}
+
+static void try_places(void)
+{
+    begin(SPECIMEN_SIZE);
+    lend_specimen_book();
+    step_refuses("a step at the document's end: 1 there", SPECIMEN_SIZE, 2, LAYOUT_SIZE, IPDR_CUT_SHORT, SPECIMEN_SIZE);
+    step_refuses("a step past the document's end: 1 there", 2000000, 2, LAYOUT_SIZE, IPDR_CUT_SHORT, 2000000);
+    step_refuses("a step at the last place of all: 1 there", UINT32_MAX, 2, LAYOUT_SIZE, IPDR_CUT_SHORT, UINT32_MAX);
+    step_refuses("a step at 0: 7 there", 0, 0, LAYOUT_SIZE, IPDR_KIND, 0);
+    uint64_t words[WORDS] = {IPDR_ROW, SECOND_ROW, IPDR_ROWS_MOST + 1, LAYOUT_SIZE, 7, 2, 1, 0};
+    step_accepts("a row with 1,048,576 rows passed", FIRST_ROW, IPDR_ROWS_MOST, LAYOUT_SIZE, words);
+}
+
+static void try_lent(void)
+{
+    begin(SPECIMEN_SIZE);
+    lend_specimen_book();
+    step_refuses("1,048,577 rows passed: 17", FIRST_ROW, IPDR_ROWS_MOST + 1, LAYOUT_SIZE, IPDR_LENT, 0);
+    step_refuses("all rows passed that a number holds: 17", FIRST_ROW, UINT32_MAX, LAYOUT_SIZE, IPDR_LENT, 0);
+    step_refuses("one octet of the book's layout not used: 17", FIRST_ROW, 0, LAYOUT_SIZE - 1, IPDR_LENT, 0);
+    step_refuses("one octet behind the book's layout used: 17", FIRST_ROW, 0, LAYOUT_SIZE + 1, IPDR_LENT, 0);
+    step_refuses("32,769 octets used: 17", FIRST_ROW, 0, IPDR_BOOK_SIZE + 1, IPDR_LENT, 0);
+    step_refuses("all octets used that a number holds: 17", FIRST_ROW, 0, UINT32_MAX, IPDR_LENT, 0);
+    step_refuses("17 comes before the place", UINT32_MAX, UINT32_MAX, 1, IPDR_LENT, 0);
+    book_len = IPDR_BOOK_SIZE - 1;
+    step_refuses("a book of 32,767 octets: 17", FIRST_ROW, 0, LAYOUT_SIZE, IPDR_LENT, 0);
+    book_len = 0;
+    step_refuses("no book: 17", FIRST_ROW, 0, 0, IPDR_LENT, 0);
+    book_len = sizeof book;
+    step_accepts("a longer book", FIRST_ROW, 0, LAYOUT_SIZE, first_row_words);
+    book_len = IPDR_BOOK_SIZE;
+
+    begin(0);
+    put(specimen + LAYOUT_NUMBER, LAYOUT_SIZE);
+    put(specimen + LAYOUT_NUMBER, LAYOUT_SIZE);
+    lend_book(made.at, made.len);
+    begin(SPECIMEN_SIZE);
+    step_refuses("a book with a number twice: 17", FIRST_ROW, 0, 2 * LAYOUT_SIZE, IPDR_LENT, 0);
+    change_octet(77, 0x20);
+    lend_book(made.at + LAYOUT_NUMBER, LAYOUT_SIZE);
+    begin(SPECIMEN_SIZE);
+    step_refuses("a book with no such type: 17", FIRST_ROW, 0, LAYOUT_SIZE, IPDR_LENT, 0);
+}
+
+static void try_limits(void)
+{
+    begin(SPECIMEN_SIZE);
+    put_zeros(IPDR_DOCUMENT_MOST - SPECIMEN_SIZE);
+    header_accepts("header of a document of 1,048,576 octets", 86400, 0, 0, HEADER_END);
+    whole_refuses("a document of 1,048,576 octets: 16 at 137", IPDR_AFTER_END, 137);
+    put_zeros(1);
+    header_and_whole_refuse("a document of 1,048,577 octets: 2 at 0", IPDR_TOO_LONG, 0);
+    lend_empty_book();
+    step_refuses("a step in 1,048,577 octets: 2 at 0", HEADER_END, 0, 0, IPDR_TOO_LONG, 0);
+    step_refuses("2 comes before 17", HEADER_END, UINT32_MAX, UINT32_MAX, IPDR_TOO_LONG, 0);
+
+    begin(HEADER_END);
+    put_end(0);
+    check("header and end alone are 68 octets", made.len == 68);
+    whole_accepts("header and end alone", 0);
+
+    begin(HEADER_END);
+    for (uint32_t n = 0; n < IPDR_BOOK_MOST; n++)
+        put_layout(n, 0);
+    put_end(0);
+    whole_accepts("64 layouts", 0);
+    made.len -= 16;
+    uint32_t at = (uint32_t)made.len;
+    put_layout(IPDR_BOOK_MOST, 0);
+    put_end(0);
+    whole_refuses("65 layouts: 11 at the last one's number", IPDR_BOOK_FULL, at + 4);
+
+    /* Two layouts that fill the book, then the second with a name of one octet more. */
+    for (size_t more = 0; more < 2; more++) {
+        size_t second = HEADER_END + 16 + 20000;
+        begin(HEADER_END);
+        put_layout(1, 20000);
+        put_layout(2, IPDR_BOOK_SIZE - 20000 - 24 + more);
+        put_end(0);
+        lend_book(made.at + LAYOUT_NUMBER, 12 + 20000);
+        if (more) {
+            whole_refuses("layouts of 32,769 octets: 11 at the last one's number", IPDR_BOOK_FULL, (uint32_t)second + 4);
+            step_refuses("a layout that does not fit the book: 11 at its number", (uint32_t)second, 0, 12 + 20000, IPDR_BOOK_FULL, (uint32_t)second + 4);
+        } else {
+            uint64_t words[WORDS] = {IPDR_LAYOUT, made.len - 16, 0, IPDR_BOOK_SIZE, 2, 0, 0, 0};
+            whole_accepts("layouts of 32,768 octets", 0);
+            step_learns("a layout that fills the book", (uint32_t)second, 12 + 20000, second + 4, IPDR_BOOK_SIZE - 20000 - 12, words);
+        }
+    }
+}
+
+int main(void)
+{
+    try_specimen();
+    try_changes();
+    try_header_refusals();
+    try_element_refusals();
+    try_places();
+    try_lent();
+    try_limits();
+    printf("%d passed, %d failed\n", passed, failed);
+    return failed != 0;
+}
