@@ -25,12 +25,9 @@ use Rattle.reading.proofs.Entry.{header-long, whole-refused, step-long}
 use Rattle.collector.specs.Calls.{Packs}
 
 -- A reading that passes no end: neither by the place behind it nor by that of its refusal, whose number is not 0.
-abbrev pub Stays : {A : Type 0} → ℕ → Read A → Type 0
+abbrev Stays : {A : Type 0} → ℕ → Read A → Type 0
 Stays end (ok a next) = next ≤ end
 Stays end (no n p) = (0 < n) × (p ≤ end)
-
-one : 0 < 1
-one = lit< tt
 
 -- A room that a document has: its end and the place of its refusal are inside.
 abbrev Inside : ℕ → Room → Type 0
@@ -61,7 +58,7 @@ module _ (s : List ℕ) (end : ℕ) (long : length s ≤ end) where
   reach-inside (stated to p) h = h .0
 
   stays-over : (A : Type 0) (room : Room) → Inside end room → (at : ℕ) → at ≤ end → Stays end (overrun {A = A} room at)
-  stays-over A document h at b = (one, b)
+  stays-over A document h at b = (lit< tt, b)
   stays-over A (stated to p) h at b = (lit< tt, h .1)
 
   module _ (room : Room) (inside : Inside end room) where
@@ -121,7 +118,7 @@ module _ (s : List ℕ) (end : ℕ) (long : length s ≤ end) where
   unfolding idAt
   id-stays at b =
       stays-then (exactly 16 5 s at) _ (exactly-stays 16 5 at (lit< tt) b) λ _ next c.
-      stays-choose (leb (next + 16) (length s)) _ _ (λ t. let h = leb-true (next + 16) (length s) t in omega arith) (one, b)
+      stays-choose (leb (next + 16) (length s)) _ _ (λ t. let h = leb-true (next + 16) (length s) t in omega arith) (lit< tt, b)
 
   fields-stay : (at : ℕ) → at ≤ end → Stays end (headerFrom s at)
   unfolding headerFrom
@@ -174,7 +171,7 @@ module _ (s : List ℕ) (end : ℕ) (long : length s ≤ end) where
   unfolding valuesAt
   values-stays attributes length-at size b =
       stays-choose (eqb size 0xffffffff) _ _ (λ _. stays-fields document tt attributes (length-at + 4) b)
-      (stays-choose (leb to (length s)) _ _ (λ t. filled-stays (leb-true to (length s) t)) (one, before))
+      (stays-choose (leb to (length s)) _ _ (λ t. filled-stays (leb-true to (length s) t)) (lit< tt, before))
     where
       to : ℕ
       to = length-at + 4 + size
@@ -217,7 +214,7 @@ module _ (s : List ℕ) (end : ℕ) (long : length s ≤ end) where
 
   elements-stay : (k at rows : ℕ) (book : Book) → at ≤ end → Stays end (elementsFrom k s at rows book)
   unfolding elementsFrom
-  elements-stay zero at rows book b = (one, b)
+  elements-stay zero at rows book b = (lit< tt, b)
   elements-stay (suc k) at rows book b =
       stays-then (elementAt s at rows book) _ (element-stays at rows book b) λ st next c.
       stays-choose (isLast (st .element)) _ _ (λ _. c)
