@@ -1,14 +1,18 @@
 // Questions: the fields of a row, the parts of a layout, the strings of a header. Each takes every input, hands back parts and no copies, and changes nothing.
 
 ghost use mathlib.Core.Path.{_≡_};
+ghost use Prim.Native.Nat.{ℕ, _+_, _≤_};
+ghost use lib.ListN.{length};
 ghost use Rattle.octets.specs.Reading.{ends};
 ghost use Rattle.octets.specs.Answers.{says};
 ghost use Rattle.headers.specs.Header.{headerAt};
-ghost use Rattle.questions.specs.Questions.{bookAsked, fieldAsked, layoutAsked, attributeAsked, namespaceAsked, serviceAsked, partOf};
+ghost use Rattle.elements.specs.Steps.{lentBook};
+ghost use Rattle.questions.specs.Questions.{kindAsked, bookAsked, fieldAsked, layoutAsked, attributeAsked, namespaceAsked, serviceAsked, partOf};
 ghost use Rattle.questions.specs.Answers.{refusalOf, octetsOf, fieldTells, kindTells};
 use headers::Placing;
 use kinds::Basic;
 use kinds::Kind;
+use layouts::Judged;
 use layouts::Looked;
 use octets::Ended;
 use rows::Rowed;
@@ -49,6 +53,177 @@ pub enum Typing {
     Refused(u32, usize),
 }
 
+// What stands before every question about an element: 2, then 17.
+fn lent_refusal<'d, 'b>(doc: &'d [u8], rows: usize, book: &'b [u8], used: usize) -> Refusal
+    ensures { λ r. ⌜ r ≡ refusalOf (lentBook (now (doc .entry)) rows (now (book .entry)) used) ⌝ }
+{
+    if 1048576 < doc.len() {
+        return Refusal::Is(2, 0);
+    }
+    if !layouts::is_book(book, used) {
+        return Refusal::Is(17, 0);
+    }
+    if 1048576 < rows {
+        return Refusal::Is(17, 0);
+    }
+    Refusal::None
+}
+
+// The place behind a kind, which is the one asked about.
+fn kind_asked(doc: &[u8], at: usize, wanted: u32) -> Ended
+    requires { ⌜ length (now doc) ≤ 1048576 ⌝ }
+    ensures { λ r. ⌜ says r ≡ ends (kindAsked wanted (now (doc .entry)) at) ⌝ }
+{
+    if doc.len() < at {
+        return Ended::Refused(1, at);
+    }
+    if doc.len() < at + 4 {
+        return Ended::Refused(1, at);
+    }
+    let kind = octets::u32_at(doc, at);
+    if kind == wanted {
+        return Ended::End(at + 4);
+    }
+    if kind < 1 {
+        return Ended::Refused(7, at);
+    }
+    if 3 < kind {
+        return Ended::Refused(7, at);
+    }
+    Ended::Refused(19, at)
+}
+
+// The place behind the kind of an element that is asked about.
+fn book_asked<'d, 'b>(
+    doc: &'d [u8],
+    at: usize,
+    rows: usize,
+    book: &'b [u8],
+    used: usize,
+    wanted: u32,
+) -> Ended
+    ensures { λ r. ⌜ says r ≡ ends (bookAsked wanted (now (doc .entry)) at rows (now (book .entry)) used) ⌝ }
+{
+    let lent = lent_refusal(doc, rows, book, used);
+    match lent {
+        Refusal::Is(n, p) => Ended::Refused(n, p),
+        Refusal::None => kind_asked(doc, at, wanted),
+    }
+}
+
+// A row over the used octets of a book: the place of its layout there, how many fields it has, and where its values begin and end.
+enum Lined {
+    At(usize, u32, usize, usize),
+    Refused(u32, usize),
+}
+
+// The row whose layout's number stands at a place.
+fn row_here<'d, 'b>(doc: &'d [u8], at: usize, book: &'b [u8]) -> Lined {
+    if doc.len() < at + 4 {
+        return Lined::Refused(1, at);
+    }
+    let looked = layouts::look_in(book, octets::u32_at(doc, at));
+    match looked {
+        Looked::Missing(k) => Lined::Refused(12, at),
+        Looked::There(place) => {
+            let row = rows::row_end(doc, at, book, place);
+            match row {
+                Rowed::Refused(n, p) => Lined::Refused(n, p),
+                Rowed::Row(stated, count, end) => Lined::At(place, count, at + 8, end),
+            }
+        }
+    }
+}
+
+// The row at a place.
+fn row_at<'d, 'b>(doc: &'d [u8], at: usize, rows: usize, book: &'b [u8], used: usize) -> Lined {
+    let asked = book_asked(doc, at, rows, book, used, 2);
+    match asked {
+        Ended::Refused(n, p) => Lined::Refused(n, p),
+        Ended::End(next) => row_here(doc, next, &book[..used]),
+    }
+}
+
+// Where a field stands: its attribute in the used octets of the book, its value in the document.
+enum Spot {
+    At(usize, usize),
+    Refused(u32, usize),
+}
+
+// Field n of a row that has more: the walk over the values before it ends at its own.
+fn field_here<'d, 'b>(
+    doc: &'d [u8],
+    first: usize,
+    end: usize,
+    book: &'b [u8],
+    place: usize,
+    n: u32,
+) -> Spot {
+    let attributes = layouts::attributes_at(book, place) + 4;
+    let values = rows::fields_end(doc, first, end, book, attributes, n);
+    match values {
+        Valued::To(value) => Spot::At(layouts::attribute_place(book, place, n), value),
+        Valued::Over(p) => Spot::Refused(13, p),
+        Valued::Bad(p) => Spot::Refused(14, p),
+    }
+}
+
+// Field n of the row at a place.
+fn field_at<'d, 'b>(
+    doc: &'d [u8],
+    at: usize,
+    rows: usize,
+    book: &'b [u8],
+    used: usize,
+    n: usize,
+) -> Spot {
+    let row = row_at(doc, at, rows, book, used);
+    match row {
+        Lined::Refused(m, p) => Spot::Refused(m, p),
+        Lined::At(place, count, first, end) => {
+            if (count as usize) <= n {
+                return Spot::Refused(18, at);
+            }
+            field_here(doc, first, end, &book[..used], place, n as u32)
+        }
+    }
+}
+
+// The value of a basic type that stands at a place.
+fn value_at(doc: &[u8], at: usize, basic: Basic) -> Value {
+    match basic {
+        Basic::Int => Value::Int(kinds::signed32(octets::u32_at(doc, at))),
+        Basic::UnsignedInt => Value::UnsignedInt(octets::u32_at(doc, at)),
+        Basic::Long => Value::Long(kinds::signed64(octets::u64_at(doc, at))),
+        Basic::UnsignedLong => Value::UnsignedLong(octets::u64_at(doc, at)),
+        Basic::Float => Value::Float(octets::u32_at(doc, at)),
+        Basic::Double => Value::Double(octets::u64_at(doc, at)),
+        Basic::HexBinary => Value::HexBinary,
+        Basic::String => Value::String,
+        Basic::Boolean => Value::Boolean(octets::u8_at(doc, at) == 1),
+        Basic::Byte => Value::Byte(kinds::signed8(octets::u8_at(doc, at))),
+        Basic::UnsignedByte => Value::UnsignedByte(octets::u8_at(doc, at)),
+        Basic::Short => Value::Short(kinds::signed16(octets::u16_at(doc, at))),
+        Basic::UnsignedShort => Value::UnsignedShort(octets::u16_at(doc, at)),
+    }
+}
+
+// Whether values of a basic type are octets behind a length.
+fn is_held(basic: Basic) -> bool {
+    match basic {
+        Basic::HexBinary => true,
+        Basic::String => true,
+        _ => false,
+    }
+}
+
+// The octets behind a length.
+fn octets_part<'d>(doc: &'d [u8], at: usize) -> &'d [u8] {
+    let start = at + 4;
+    let stop = start + (octets::u32_at(doc, at) as usize);
+    return &doc[start..stop];
+}
+
 // Whether field n of the row at a place is refused: 2, 17, the kind's 1 and 7, 19, the rest of the step's refusals, 18 at the row.
 pub fn row_refusal<'d, 'b>(
     doc: &'d [u8],
@@ -60,7 +235,11 @@ pub fn row_refusal<'d, 'b>(
 ) -> Refusal
     ensures { λ r. ⌜ r ≡ refusalOf (fieldAsked (now (doc .entry)) at rows (now (book .entry)) used n) ⌝ }
 {
-    Refusal::None
+    let spot = field_at(doc, at, rows, book, used, n);
+    match spot {
+        Spot::At(attribute, value) => Refusal::None,
+        Spot::Refused(m, p) => Refusal::Is(m, p),
+    }
 }
 
 // The type and the value of field n of the row at a place.
@@ -74,7 +253,15 @@ pub fn field<'d, 'b>(
 ) -> Fielded
     ensures { λ r. ⌜ r ≡ fieldTells (fieldAsked (now (doc .entry)) at rows (now (book .entry)) used n) ⌝ }
 {
-    Fielded::Refused(0, 0)
+    let spot = field_at(doc, at, rows, book, used, n);
+    match spot {
+        Spot::Refused(m, p) => Fielded::Refused(m, p),
+        Spot::At(attribute, value) => {
+            let kind = layouts::kind_here(&book[..used], attribute);
+            let basic = kind.basic;
+            Fielded::Is(kind, value_at(doc, value, basic))
+        }
+    }
 }
 
 // The name of field n of the row at a place, a part of the book; empty where there is a refusal.
@@ -88,7 +275,11 @@ pub fn field_name<'d, 'b>(
 ) -> &'b [u8]
     ensures { λ r. ⌜ now r ≡ partOf (λ f. f .attribute .name) (fieldAsked (now (doc .entry)) at rows (now (book .entry)) used n) ⌝ }
 {
-    return &book[..0];
+    let spot = field_at(doc, at, rows, book, used, n);
+    let Spot::At(attribute, value) = spot else {
+        return &book[..0];
+    };
+    layouts::name_part(&book[..used], attribute)
 }
 
 // The octets of field n of the row at a place, a part of the document; empty where there is a refusal, and where the value is a number.
@@ -102,7 +293,65 @@ pub fn field_octets<'d, 'b>(
 ) -> &'d [u8]
     ensures { λ r. ⌜ now r ≡ partOf (λ f. octetsOf (f .value)) (fieldAsked (now (doc .entry)) at rows (now (book .entry)) used n) ⌝ }
 {
+    let spot = field_at(doc, at, rows, book, used, n);
+    let Spot::At(attribute, value) = spot else {
+        return &doc[..0];
+    };
+    let kind = layouts::kind_here(&book[..used], attribute);
+    let basic = kind.basic;
+    if is_held(basic) {
+        return octets_part(doc, value);
+    }
     return &doc[..0];
+}
+
+// The place behind the layout whose number stands at a place, judged by the used octets of a book.
+fn layout_here<'d, 'b>(doc: &'d [u8], at: usize, book: &'b [u8]) -> Ended {
+    let end = layouts::layout_end(doc, at);
+    match end {
+        Ended::Refused(n, p) => Ended::Refused(n, p),
+        Ended::End(next) => {
+            let judged = layouts::judge(doc, at, next, book);
+            match judged {
+                Judged::Bad(n) => Ended::Refused(n, at),
+                Judged::Same => Ended::End(next),
+                Judged::Fresh(place) => Ended::End(next),
+            }
+        }
+    }
+}
+
+// The place behind the layout at a place, which the book knows or has room for.
+fn layout_at<'d, 'b>(doc: &'d [u8], at: usize, rows: usize, book: &'b [u8], used: usize) -> Ended
+    ensures { λ r. ⌜ says r ≡ ends (layoutAsked (now (doc .entry)) at rows (now (book .entry)) used) ⌝ }
+{
+    let asked = book_asked(doc, at, rows, book, used, 1);
+    match asked {
+        Ended::Refused(n, p) => Ended::Refused(n, p),
+        Ended::End(next) => layout_here(doc, next, &book[..used]),
+    }
+}
+
+// Attribute n of the layout at a place: its own place in the document.
+fn attribute_at<'d, 'b>(
+    doc: &'d [u8],
+    at: usize,
+    rows: usize,
+    book: &'b [u8],
+    used: usize,
+    n: usize,
+) -> Ended {
+    let layout = layout_at(doc, at, rows, book, used);
+    match layout {
+        Ended::Refused(m, p) => Ended::Refused(m, p),
+        Ended::End(next) => {
+            let count = layouts::attribute_count(doc, at + 4);
+            if (count as usize) <= n {
+                return Ended::Refused(18, at);
+            }
+            Ended::End(layouts::attribute_place(doc, at + 4, n as u32))
+        }
+    }
 }
 
 // Whether the layout at a place is refused: 2, 17, the kind's 1 and 7, 19, the rest of the step's refusals, 10 and 11 last.
@@ -115,7 +364,11 @@ pub fn layout_refusal<'d, 'b>(
 ) -> Refusal
     ensures { λ r. ⌜ r ≡ refusalOf (layoutAsked (now (doc .entry)) at rows (now (book .entry)) used) ⌝ }
 {
-    Refusal::None
+    let layout = layout_at(doc, at, rows, book, used);
+    match layout {
+        Ended::End(next) => Refusal::None,
+        Ended::Refused(n, p) => Refusal::Is(n, p),
+    }
 }
 
 // Whether attribute n of the layout at a place is refused: as the layout, then 18 at the layout.
@@ -129,7 +382,11 @@ pub fn attribute_refusal<'d, 'b>(
 ) -> Refusal
     ensures { λ r. ⌜ r ≡ refusalOf (attributeAsked (now (doc .entry)) at rows (now (book .entry)) used n) ⌝ }
 {
-    Refusal::None
+    let attribute = attribute_at(doc, at, rows, book, used, n);
+    match attribute {
+        Ended::End(place) => Refusal::None,
+        Ended::Refused(m, p) => Refusal::Is(m, p),
+    }
 }
 
 // The type name of the layout at a place, a part of the document; empty where there is a refusal.
@@ -142,7 +399,11 @@ pub fn type_name<'d, 'b>(
 ) -> &'d [u8]
     ensures { λ r. ⌜ now r ≡ partOf (λ l. l .type-name) (layoutAsked (now (doc .entry)) at rows (now (book .entry)) used) ⌝ }
 {
-    return &doc[..0];
+    let layout = layout_at(doc, at, rows, book, used);
+    let Ended::End(next) = layout else {
+        return &doc[..0];
+    };
+    layouts::type_name(doc, at + 4)
 }
 
 // The name of attribute n of the layout at a place, a part of the document; empty where there is a refusal.
@@ -156,7 +417,11 @@ pub fn attribute_name<'d, 'b>(
 ) -> &'d [u8]
     ensures { λ r. ⌜ now r ≡ partOf (λ a. a .name) (attributeAsked (now (doc .entry)) at rows (now (book .entry)) used n) ⌝ }
 {
-    return &doc[..0];
+    let attribute = attribute_at(doc, at, rows, book, used, n);
+    let Ended::End(place) = attribute else {
+        return &doc[..0];
+    };
+    layouts::name_part(doc, place)
 }
 
 // The type of attribute n of the layout at a place.
@@ -170,68 +435,146 @@ pub fn attribute_kind<'d, 'b>(
 ) -> Typing
     ensures { λ r. ⌜ r ≡ kindTells (attributeAsked (now (doc .entry)) at rows (now (book .entry)) used n) ⌝ }
 {
-    Typing::Refused(0, 0)
+    let attribute = attribute_at(doc, at, rows, book, used, n);
+    match attribute {
+        Ended::Refused(m, p) => Typing::Refused(m, p),
+        Ended::End(place) => Typing::Is(layouts::kind_here(doc, place)),
+    }
+}
+
+// The place of item n of a list of so many strings for each item, whose count stands at a place; 18 at the count where there is none.
+fn listed_at(doc: &[u8], at: usize, n: usize, each: u32) -> Ended {
+    let count = octets::u32_at(doc, at);
+    if (count as usize) <= n {
+        return Ended::Refused(18, at);
+    }
+    headers::texts_end(doc, at + 4, (n as u32) * each)
+}
+
+// The places of the header's fields.
+fn header_at(doc: &[u8]) -> Placing {
+    if 1048576 < doc.len() {
+        return Placing::Refused(2, 0);
+    }
+    headers::header_places(doc)
+}
+
+// The place of namespace n.
+fn namespace_at(doc: &[u8], n: usize) -> Ended {
+    let placing = header_at(doc);
+    match placing {
+        Placing::Refused(m, p) => Ended::Refused(m, p),
+        Placing::At(places) => listed_at(doc, places.namespaces, n, 2),
+    }
+}
+
+// The place of service definition n.
+fn service_at(doc: &[u8], n: usize) -> Ended {
+    let placing = header_at(doc);
+    match placing {
+        Placing::Refused(m, p) => Ended::Refused(m, p),
+        Placing::At(places) => listed_at(doc, places.services, n, 1),
+    }
 }
 
 // Whether the header is refused.
 pub fn header_refusal(doc: &[u8]) -> Refusal
     ensures { λ r. ⌜ r ≡ refusalOf (headerAt (now (doc .entry))) ⌝ }
 {
-    Refusal::None
+    let placing = header_at(doc);
+    match placing {
+        Placing::At(places) => Refusal::None,
+        Placing::Refused(n, p) => Refusal::Is(n, p),
+    }
 }
 
 // Whether namespace n is refused: as the header, then 18 at the count of other namespaces.
 pub fn namespace_refusal(doc: &[u8], n: usize) -> Refusal
     ensures { λ r. ⌜ r ≡ refusalOf (namespaceAsked (now (doc .entry)) n) ⌝ }
 {
-    Refusal::None
+    let listed = namespace_at(doc, n);
+    match listed {
+        Ended::End(place) => Refusal::None,
+        Ended::Refused(m, p) => Refusal::Is(m, p),
+    }
 }
 
 // Whether service definition n is refused: as the header, then 18 at the count of service definitions.
 pub fn service_refusal(doc: &[u8], n: usize) -> Refusal
     ensures { λ r. ⌜ r ≡ refusalOf (serviceAsked (now (doc .entry)) n) ⌝ }
 {
-    Refusal::None
+    let listed = service_at(doc, n);
+    match listed {
+        Ended::End(place) => Refusal::None,
+        Ended::Refused(m, p) => Refusal::Is(m, p),
+    }
 }
 
 // The recorder, a part of the document; empty where there is a refusal, as are the strings that follow.
 pub fn recorder<'d>(doc: &'d [u8]) -> &'d [u8]
     ensures { λ r. ⌜ now r ≡ partOf (λ h. h .recorder) (headerAt (now (doc .entry))) ⌝ }
 {
-    return &doc[..0];
+    let placing = header_at(doc);
+    let Placing::At(places) = placing else {
+        return &doc[..0];
+    };
+    layouts::name_part(doc, 4)
 }
 
 // The default namespace.
 pub fn default_namespace<'d>(doc: &'d [u8]) -> &'d [u8]
     ensures { λ r. ⌜ now r ≡ partOf (λ h. h .default) (headerAt (now (doc .entry))) ⌝ }
 {
-    return &doc[..0];
+    let placing = header_at(doc);
+    let Placing::At(places) = placing else {
+        return &doc[..0];
+    };
+    let start = places.start;
+    layouts::name_part(doc, start + 8)
 }
 
 // The URI of namespace n.
 pub fn namespace_uri<'d>(doc: &'d [u8], n: usize) -> &'d [u8]
     ensures { λ r. ⌜ now r ≡ partOf (λ x. x .uri) (namespaceAsked (now (doc .entry)) n) ⌝ }
 {
-    return &doc[..0];
+    let listed = namespace_at(doc, n);
+    let Ended::End(place) = listed else {
+        return &doc[..0];
+    };
+    layouts::name_part(doc, place)
 }
 
 // The short name of namespace n.
 pub fn namespace_short<'d>(doc: &'d [u8], n: usize) -> &'d [u8]
     ensures { λ r. ⌜ now r ≡ partOf (λ x. x .short) (namespaceAsked (now (doc .entry)) n) ⌝ }
 {
-    return &doc[..0];
+    let listed = namespace_at(doc, n);
+    let Ended::End(place) = listed else {
+        return &doc[..0];
+    };
+    layouts::name_part(doc, layouts::name_end(doc, place))
 }
 
 // Service definition n.
 pub fn service<'d>(doc: &'d [u8], n: usize) -> &'d [u8]
     ensures { λ r. ⌜ now r ≡ partOf (λ x. x) (serviceAsked (now (doc .entry)) n) ⌝ }
 {
-    return &doc[..0];
+    let listed = service_at(doc, n);
+    let Ended::End(place) = listed else {
+        return &doc[..0];
+    };
+    layouts::name_part(doc, place)
 }
 
 // The document id: the sixteen octets behind their length.
 pub fn document_id<'d>(doc: &'d [u8]) -> &'d [u8]
     ensures { λ r. ⌜ now r ≡ partOf (λ h. h .id) (headerAt (now (doc .entry))) ⌝ }
 {
-    return &doc[..0];
+    let placing = header_at(doc);
+    let Placing::At(places) = placing else {
+        return &doc[..0];
+    };
+    let start = places.id + 4;
+    let stop = start + 16;
+    return &doc[start..stop];
 }
