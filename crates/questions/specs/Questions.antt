@@ -1,14 +1,12 @@
--- The questions: what of a step or of a header is asked for, with the refusals that come before the answer.
-use Prim.Native.Nat.{ℕ, _+_}
+-- The questions about an element: what of a step is asked for, with the refusals that come before the answer.
+use Prim.Native.Nat.{ℕ}
 use mathlib.Core.List.{List, [], _∷_}
 use mathlib.Core.Bool.{_&&_}
-use lib.ListN.{length, drop}
+use lib.ListN.{drop}
 use lib.Dec.{eqb, leb}
 use Rattle.octets.specs.Reading.{Read, ok, no, _then_, choose, number}
-use Rattle.octets.specs.Writing.{textImage, images}
 use Rattle.layouts.specs.Layout.{Attribute, Layout}
 use Rattle.layouts.specs.Book.{Book}
-use Rattle.headers.specs.Header.{Namespace, Header, headerAt, namespaceImage}
 use Rattle.rows.specs.Row.{Field, Row}
 use Rattle.elements.specs.Element.{Element, item, layout, row, finish, elementAt}
 use Rattle.elements.specs.Steps.{lentBook}
@@ -59,20 +57,6 @@ layoutAsked s at rows octets used =
 -- Attribute n of it, from the document; 18 at the layout.
 unfoldable pub attributeAsked : List ℕ → ℕ → ℕ → List ℕ → ℕ → ℕ → Read Attribute
 attributeAsked s at rows octets used n = layoutAsked s at rows octets used then λ l next. nth n at (l .attributes) next
-
--- Where the counts of a header's two lists stand: other namespaces behind the version, the recorder, the start time and the default namespace; service definitions behind those.
-unfoldable pub namespacesPlace : Header → ℕ
-namespacesPlace h = 4 + length (textImage (h .recorder)) + 8 + length (textImage (h .default))
-
-unfoldable pub servicesPlace : Header → ℕ
-servicesPlace h = namespacesPlace h + 4 + length (images namespaceImage (h .others))
-
--- Namespace n, whose URI and short name are asked, and service definition n; 18 at the list's count.
-unfoldable pub namespaceAsked : List ℕ → ℕ → Read Namespace
-namespaceAsked s n = headerAt s then λ h next. nth n (namespacesPlace h) (h .others) next
-
-unfoldable pub serviceAsked : List ℕ → ℕ → Read (List ℕ)
-serviceAsked s n = headerAt s then λ h next. nth n (servicesPlace h) (h .services) next
 
 -- A part handed back of what was asked for; where there is a refusal it is empty.
 abbrev pub partOf : {A : Type 0} → (A → List ℕ) → Read A → List ℕ

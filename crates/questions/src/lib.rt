@@ -1,15 +1,20 @@
-// Questions: the fields of a row, the parts of a layout, the strings of a header. Each takes every input, hands back parts and no copies, and changes nothing.
+// Questions about a row or a layout at a place: its fields, its names and types. Each takes every input, hands back parts and no copies, and changes nothing.
 
 ghost use mathlib.Core.Path.{_≡_};
-ghost use Prim.Native.Nat.{ℕ, _+_, _≤_};
-ghost use lib.ListN.{length};
-ghost use Rattle.octets.specs.Reading.{ends};
+ghost use mathlib.Core.List.{List};
+ghost use Prim.Native.Nat.{ℕ, _≤_};
+ghost use lib.ListN.{length, take};
+ghost use Rattle.octets.specs.Reading.{ok, ends, stated};
 ghost use Rattle.octets.specs.Answers.{says};
-ghost use Rattle.headers.specs.Header.{headerAt};
+ghost use Rattle.kinds.specs.Kinds.{formOf};
+ghost use Rattle.layouts.specs.Layout.{Layout, attributeAt, layoutAt};
+ghost use Rattle.layouts.specs.Book.{Book};
+ghost use Rattle.layouts.specs.Answers.{Image, Holds, Has};
+ghost use Rattle.rows.specs.Row.{Field, fieldsIn, rowAt};
 ghost use Rattle.elements.specs.Steps.{lentBook};
-ghost use Rattle.questions.specs.Questions.{kindAsked, bookAsked, fieldAsked, layoutAsked, attributeAsked, namespaceAsked, serviceAsked, partOf};
-ghost use Rattle.questions.specs.Answers.{refusalOf, octetsOf, fieldTells, kindTells};
-use headers::Placing;
+ghost use Rattle.questions.specs.Questions.{kindAsked, bookAsked, rowAsked, fieldAsked, layoutAsked, attributeAsked, partOf};
+ghost use Rattle.questions.specs.Answers.{refusalOf, octetsOf, valueOf, fieldTells, kindTells};
+ghost use Rattle.questions.specs.Places.{Lines, NthField, Stood, Spots, isHeld, layoutOver, Stands};
 use kinds::Basic;
 use kinds::Kind;
 use layouts::Judged;
@@ -118,7 +123,10 @@ enum Lined {
 }
 
 // The row whose layout's number stands at a place.
-fn row_here<'d, 'b>(doc: &'d [u8], at: usize, book: &'b [u8]) -> Lined {
+fn row_here<'d, 'b>(doc: &'d [u8], at: usize, book: &'b [u8]) -> Lined
+    requires { ⌜ (at ≤ length (now doc)) × (length (now doc) ≤ 1048576) × (length (now book) ≤ 32768) × Holds (now book) ⌝ }
+    ensures { λ r. ⌜ ((b : Book) → Image (now (book .entry)) b → Lines (now (doc .entry)) (now (book .entry)) (rowAt b (now (doc .entry)) at) r) ⌝ }
+{
     if doc.len() < at + 4 {
         return Lined::Refused(1, at);
     }
@@ -136,7 +144,9 @@ fn row_here<'d, 'b>(doc: &'d [u8], at: usize, book: &'b [u8]) -> Lined {
 }
 
 // The row at a place.
-fn row_at<'d, 'b>(doc: &'d [u8], at: usize, rows: usize, book: &'b [u8], used: usize) -> Lined {
+fn row_at<'d, 'b>(doc: &'d [u8], at: usize, rows: usize, book: &'b [u8], used: usize) -> Lined
+    ensures { λ r. ⌜ Lines (now (doc .entry)) (take used (now (book .entry))) (rowAsked (now (doc .entry)) at rows (now (book .entry)) used) r ⌝ }
+{
     let asked = book_asked(doc, at, rows, book, used, 2);
     match asked {
         Ended::Refused(n, p) => Lined::Refused(n, p),
@@ -150,21 +160,24 @@ enum Spot {
     Refused(u32, usize),
 }
 
-// Field n of a row that has more: the walk over the values before it ends at its own.
-fn field_here<'d, 'b>(
+// The place of value n of a row that is accepted: where the walk over the values before it ends.
+fn value_place<'d, 'b>(
     doc: &'d [u8],
     first: usize,
     end: usize,
     book: &'b [u8],
     place: usize,
     n: u32,
-) -> Spot {
+) -> usize
+    requires { ⌜ (first ≤ end) × (end ≤ length (now doc)) × (length (now doc) ≤ 1048576) × (length (now book) ≤ 1048576) × Has (now book) place n ⌝ }
+    ensures { λ r. ⌜ ((l : Layout) (last : ℕ) (fields : List Field) → layoutAt (now (book .entry)) place ≡ ok l last → fieldsIn (stated end 0) (l .attributes) (now (doc .entry)) first ≡ ok fields end → NthField (now (doc .entry)) end (l .attributes) fields n r) ⌝ }
+{
     let attributes = layouts::attributes_at(book, place) + 4;
     let values = rows::fields_end(doc, first, end, book, attributes, n);
     match values {
-        Valued::To(value) => Spot::At(layouts::attribute_place(book, place, n), value),
-        Valued::Over(p) => Spot::Refused(13, p),
-        Valued::Bad(p) => Spot::Refused(14, p),
+        Valued::To(p) => p,
+        Valued::Over(p) => p,
+        Valued::Bad(p) => p,
     }
 }
 
@@ -176,7 +189,9 @@ fn field_at<'d, 'b>(
     book: &'b [u8],
     used: usize,
     n: usize,
-) -> Spot {
+) -> Spot
+    ensures { λ r. ⌜ Spots (now (doc .entry)) (take used (now (book .entry))) (fieldAsked (now (doc .entry)) at rows (now (book .entry)) used n) r ⌝ }
+{
     let row = row_at(doc, at, rows, book, used);
     match row {
         Lined::Refused(m, p) => Spot::Refused(m, p),
@@ -184,13 +199,19 @@ fn field_at<'d, 'b>(
             if (count as usize) <= n {
                 return Spot::Refused(18, at);
             }
-            field_here(doc, first, end, &book[..used], place, n as u32)
+            let spot = n as u32;
+            let attribute = layouts::attribute_place(&book[..used], place, spot);
+            let value = value_place(doc, first, end, &book[..used], place, spot);
+            Spot::At(attribute, value)
         }
     }
 }
 
 // The value of a basic type that stands at a place.
-fn value_at(doc: &[u8], at: usize, basic: Basic) -> Value {
+fn value_at(doc: &[u8], at: usize, basic: Basic) -> Value
+    requires { ⌜ Stood (now doc) basic at ⌝ }
+    ensures { λ r. ⌜ ((v : Stood (now (doc .entry)) basic at) → r ≡ valueOf basic (v .value)) ⌝ }
+{
     match basic {
         Basic::Int => Value::Int(kinds::signed32(octets::u32_at(doc, at))),
         Basic::UnsignedInt => Value::UnsignedInt(octets::u32_at(doc, at)),
@@ -209,19 +230,14 @@ fn value_at(doc: &[u8], at: usize, basic: Basic) -> Value {
 }
 
 // Whether values of a basic type are octets behind a length.
-fn is_held(basic: Basic) -> bool {
+fn is_held(basic: Basic) -> bool
+    ensures { λ r. ⌜ r ≡ isHeld (formOf basic) ⌝ }
+{
     match basic {
         Basic::HexBinary => true,
         Basic::String => true,
         _ => false,
     }
-}
-
-// The octets behind a length.
-fn octets_part<'d>(doc: &'d [u8], at: usize) -> &'d [u8] {
-    let start = at + 4;
-    let stop = start + (octets::u32_at(doc, at) as usize);
-    return &doc[start..stop];
 }
 
 // Whether field n of the row at a place is refused: 2, 17, the kind's 1 and 7, 19, the rest of the step's refusals, 18 at the row.
@@ -300,13 +316,16 @@ pub fn field_octets<'d, 'b>(
     let kind = layouts::kind_here(&book[..used], attribute);
     let basic = kind.basic;
     if is_held(basic) {
-        return octets_part(doc, value);
+        return layouts::name_part(doc, value);
     }
     return &doc[..0];
 }
 
 // The place behind the layout whose number stands at a place, judged by the used octets of a book.
-fn layout_here<'d, 'b>(doc: &'d [u8], at: usize, book: &'b [u8]) -> Ended {
+fn layout_here<'d, 'b>(doc: &'d [u8], at: usize, book: &'b [u8]) -> Ended
+    requires { ⌜ (at ≤ length (now doc)) × (length (now doc) ≤ 1048576) × (length (now book) ≤ 32768) × Holds (now book) ⌝ }
+    ensures { λ r. ⌜ ((b : Book) → Image (now (book .entry)) b → says r ≡ ends (layoutOver b (now (doc .entry)) at)) ⌝ }
+{
     let end = layouts::layout_end(doc, at);
     match end {
         Ended::Refused(n, p) => Ended::Refused(n, p),
@@ -340,7 +359,9 @@ fn attribute_at<'d, 'b>(
     book: &'b [u8],
     used: usize,
     n: usize,
-) -> Ended {
+) -> Ended
+    ensures { λ r. ⌜ Stands (now (doc .entry)) (attributeAt (now (doc .entry))) (attributeAsked (now (doc .entry)) at rows (now (book .entry)) used n) r ⌝ }
+{
     let layout = layout_at(doc, at, rows, book, used);
     match layout {
         Ended::Refused(m, p) => Ended::Refused(m, p),
@@ -440,141 +461,4 @@ pub fn attribute_kind<'d, 'b>(
         Ended::Refused(m, p) => Typing::Refused(m, p),
         Ended::End(place) => Typing::Is(layouts::kind_here(doc, place)),
     }
-}
-
-// The place of item n of a list of so many strings for each item, whose count stands at a place; 18 at the count where there is none.
-fn listed_at(doc: &[u8], at: usize, n: usize, each: u32) -> Ended {
-    let count = octets::u32_at(doc, at);
-    if (count as usize) <= n {
-        return Ended::Refused(18, at);
-    }
-    headers::texts_end(doc, at + 4, (n as u32) * each)
-}
-
-// The places of the header's fields.
-fn header_at(doc: &[u8]) -> Placing {
-    if 1048576 < doc.len() {
-        return Placing::Refused(2, 0);
-    }
-    headers::header_places(doc)
-}
-
-// The place of namespace n.
-fn namespace_at(doc: &[u8], n: usize) -> Ended {
-    let placing = header_at(doc);
-    match placing {
-        Placing::Refused(m, p) => Ended::Refused(m, p),
-        Placing::At(places) => listed_at(doc, places.namespaces, n, 2),
-    }
-}
-
-// The place of service definition n.
-fn service_at(doc: &[u8], n: usize) -> Ended {
-    let placing = header_at(doc);
-    match placing {
-        Placing::Refused(m, p) => Ended::Refused(m, p),
-        Placing::At(places) => listed_at(doc, places.services, n, 1),
-    }
-}
-
-// Whether the header is refused.
-pub fn header_refusal(doc: &[u8]) -> Refusal
-    ensures { λ r. ⌜ r ≡ refusalOf (headerAt (now (doc .entry))) ⌝ }
-{
-    let placing = header_at(doc);
-    match placing {
-        Placing::At(places) => Refusal::None,
-        Placing::Refused(n, p) => Refusal::Is(n, p),
-    }
-}
-
-// Whether namespace n is refused: as the header, then 18 at the count of other namespaces.
-pub fn namespace_refusal(doc: &[u8], n: usize) -> Refusal
-    ensures { λ r. ⌜ r ≡ refusalOf (namespaceAsked (now (doc .entry)) n) ⌝ }
-{
-    let listed = namespace_at(doc, n);
-    match listed {
-        Ended::End(place) => Refusal::None,
-        Ended::Refused(m, p) => Refusal::Is(m, p),
-    }
-}
-
-// Whether service definition n is refused: as the header, then 18 at the count of service definitions.
-pub fn service_refusal(doc: &[u8], n: usize) -> Refusal
-    ensures { λ r. ⌜ r ≡ refusalOf (serviceAsked (now (doc .entry)) n) ⌝ }
-{
-    let listed = service_at(doc, n);
-    match listed {
-        Ended::End(place) => Refusal::None,
-        Ended::Refused(m, p) => Refusal::Is(m, p),
-    }
-}
-
-// The recorder, a part of the document; empty where there is a refusal, as are the strings that follow.
-pub fn recorder<'d>(doc: &'d [u8]) -> &'d [u8]
-    ensures { λ r. ⌜ now r ≡ partOf (λ h. h .recorder) (headerAt (now (doc .entry))) ⌝ }
-{
-    let placing = header_at(doc);
-    let Placing::At(places) = placing else {
-        return &doc[..0];
-    };
-    layouts::name_part(doc, 4)
-}
-
-// The default namespace.
-pub fn default_namespace<'d>(doc: &'d [u8]) -> &'d [u8]
-    ensures { λ r. ⌜ now r ≡ partOf (λ h. h .default) (headerAt (now (doc .entry))) ⌝ }
-{
-    let placing = header_at(doc);
-    let Placing::At(places) = placing else {
-        return &doc[..0];
-    };
-    let start = places.start;
-    layouts::name_part(doc, start + 8)
-}
-
-// The URI of namespace n.
-pub fn namespace_uri<'d>(doc: &'d [u8], n: usize) -> &'d [u8]
-    ensures { λ r. ⌜ now r ≡ partOf (λ x. x .uri) (namespaceAsked (now (doc .entry)) n) ⌝ }
-{
-    let listed = namespace_at(doc, n);
-    let Ended::End(place) = listed else {
-        return &doc[..0];
-    };
-    layouts::name_part(doc, place)
-}
-
-// The short name of namespace n.
-pub fn namespace_short<'d>(doc: &'d [u8], n: usize) -> &'d [u8]
-    ensures { λ r. ⌜ now r ≡ partOf (λ x. x .short) (namespaceAsked (now (doc .entry)) n) ⌝ }
-{
-    let listed = namespace_at(doc, n);
-    let Ended::End(place) = listed else {
-        return &doc[..0];
-    };
-    layouts::name_part(doc, layouts::name_end(doc, place))
-}
-
-// Service definition n.
-pub fn service<'d>(doc: &'d [u8], n: usize) -> &'d [u8]
-    ensures { λ r. ⌜ now r ≡ partOf (λ x. x) (serviceAsked (now (doc .entry)) n) ⌝ }
-{
-    let listed = service_at(doc, n);
-    let Ended::End(place) = listed else {
-        return &doc[..0];
-    };
-    layouts::name_part(doc, place)
-}
-
-// The document id: the sixteen octets behind their length.
-pub fn document_id<'d>(doc: &'d [u8]) -> &'d [u8]
-    ensures { λ r. ⌜ now r ≡ partOf (λ h. h .id) (headerAt (now (doc .entry))) ⌝ }
-{
-    let placing = header_at(doc);
-    let Placing::At(places) = placing else {
-        return &doc[..0];
-    };
-    let start = places.id + 4;
-    let stop = start + 16;
-    return &doc[start..stop];
 }
