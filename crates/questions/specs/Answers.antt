@@ -31,21 +31,24 @@ abbrev pub octetsOf : row.Value → List ℕ
 octetsOf (row.bits n) = []
 octetsOf (row.held xs) = xs
 
--- What a value of each basic type says: a number at its own width, signed by two's complement or not; float and double by their bits; a boolean is 1 or not; octets are handed back as a part.
+-- What the bits of a value of each basic type say: a number at its own width, signed by two's complement or not; float and double as bits; a boolean is 1 or not. Octets are no number: they are handed back as a part.
+abbrev pub numeral : Basic → ℕ → Value
+numeral basic.Int n = value.Int (signed 4 n)
+numeral basic.UnsignedInt n = value.UnsignedInt n
+numeral basic.Long n = value.Long (signed 8 n)
+numeral basic.UnsignedLong n = value.UnsignedLong n
+numeral basic.Float n = value.Float n
+numeral basic.Double n = value.Double n
+numeral basic.HexBinary n = value.HexBinary
+numeral basic.String n = value.String
+numeral basic.Boolean n = value.Boolean (eqb n 1)
+numeral basic.Byte n = value.Byte (signed 1 n)
+numeral basic.UnsignedByte n = value.UnsignedByte n
+numeral basic.Short n = value.Short (signed 2 n)
+numeral basic.UnsignedShort n = value.UnsignedShort n
+
 abbrev pub valueOf : Basic → row.Value → Value
-valueOf basic.Int v = value.Int (signed 4 (bitsOf v))
-valueOf basic.UnsignedInt v = value.UnsignedInt (bitsOf v)
-valueOf basic.Long v = value.Long (signed 8 (bitsOf v))
-valueOf basic.UnsignedLong v = value.UnsignedLong (bitsOf v)
-valueOf basic.Float v = value.Float (bitsOf v)
-valueOf basic.Double v = value.Double (bitsOf v)
-valueOf basic.HexBinary v = value.HexBinary
-valueOf basic.String v = value.String
-valueOf basic.Boolean v = value.Boolean (eqb (bitsOf v) 1)
-valueOf basic.Byte v = value.Byte (signed 1 (bitsOf v))
-valueOf basic.UnsignedByte v = value.UnsignedByte (bitsOf v)
-valueOf basic.Short v = value.Short (signed 2 (bitsOf v))
-valueOf basic.UnsignedShort v = value.UnsignedShort (bitsOf v)
+valueOf b v = numeral b (bitsOf v)
 
 -- A field's type and value.
 abbrev pub fieldTells : Read row.Field → Fielded

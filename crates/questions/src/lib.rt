@@ -16,6 +16,7 @@ ghost use Rattle.questions.specs.Questions.{kindAsked, bookAsked, rowAsk
 ghost use Rattle.questions.specs.Answers.{refusalOf, octetsOf, valueOf, fieldTells, kindTells};
 ghost use Rattle.questions.specs.Places.{Lines, NthField, Stood, Spots, isHeld, layoutOver, Stands};
 use kinds::Basic;
+use kinds::Form;
 use kinds::Kind;
 use layouts::Judged;
 use layouts::Looked;
@@ -233,10 +234,12 @@ fn value_at(doc: &[u8], at: usize, basic: Basic) -> Value
 fn is_held(basic: Basic) -> bool
     ensures { λ r. ⌜ r ≡ isHeld (formOf basic) ⌝ }
 {
-    match basic {
-        Basic::HexBinary => true,
-        Basic::String => true,
-        _ => false,
+    let form = kinds::form_of(basic);
+    match form {
+        Form::Fixed(w) => false,
+        Form::Truth => false,
+        Form::Octets => true,
+        Form::Text => true,
     }
 }
 
