@@ -3,7 +3,7 @@
 ghost use mathlib.Core.Path.{_≡_};
 ghost use Prim.Native.Nat.{ℕ, _+_, _≤_};
 ghost use lib.ListN.{length};
-ghost use Rattle.kinds.specs.Kinds.{codeOf, formOf, kindOf, kindAt};
+ghost use Rattle.kinds.specs.Kinds.{codeOf, formOf, signed, kindOf, kindAt};
 ghost use Rattle.kinds.specs.Answers.{kinds, kindSays, Fitting};
 
 // A basic type.
@@ -138,6 +138,50 @@ pub fn basic_of(code: u32) -> Basic
         Kind::UNSIGNED_BYTE => Basic::UnsignedByte,
         Kind::SHORT => Basic::Short,
         _ => Basic::UnsignedShort,
+    }
+}
+
+// Two's complement: the signed number that has x's bits, at one octet.
+pub fn signed8(x: u8) -> i8
+    ensures { λ r. ⌜ r ≡ signed 1 x ⌝ }
+{
+    if x < 0x80 {
+        x as i8
+    } else {
+        -1 - (0xff - x) as i8
+    }
+}
+
+// The same at two octets.
+pub fn signed16(x: u16) -> i16
+    ensures { λ r. ⌜ r ≡ signed 2 x ⌝ }
+{
+    if x < 0x8000 {
+        x as i16
+    } else {
+        -1 - (0xffff - x) as i16
+    }
+}
+
+// The same at four octets.
+pub fn signed32(x: u32) -> i32
+    ensures { λ r. ⌜ r ≡ signed 4 x ⌝ }
+{
+    if x < 0x8000_0000 {
+        x as i32
+    } else {
+        -1 - (0xffff_ffff - x) as i32
+    }
+}
+
+// The same at eight octets.
+pub fn signed64(x: u64) -> i64
+    ensures { λ r. ⌜ r ≡ signed 8 x ⌝ }
+{
+    if x < 0x8000_0000_0000_0000 {
+        x as i64
+    } else {
+        -1 - (0xffff_ffff_ffff_ffff - x) as i64
     }
 }
 

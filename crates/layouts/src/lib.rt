@@ -37,7 +37,7 @@ pub enum Learning {
 }
 
 // How a layout stands to a book: known, new with the place to put it at, or refused by number.
-enum Judged {
+pub enum Judged {
     Same,
     Fresh(usize),
     Bad(u32),
@@ -252,7 +252,7 @@ fn same_layout<'d, 'b>(doc: &'d [u8], at: usize, end: usize, s: &'b [u8], p: usi
 }
 
 // How the layout from a place of a document to its end stands to the used octets of a good book.
-fn judge<'d, 'b>(doc: &'d [u8], at: usize, end: usize, s: &'b [u8]) -> Judged
+pub fn judge<'d, 'b>(doc: &'d [u8], at: usize, end: usize, s: &'b [u8]) -> Judged
     requires { ⌜ (at ≤ end) × (end ≤ length (now doc)) × (ends (layoutAt (now doc) at) ≡ ok end end) × (length (now s) ≤ 32768) × Holds (now s) ⌝ }
     ensures { λ r. ⌜ ((book : Book) (l : Layout) → Image (now (s .entry)) book → layoutAt (now (doc .entry)) at ≡ ok l end → Judges (length (now (s .entry))) book l at r) ⌝ }
 {

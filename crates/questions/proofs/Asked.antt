@@ -1,0 +1,234 @@
+-- What stands before a question about an element, and that a question reads what the step reads: each equation is a definition at one outcome of its tests.
+use Prim.Native.Nat.{ℕ, zero, suc, _+_, _≤_, _<_}
+use mathlib.Core.Path.{_≡_, refl, sym, ap, _∙_}
+use mathlib.Core.List.{List, [], _∷_}
+use mathlib.Core.Bool.{Bool, true, false, _&&_}
+use native.Mathlib.Omega.{arith}
+use lib.ListN.{length, drop}
+use lib.Seq.{drop-nil}
+use lib.Dec.{leb, eqb}
+use borrow.Author.Tests.{le-leb, lt-leb, leb-true, eq-eqb, ne-eqb, eqb-true}
+use Rattle.octets.specs.Reading.{Read, ok, no, _then_, choose, ends, isOk, be, number}
+use Rattle.octets.specs.Writing.{Each, Octet}
+use Rattle.octets.proofs.Inverse.{after, chosen}
+use Rattle.octets.proofs.Ends.{made, stop, ended, number-ok, number-no, number-room}
+use Rattle.octets.proofs.Inverse.{ok-value, ok-place}
+use Rattle.layouts.specs.Layout.{Layout, layoutAt}
+use Rattle.layouts.specs.Book.{Book, bookOf, bookIn, IsBook, learn}
+use Rattle.layouts.proofs.Checks.{good-book, bad-book}
+use Rattle.rows.specs.Row.{Row, rowAt}
+use Rattle.elements.specs.Element.{item, layout, row, Stepped, layoutElement, rowElement, elementAt}
+use Rattle.elements.specs.Steps.{lentBook, stepAt}
+use Rattle.elements.proofs.Told.{element-layout, element-row}
+use Rattle.questions.specs.Questions.{kindAsked, bookAsked, nth, rowOf, layoutOf, rowAsked, layoutAsked, attributeAsked}
+use Rattle.questions.specs.Answers.{refusalOf}
+use Rattle.questions.specs.Places.{layoutOver}
+use Rattle.questions.specs.declared.Refusal.{Refusal}
+use Rattle.questions.specs.declared.Refusal.the-variants as refusal
+
+-- A refusal question that answers none has a value behind it; one that answers a refusal has none.
+pub unrefused : {A : Type 0} (r : Read A) → refusalOf r ≡ refusal.None → (a : A) × (next : ℕ) × (r ≡ ok a next)
+unrefused (ok a next) e = (a, next, refl)
+unrefused (no n p) e = absurd (let z : _≡_ {A = ℕ} 0 1 = cc in omega arith)
+
+pub refused-as : {A : Type 0} (r : Read A) (n p : ℕ) → refusalOf r ≡ refusal.Is n p → r ≡ no n p
+refused-as (no m q) n p e = let a : m ≡ n = cc in let b : q ≡ p = cc in cc
+refused-as (ok a next) n p e = absurd (let z : _≡_ {A = ℕ} 0 1 = cc in omega arith)
+
+-- A refusal shows in the end alone.
+pub refusal-ends : {A : Type 0} (r : Read A) (q : Read ℕ) → ends r ≡ q → refusalOf r ≡ refusalOf q
+refusal-ends (ok a next) q e = ap refusalOf e
+refusal-ends (no n p) q e = ap refusalOf e
+
+-- Item n of a list that has no more than n, or more.
+module _ {A : Type 0} where
+  past : (n : ℕ) (xs : List A) → length xs ≤ n → drop n xs ≡ []
+  past n [] h = drop-nil n
+  past zero (a ∷ xs) h = absurd (omega arith)
+  past (suc n) (a ∷ xs) h = past n xs (omega arith)
+
+  module _ (n place : ℕ) (xs : List A) (next : ℕ) where
+    pub nth-none : length xs ≤ n → nth n place xs next ≡ no 18 place
+    unfolding nth
+    nth-none h = rw (past n xs h) refl
+
+    pub nth-some : {a : A} {rest : List A} → drop n xs ≡ a ∷ rest → nth n place xs next ≡ ok a next
+    unfolding nth
+    nth-some e = rw e refl
+
+-- The document, the book and the rows passed.
+module _ (s : List ℕ) (rows : ℕ) (octets : List ℕ) (used : ℕ) where
+  pub lent-long : 1048576 < length s → lentBook s rows octets used ≡ no 2 0
+  unfolding lentBook
+  lent-long h = rw (lt-leb (length s) 1048576 h) refl
+
+  module _ (short : length s ≤ 1048576) where
+    pub lent-unbooked : isOk (bookOf octets used) ≡ false → lentBook s rows octets used ≡ no 17 0
+    unfolding lentBook
+    lent-unbooked e = rw (le-leb (length s) 1048576 short, bad-book octets used e) refl
+
+    pub lent-many : IsBook octets used → 1048576 < rows → lentBook s rows octets used ≡ no 17 0
+    unfolding lentBook
+    lent-many e h = rw (le-leb (length s) 1048576 short, e, lt-leb rows 1048576 h) refl
+
+    pub lent-is : IsBook octets used → rows ≤ 1048576 → lentBook s rows octets used ≡ ok (bookIn octets used) used
+    unfolding lentBook
+    lent-is e h = rw (le-leb (length s) 1048576 short, e, le-leb rows 1048576 h) refl
+
+  pub lent-forth : {book : Book} {end : ℕ} → Each Octet octets → lentBook s rows octets used ≡ ok book end
+      → (length s ≤ 1048576) × (rows ≤ 1048576) × IsBook octets used
+  unfolding lentBook
+  lent-forth o e =
+      let (t, e₁) = chosen (leb (length s) 1048576) _ 2 0 e in
+      after (bookOf octets used) _ e₁ λ book end e₂ e₃.
+      let (t₁, e₄) = chosen (leb rows 1048576) (λ _. ok book end) 17 0 e₃ in
+      (leb-true (length s) 1048576 t, leb-true rows 1048576 t₁, good-book octets used o (ap isOk e₂))
+
+-- The kind.
+module _ (wanted : ℕ) (s : List ℕ) (at : ℕ) where
+  pub kind-cut : length s < at + 4 → kindAsked wanted s at ≡ no 1 at
+  unfolding kindAsked
+  kind-cut h = rw (number-no s at 4 h) refl
+
+  module _ (h : at + 4 ≤ length s) where
+    pub kind-right : be 4 s at ≡ wanted → kindAsked wanted s at ≡ ok (be 4 s at) (at + 4)
+    unfolding kindAsked
+    kind-right e = rw (number-ok s at 4 h, eq-eqb (be 4 s at) wanted e) refl
+
+    module _ (other : be 4 s at ≡ wanted → ⊥) where
+      pub kind-low : be 4 s at < 1 → kindAsked wanted s at ≡ no 7 at
+      unfolding kindAsked
+      kind-low g = rw (number-ok s at 4 h, ne-eqb (be 4 s at) wanted other, lt-leb 1 (be 4 s at) g) refl
+
+      pub kind-high : 1 ≤ be 4 s at → 3 < be 4 s at → kindAsked wanted s at ≡ no 7 at
+      unfolding kindAsked
+      kind-high f g = rw (number-ok s at 4 h, ne-eqb (be 4 s at) wanted other, le-leb 1 (be 4 s at) f, lt-leb (be 4 s at) 3 g) refl
+
+      pub kind-other : 1 ≤ be 4 s at → be 4 s at ≤ 3 → kindAsked wanted s at ≡ no 19 at
+      unfolding kindAsked
+      kind-other f g = rw (number-ok s at 4 h, ne-eqb (be 4 s at) wanted other, le-leb 1 (be 4 s at) f, le-leb (be 4 s at) 3 g) refl
+
+  pub kind-forth : {k next : ℕ} → kindAsked wanted s at ≡ ok k next → (at + 4 ≤ length s) × (be 4 s at ≡ wanted) × (next ≡ at + 4)
+  unfolding kindAsked
+  kind-forth {k} {next} e =
+      after (number 4 s at) _ e λ kind mid e₁ e₂.
+      let h = number-room s at 4 (ap isOk e₁) in
+      let f = number-ok s at 4 h in
+      let (t, e₃) = wrong (eqb kind wanted) (leb 1 kind && leb kind 3) e₂ in
+      (h, ok-value f e₁ ∙ eqb-true kind wanted t, ok-place e₃ refl ∙ ok-place e₁ f)
+    where
+      wrong : {kind mid : ℕ} (a b : Bool) → choose a (λ _. ok kind mid) (λ _. choose b (λ _. no 19 at) (λ _. no 7 at)) ≡ ok k next → (a ≡ true) × (ok kind mid ≡ ok k next)
+      wrong true b e = (refl, e)
+      wrong false true e = absurd (let z : _≡_ {A = ℕ} 0 1 = cc in omega arith)
+      wrong false false e = absurd (let z : _≡_ {A = ℕ} 0 1 = cc in omega arith)
+
+-- An element of the kind asked about, over a book that is good.
+pub record Asked (wanted : ℕ) (s : List ℕ) (at rows : ℕ) (octets : List ℕ) (used next : ℕ) : Type 0 where
+  pub short : length s ≤ 1048576
+  pub few : rows ≤ 1048576
+  pub is : IsBook octets used
+  pub room : at + 4 ≤ length s
+  pub kind : be 4 s at ≡ wanted
+  pub place : next ≡ at + 4
+
+module _ (s : List ℕ) (at rows : ℕ) (octets : List ℕ) (used : ℕ) where
+  module _ (wanted : ℕ) where
+    pub asked-unlent : (n p : ℕ) → lentBook s rows octets used ≡ no n p → bookAsked wanted s at rows octets used ≡ no n p
+    unfolding bookAsked
+    asked-unlent n p e = rw e refl
+
+    pub asked-kind : (book : Book) (end : ℕ) → lentBook s rows octets used ≡ ok book end → ends (bookAsked wanted s at rows octets used) ≡ ends (kindAsked wanted s at)
+    unfolding bookAsked
+    asked-kind book end e = rw e (made (kindAsked wanted s at) (λ _. book))
+
+    pub asked-is : Each Octet octets → (next : ℕ) → ends (bookAsked wanted s at rows octets used) ≡ ok next next → Asked wanted s at rows octets used next
+    unfolding bookAsked
+    asked-is o next e =
+        let (b, f) = ended (bookAsked wanted s at rows octets used) next e in
+        after (lentBook s rows octets used) _ f λ book end e₁ e₂.
+        after (kindAsked wanted s at) _ e₂ λ kind mid e₃ e₄.
+        let (short, few, is) = lent-forth s rows octets used o e₁ in
+        let (room, right, place) = kind-forth wanted s at e₃ in
+        record { short = short; few = few; is = is; room = room; kind = right; place = ok-place e₄ refl ∙ place }
+
+    asked : {next : ℕ} → Asked wanted s at rows octets used next → bookAsked wanted s at rows octets used ≡ ok (bookIn octets used) (at + 4)
+    unfolding bookAsked
+    asked a = rw (lent-is s rows octets used (a .short) (a .is) (a .few), kind-right wanted s at (a .room) (a .kind)) refl
+
+  -- A row is asked as the step reads it, and so is a layout.
+  pub row-unasked : (n p : ℕ) → bookAsked 2 s at rows octets used ≡ no n p → rowAsked s at rows octets used ≡ no n p
+  unfolding rowAsked
+  row-unasked n p e = rw e refl
+
+  pub row-asked : {next : ℕ} → Asked 2 s at rows octets used next → rowAsked s at rows octets used ≡ rowAt (bookIn octets used) s (at + 4)
+  unfolding rowAsked
+  row-asked a = rw (asked 2 a, element-row s at rows (bookIn octets used) (a .room) (a .kind)) (go (rowAt (bookIn octets used) s (at + 4)))
+    where
+      go : (r : Read Row) → ((r then λ x end. ok (record { element = item (row x); rows = rows + 1; book = bookIn octets used }) end) then λ (st : Stepped) next. rowOf at (st .element) next) ≡ r
+      go (ok x end) = refl
+      go (no n p) = refl
+
+  pub layout-unasked : (n p : ℕ) → bookAsked 1 s at rows octets used ≡ no n p → layoutAsked s at rows octets used ≡ no n p
+  unfolding layoutAsked
+  layout-unasked n p e = rw e refl
+
+  pub layout-asked : {next : ℕ} → Asked 1 s at rows octets used next → layoutAsked s at rows octets used ≡ layoutOver (bookIn octets used) s (at + 4)
+  unfolding layoutAsked layoutOver
+  layout-asked a = rw (asked 1 a, element-layout s at rows (bookIn octets used) (a .room) (a .kind)) (go (layoutAt s (at + 4)))
+    where
+      learnt : (l : Layout) (end : ℕ) (r : Read Book)
+          → ((r then λ b _. ok (record { element = item (layout l); rows = rows; book = b }) end) then λ (st : Stepped) next. layoutOf at (st .element) next) ≡ (r then λ _ _. ok l end)
+      learnt l end (ok b x) = refl
+      learnt l end (no n p) = refl
+
+      go : (r : Read Layout)
+          → ((r then λ l end. learn (bookIn octets used) l (at + 4) then λ b _. ok (record { element = item (layout l); rows = rows; book = b }) end) then λ (st : Stepped) next. layoutOf at (st .element) next)
+          ≡ (r then λ l end. learn (bookIn octets used) l (at + 4) then λ _ _. ok l end)
+      go (ok l end) = learnt l end (learn (bookIn octets used) l (at + 4))
+      go (no n p) = refl
+
+-- A layout over a book, by what learning it answers.
+module _ (book : Book) (s : List ℕ) (at : ℕ) where
+  pub over-refused : (n p : ℕ) → ends (layoutAt s at) ≡ no n p → ends (layoutOver book s at) ≡ no n p
+  unfolding layoutOver
+  over-refused n p e = stop (layoutAt s at) _ n p e
+
+  module _ (l : Layout) (end : ℕ) (e : layoutAt s at ≡ ok l end) where
+    pub over-unlearnt : (n p : ℕ) → learn book l at ≡ no n p → ends (layoutOver book s at) ≡ no n p
+    unfolding layoutOver
+    over-unlearnt n p f = rw (e, f) refl
+
+    pub over-learnt : (more : Book) (x : ℕ) → learn book l at ≡ ok more x → ends (layoutOver book s at) ≡ ok end end
+    unfolding layoutOver
+    over-learnt more x f = rw (e, f) refl
+
+  over-forth : {l : Layout} {end : ℕ} → layoutOver book s at ≡ ok l end → layoutAt s at ≡ ok l end
+  unfolding layoutOver
+  over-forth e =
+      after (layoutAt s at) _ e λ m last e₁ e₂.
+      after (learn book m at) _ e₂ λ more x e₃ e₄. e₁ ∙ e₄
+
+-- A layout that is asked for stands behind its kind.
+pub record Layed (s : List ℕ) (at : ℕ) (l : Layout) (next : ℕ) : Type 0 where
+  pub short : length s ≤ 1048576
+  pub room : at + 4 ≤ length s
+  pub stands : layoutAt s (at + 4) ≡ ok l next
+
+module _ (s : List ℕ) (at rows : ℕ) (octets : List ℕ) (used : ℕ) where
+  at-layout : {l : Layout} {next : ℕ} → Each Octet octets → layoutAsked s at rows octets used ≡ ok l next → (mid : ℕ) × Asked 1 s at rows octets used mid
+  unfolding layoutAsked
+  at-layout o e = after (bookAsked 1 s at rows octets used) _ e λ book mid e₁ e₂. (mid, asked-is s at rows octets used 1 o mid (ap ends e₁))
+
+  pub layout-stands : {l : Layout} {next : ℕ} → Each Octet octets → layoutAsked s at rows octets used ≡ ok l next → Layed s at l next
+  layout-stands o e =
+      let (mid, a) = at-layout o e in
+      record { short = a .short; room = a .room; stands = over-forth (bookIn octets used) s (at + 4) (sym (layout-asked s at rows octets used a) ∙ e) }
+
+  module _ (n : ℕ) where
+    pub attribute-unasked : (m p : ℕ) → layoutAsked s at rows octets used ≡ no m p → attributeAsked s at rows octets used n ≡ no m p
+    unfolding attributeAsked
+    attribute-unasked m p e = rw e refl
+
+    pub attribute-asked : (l : Layout) (next : ℕ) → layoutAsked s at rows octets used ≡ ok l next → attributeAsked s at rows octets used n ≡ nth n at (l .attributes) next
+    unfolding attributeAsked
+    attribute-asked l next e = rw e refl
