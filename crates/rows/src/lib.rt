@@ -75,7 +75,7 @@ pub fn value_end(s: &[u8], at: usize, end: usize, form: Form) -> Valued
 }
 
 // The form of the values of the attribute at a place of a book, which is known to be accepted.
-fn form_at(s: &[u8], at: usize) -> Form
+pub fn form_at(s: &[u8], at: usize) -> Form
     requires { ⌜ (length (now s) ≤ 1048576) × (isOk (attributeAt (now s) at) ≡ true) ⌝ }
     ensures { λ r. ⌜ ((a : Attribute) (next : ℕ) → attributeAt (now (s .entry)) at ≡ ok a next → r ≡ formOf (a .kind .basic)) × Slim r ⌝ }
 {
