@@ -2,3 +2,4 @@ pub mod Elements
 pub mod Went
 pub mod Told
 pub mod Going
+pub mod Quickly

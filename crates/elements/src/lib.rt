@@ -15,6 +15,7 @@ ghost use Rattle.elements.specs.Answers.{tells, stepOf, isLastMet, count
 use layouts::Learning;
 use layouts::Looked;
 use octets::Ended;
+use plans::Quick;
 use rows::Rowed;
 
 // What an element says: a layout's number and count of attributes; a row's number, whether its length is stated, and its count of fields; the end's count and time.
@@ -186,22 +187,39 @@ pub fn rows_from(doc: &[u8], at: usize) -> Counting
     ensures { λ r. ⌜ countSays r ≡ counted 0 (elementsFrom (length (now (doc .entry)) + 1) (now (doc .entry)) at 0 []) ⌝ }
 {
     let mut book = [0u8; 32768];
+    let mut numbers = [0u32; 64];
+    let mut steps = [0u16; 4160];
+    let mut known: usize = 0;
+    let mut last: usize = 0;
     let mut pos = at;
     let mut rows: usize = 0;
     let mut used: usize = 0;
     loop {
-        let one = element(doc, pos, rows, &mut book, used);
-        match one {
-            Stepping::Refused(n, p) => {
-                return Counting::Refused(n, p);
+        let quick = plans::quick_row(doc, pos, &numbers, &steps, known, last);
+        match quick {
+            Quick::Row(next, i) => {
+                pos = next;
+                rows += 1;
+                last = i;
             }
-            Stepping::Done(step) => {
-                pos = step.next;
-                rows = step.rows;
-                used = step.used;
-                let met = step.met;
-                if is_end(met) {
-                    return Counting::Rows(rows, pos);
+            Quick::Unsure => {
+                let one = element(doc, pos, rows, &mut book, used);
+                match one {
+                    Stepping::Refused(n, p) => {
+                        return Counting::Refused(n, p);
+                    }
+                    Stepping::Done(step) => {
+                        let met = step.met;
+                        if is_end(met) {
+                            return Counting::Rows(step.rows, step.next);
+                        }
+                        if used < step.used {
+                            known = plans::note(doc, pos + 4, &mut numbers, &mut steps, known);
+                        }
+                        pos = step.next;
+                        rows = step.rows;
+                        used = step.used;
+                    }
                 }
             }
         }

@@ -1,23 +1,23 @@
 -- The equations of values and of fields that functions answering places cite, in a room of any reach.
 -- A value by its form; fields go on behind their first, are refused where it is, and end where none is left.
-use Prim.Native.Nat.{ℕ, zero, suc, _+_, _-_, _%_, _≤_, _<_}
+use Prim.Native.Nat.{ℕ, zero, suc, _+_, _-_, _≤_, _<_}
 use mathlib.Core.Path.{_≡_, refl, sym, ap, _∙_, subst}
 use mathlib.Core.List.{List, [], _∷_}
+use mathlib.Core.Bool.{true}
 use native.Mathlib.Omega.{arith}
 use lib.ListN.{length}
 use lib.Dec.{lit≤}
 use borrow.Author.Tests.{le-leb, lt-leb}
-use Rattle.octets.specs.Reading.{Read, ok, no, _then_, ends, isOk, be, Room, document, stated, reach, overrun, numberIn, octetsIn, textIn, run}
+use Rattle.octets.specs.Reading.{Read, ok, no, _then_, ends, isOk, be, Room, document, stated, reach, overrun, numberIn, octetsIn, textIn, text, run}
 use Rattle.octets.proofs.Inverse.{after, ok-value, ok-place}
-use Rattle.octets.proofs.Ends.{number-in, number-over, overrun-then, overrun-ends, text-octets, text-ok, text-room, on, stop, made}
+use Rattle.octets.proofs.Ends.{number-in, number-over, overrun-then, overrun-ends, text-octets, on, stop, made, value-is}
 use Rattle.kinds.specs.declared.Form.{Form}
 use Rattle.kinds.specs.declared.Form.the-variants as form
 use Rattle.kinds.specs.declared.Basic.{Basic}
 use Rattle.kinds.specs.declared.Basic.the-variants.{Int, UnsignedInt, Long, UnsignedLong, Float, Double, HexBinary, String, Boolean, Byte, UnsignedByte, Short, UnsignedShort}
-use Rattle.kinds.specs.Kinds.{codeOf, formOf}
-use Rattle.kinds.proofs.Table.{kind-code}
+use Rattle.kinds.specs.Kinds.{formOf, kindAt}
 use Rattle.layouts.specs.Layout.{Attribute, attributeAt}
-use Rattle.layouts.proofs.Parts.{attribute-fields, attribute-named}
+use Rattle.layouts.proofs.Parts.{attribute-fields}
 use Rattle.rows.specs.Row.{Value, valueIn, fieldsIn}
 use Rattle.rows.specs.Answers.{Slim}
 
@@ -86,20 +86,9 @@ slim-form UnsignedByte = lit≤ tt
 slim-form Short = lit≤ tt
 slim-form UnsignedShort = lit≤ tt
 
--- Where the type of an accepted attribute stands, and that its low octet is of the table.
-pub record Typed (s : List ℕ) (at : ℕ) (a : Attribute) : Type 0 where
-  pub head : at + 4 ≤ length s
-  pub inside : at + 4 + be 4 s at + 4 ≤ length s
-  pub code : be 4 s (at + 4 + be 4 s at) % 256 ≡ codeOf (a .kind .basic)
-  pub low : 0x21 ≤ be 4 s (at + 4 + be 4 s at) % 256
-  pub high : be 4 s (at + 4 + be 4 s at) % 256 ≤ 0x2d
-
-pub typed : (s : List ℕ) (at : ℕ) (a : Attribute) (next : ℕ) → attributeAt s at ≡ ok a next → Typed s at a
-typed s at a next e =
-    let (h, g) = text-room s at (attribute-named s at (ap isOk e)) in
-    let d = attribute-fields s at (at + 4 + be 4 s at) (ap ends (text-ok s at h g)) e in
-    let (code, low, high) = kind-code s (at + 4 + be 4 s at) (d .kind) in
-    record { head = h; inside = d .inside; code = code; low = low; high = high }
+-- The type of an accepted attribute stands right behind its name.
+pub attribute-kind : (s : List ℕ) (at mid : ℕ) → ends (text s at) ≡ ok mid mid → isOk (attributeAt s at) ≡ true → isOk (kindAt s mid) ≡ true
+attribute-kind s at mid n t = let (a, next, e) = value-is (attributeAt s at) t in ap isOk (attribute-fields s at mid n e .kind)
 
 -- What is left to read behind some fields: k attributes from a place of the book, whose values stand from a place of the document.
 pub record Left (book doc : List ℕ) (end : ℕ) (xs : List Attribute) (at k place last pos : ℕ) : Type 0 where

@@ -8,7 +8,8 @@ ghost use Prim.Native.Nat.{ℕ, _+_, _≤_};
 ghost use lib.ListN.{length};
 ghost use Rattle.octets.specs.Reading.{ok, ends, isOk, be, Room, document, reach, octetsIn, run};
 ghost use Rattle.octets.specs.Answers.{says, Within};
-ghost use Rattle.kinds.specs.Kinds.{formOf};
+ghost use Rattle.kinds.specs.Kinds.{formOf, kindAt};
+ghost use Rattle.kinds.specs.declared.Kind.{Kind};
 ghost use Rattle.layouts.specs.Layout.{Attribute, Layout, attributeAt, layoutAt};
 ghost use Rattle.layouts.specs.Answers.{Reads};
 ghost use Rattle.rows.specs.Row.{valueIn, fieldsIn, filled, valuesAt, named};
@@ -74,14 +75,21 @@ pub fn value_end(s: &[u8], at: usize, end: usize, form: Form) -> Valued
     }
 }
 
-// The form of the values of the attribute at a place of a book, which is known to be accepted.
-fn form_at(s: &[u8], at: usize) -> Form
+// The form of the values of the type at a place, which is known to be accepted.
+fn form_here(s: &[u8], at: usize) -> Form
+    requires { ⌜ isOk (kindAt (now s) at) ≡ true ⌝ }
+    ensures { λ r. ⌜ ((k : Kind) (next : ℕ) → kindAt (now (s .entry)) at ≡ ok k next → r ≡ formOf (k .basic)) × Slim r ⌝ }
+{
+    let code = octets::u32_at(s, at) % 256;
+    kinds::form_of(kinds::basic_of(code))
+}
+
+// The form of the values of the attribute at a place, which is known to be accepted.
+pub fn form_at(s: &[u8], at: usize) -> Form
     requires { ⌜ (length (now s) ≤ 1048576) × (isOk (attributeAt (now s) at) ≡ true) ⌝ }
     ensures { λ r. ⌜ ((a : Attribute) (next : ℕ) → attributeAt (now (s .entry)) at ≡ ok a next → r ≡ formOf (a .kind .basic)) × Slim r ⌝ }
 {
-    let kind = at + 4 + (octets::u32_at(s, at) as usize);
-    let code = octets::u32_at(s, kind) % 256;
-    kinds::form_of(kinds::basic_of(code))
+    form_here(s, layouts::name_end(s, at))
 }
 
 // The place behind the values of so many attributes, which stand at a place of a book.
@@ -100,8 +108,9 @@ pub fn fields_end<'d, 'b>(
     let mut place = first;
     let mut i: u32 = 0;
     while i < count {
-        let form = form_at(book, place);
-        place = layouts::attribute_skip(book, place);
+        let kind = layouts::name_end(book, place);
+        let form = form_here(book, kind);
+        place = kind + 4;
         i += 1;
         let one = value_end(doc, pos, end, form);
         match one {

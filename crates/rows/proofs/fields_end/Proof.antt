@@ -9,15 +9,15 @@ use mathlib.Core.List.{List}
 use mathlib.Core.Bool.{true}
 use lib.ListN.{length}
 use Rattle.octets.specs.Reading.{ok, ends, isOk, Room, reach, run}
-use Rattle.octets.proofs.Inverse.{ok-place}
 use Rattle.octets.proofs.Ends.{left-suc, none-left, sub-none}
 use Rattle.kinds.specs.declared.Form.{Form}
 use Rattle.kinds.specs.Kinds.{formOf}
 use Rattle.layouts.specs.Layout.{Attribute, attributeAt}
+use Rattle.layouts.proofs.Parts.{attribute-fields, attribute-named}
 use Rattle.rows.specs.declared.Valued.{Valued}
 use Rattle.rows.specs.Row.{valueIn}
 use Rattle.rows.specs.Answers.{valued}
-use Rattle.rows.proofs.Values.{Left, left-all, Next, left-next, left-none}
+use Rattle.rows.proofs.Values.{attribute-kind, Left, left-all, Next, left-next, left-none}
 use Rattle.rows.proofs.fields_end.Statement.{statement}
 use Rattle.rows.proofs.fields_end.Tie as tie
 
@@ -83,7 +83,9 @@ Of v = v .before .before .before
 answered : (v : Answered) (x : Valued) → v .value-end .result ≡ x → (a : Attribute) (next : ℕ) → attributeAt (Book (Of v)) (Place (Of v)) ≡ ok a next
     → (room : Room) → reach room (Doc (Of v)) ≡ End (Of v) → ends (valueIn room (formOf (a .kind .basic)) (Doc (Of v)) (Pos (Of v))) ≡ valued room x
 answered v x e a next r room h =
-    let form = v .before .before .form-at .ensures .0 a next r in
+    let f = v .before in
+    let n = f .before .name-end in
+    let form = f .form-here .ensures .0 (a .kind) next (attribute-fields (Book (Of v)) (Place (Of v)) (n .result) (n .ensures .0) r .kind) in
     ap (λ (f : Form). ends (valueIn room f (Doc (Of v)) (Pos (Of v)))) (sym form) ∙ (sym (v .value-end .ensures .0 room h) ∙ ap (valued room) e)
 
 loop-again : tie.Need-loop-again Inv-loop μ-loop
@@ -96,7 +98,8 @@ loop-again c =
       w .1,
       λ xs last e.
           let n = next-of t xs last e in
-          let place : n .next ≡ v .before .attribute-skip .result = ok-place (ap ends (n .reads)) (v .before .attribute-skip .ensures) in
+          let m = v .before .before .name-end in
+          let place : n .next ≡ m .result + 4 = attribute-fields (Book t) (Place t) (m .result) (m .ensures .0) (n .reads) .place in
           subst (λ (p : ℕ). Left (Book t) (Doc t) (End t) xs (Start t .args .at) (More t) p last (c .before .one .given .0 .0)) place
           (n .on _ (answered v _ (c .before .one .given .1) (n .attribute) (n .next) (n .reads))),
     )
@@ -132,7 +135,8 @@ returns-3 c =
 pub fields-end-spec : {M : Type 1} → statement M
 fields-end-spec =
     tie.close
-    (tie.spec Inv-loop μ-loop loop-holds (λ c κs. (Start c .pre .3, accepted c)) (λ c κs. (Start (c .before) .pre .3, accepted (c .before)))
-    (λ c. search needs)
-    (λ c κs. let t = c .before .before in (t .before .loop .inv .2, Start t .pre .1, Start t .pre .2, c .before .form-at .ensures .1)) (λ c. search needs)
+    (tie.spec Inv-loop μ-loop loop-holds (λ c κs. (Start c .pre .3, attribute-named (Book c) (Place c) (accepted c)))
+    (λ c κs. let t = c .before in attribute-kind (Book t) (Place t) (c .name-end .result) (c .name-end .ensures .0) (accepted t))
+    (λ c. search needs) (λ c. search needs)
+    (λ c κs. let t = c .before .before in (t .before .loop .inv .2, Start t .pre .1, Start t .pre .2, c .form-here .ensures .1)) (λ c. search needs)
     (λ c. omega arith) loop-again (λ c. search needs) returns (λ c. search needs) returns-2 returns-3)

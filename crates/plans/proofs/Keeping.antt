@@ -1,0 +1,91 @@
+-- Plans kept: they go with every book that finds what theirs finds, one more is added behind them, and a row passed by one is a row of the book.
+use Prim.Native.Nat.{ℕ, _+_, _*_, _≤_, _<_}
+use mathlib.Core.Path.{_≡_, refl, sym, ap, _∙_, subst}
+use mathlib.Core.List.{List, []}
+use mathlib.Core.Bool.{Bool, true, false}
+use mathlib.Core.Option.{some}
+use native.Mathlib.Omega.{arith}
+use lib.ListN.{length, getD, set, take, length-set}
+use lib.Seq.{getD-set-same, getD-set-other}
+use lib.Dec.{ltb}
+use borrow.Author.Tests.{ltb-true, ltb-false}
+use Rattle.octets.specs.Reading.{ok, ends, be, document, stated, number}
+use Rattle.octets.proofs.Ends.{number-ok, ended}
+use Rattle.layouts.specs.Layout.{Attribute, Layout}
+use Rattle.layouts.specs.Book.{Book, find}
+use Rattle.layouts.proofs.Finding.{Within}
+use Rattle.rows.specs.Row.{Field, Row, valuesAt, named, rowAt}
+use Rattle.rows.proofs.Lengths.{values-open, values-stated, filled-ok}
+use Rattle.plans.specs.Plan.{planOf, Begins, Entry, Planned}
+use Rattle.plans.specs.Answers.{Follows, Lasts}
+use Rattle.plans.specs.declared.Passed.{Passed}
+use Rattle.plans.specs.declared.Passed.the-variants as passed
+use Rattle.plans.proofs.Making.{begins-kept}
+
+-- Before any plan.
+pub planned-none : (numbers steps : List ℕ) → length numbers ≡ 64 → length steps ≡ 4160 → Planned numbers steps 0 []
+planned-none numbers steps n s = record { few = omega arith; numbers-long = n; steps-long = s; entry = λ i h. absurd (omega arith) }
+
+pub planned-within : (numbers steps : List ℕ) (known : ℕ) (b c : Book) → Within b c → Planned numbers steps known b → Planned numbers steps known c
+planned-within numbers steps known b c w p =
+    record { few = p .few; numbers-long = p .numbers-long; steps-long = p .steps-long; entry = λ i h. go i (p .entry i h) }
+  where
+    go : (i : ℕ) → Entry numbers steps i b → Entry numbers steps i c
+    go i e = record { layout = e .layout; found = w (getD numbers i 0) (e .layout) (e .found); short = e .short; stands = e .stands }
+
+-- One more.
+module _ (numbers steps more : List ℕ) (known number : ℕ) (book : Book) (l : Layout) (p : Planned numbers steps known book) (room : known < 64) where
+  pub planned-more : find (l .number) book ≡ some l → number ≡ l .number → length (planOf 0 (l .attributes)) ≤ 65 → Begins more (known * 65) (planOf 0 (l .attributes))
+      → take (known * 65) more ≡ take (known * 65) steps → length more ≡ 4160 → Planned (set numbers known number) more (known + 1) book
+  planned-more found is short stands kept long =
+      record {
+        few = omega arith;
+        numbers-long = length-set numbers known number ∙ p .numbers-long;
+        steps-long = long;
+        entry = λ i h. go i h (ltb i known) refl;
+      }
+    where
+      same : getD (set numbers known number) known 0 ≡ l .number
+      same = getD-set-same numbers known number 0 (omega (arith, p .numbers-long)) ∙ is
+
+      last : (i : ℕ) → i ≡ known → Entry (set numbers known number) more i book
+      last i e =
+          subst (λ (k : ℕ). Entry (set numbers known number) more k book) (sym e)
+          (record { layout = l; found = ap (λ (n : ℕ). find n book) same ∙ found; short = short; stands = stands })
+
+      old : (i : ℕ) → i < known → Entry numbers steps i book → Entry (set numbers known number) more i book
+      old i h e =
+          record {
+            layout = e .layout;
+            found = ap (λ (n : ℕ). find n book) (getD-set-other numbers known i number 0 (λ z. omega arith)) ∙ e .found;
+            short = e .short;
+            stands = begins-kept steps more (i * 65) (known * 65) (planOf 0 (e .layout .attributes)) (omega (arith, e .short)) (omega (arith, p .steps-long)) (long ∙ sym (p .steps-long)) kept (e .stands);
+          }
+
+      go : (i : ℕ) → i < known + 1 → (b : Bool) → ltb i known ≡ b → Entry (set numbers known number) more i book
+      go i h true t = let m = ltb-true i known t in old i m (p .entry i m)
+      go i h false t = let m = ltb-false i known t in last i (omega arith)
+
+-- The values behind a row's length, unstated or stated.
+module _ (s : List ℕ) (at : ℕ) (steps : List ℕ) (from : ℕ) where
+  pub lasts-open : be 4 s at ≡ 0xffffffff → (x : Passed) → Follows s (at + 4) (length s) steps from x → Lasts s at steps from x
+  lasts-open e (passed.To p) f = λ xs b. ap ends (values-open xs s at (be 4 s at) e) ∙ f .2 xs b document refl
+  lasts-open e passed.Unsure f = tt
+
+  pub lasts-stated : (size p : ℕ) → size ≡ be 4 s at → (size ≡ 0xffffffff → ⊥) → at + 4 + size ≤ length s → Follows s (at + 4) (at + 4 + size) steps from (passed.To p) → p ≡ at + 4 + size
+      → Lasts s at steps from (passed.To p)
+  lasts-stated size p is other inside f e = λ xs b.
+      subst (λ (n : ℕ). ends (valuesAt xs s at n) ≡ ok p p) is
+      (ap ends (values-stated xs s at size other inside) ∙ filled-ok xs s at (at + 4 + size) p (f .2 xs b (stated (at + 4 + size) at) refl) e)
+
+-- A row by its number, its layout and where its values end.
+pub row-passed : (s : List ℕ) (at length-at p : ℕ) (book : Book) (l : Layout) → length-at ≡ at + 4 → length-at + 4 ≤ length s → find (be 4 s at) book ≡ some l
+    → ends (valuesAt (l .attributes) s length-at (be 4 s length-at)) ≡ ok p p → (row : Row) × (rowAt book s at ≡ ok row p)
+unfolding rowAt
+row-passed s at length-at p book l is h found e =
+    let (fields, f) = ended (valuesAt (l .attributes) s (at + 4) (be 4 s (at + 4))) p (subst (λ (n : ℕ). ends (valuesAt (l .attributes) s n (be 4 s n)) ≡ ok p p) is e) in
+    go fields f
+  where
+    go : (fields : List Field) → valuesAt (l .attributes) s (at + 4) (be 4 s (at + 4)) ≡ ok fields p → (row : Row) × (rowAt book s at ≡ ok row p)
+    go fields f =
+        (record { number = be 4 s at; is-stated = ltb (be 4 s (at + 4)) 0xffffffff; fields = fields }, rw (number-ok s at 4 (omega arith), found, number-ok s (at + 4) 4 (omega arith), f) refl)

@@ -1,0 +1,169 @@
+-- Values passed by a plan: its first step is a sum of octets, and either the values end behind these or one more closes the step and the plan of the others follows.
+-- By induction on the attributes.
+use Prim.Native.Nat.{ℕ, zero, suc, _+_, _*_, _/_, _%_, _≤_, _<_}
+use mathlib.Core.Path.{_≡_, refl, sym, ap, _∙_, subst}
+use mathlib.Core.List.{List, [], _∷_, _++_}
+use native.Mathlib.Omega.{arith}
+use lib.ListN.{length, getD}
+use lib.Dec.{eqb}
+use borrow.Author.Tests.{eq-eqb, ne-eqb}
+use Rattle.octets.specs.Reading.{ok, ends, choose, be, Room, reach, part}
+use Rattle.octets.proofs.Spans.{Spans, middle, one-is, part-spans, part-is}
+use Rattle.kinds.specs.declared.Form.{Form}
+use Rattle.kinds.specs.declared.Form.the-variants as form
+use Rattle.kinds.specs.Kinds.{formOf}
+use Rattle.layouts.specs.Layout.{Attribute}
+use Rattle.rows.specs.Row.{valueIn, fieldsIn}
+use Rattle.octets.proofs.Ends.{octets-in}
+use Rattle.rows.proofs.Values.{fixed-ok, truth-ok, octets-value, text-value, fields-none, fields-on}
+use Rattle.plans.specs.Plan.{mark, planOf, Begins}
+use Rattle.plans.specs.Answers.{closing}
+
+-- What the first step of a plan behind v octets says.
+pub data Walk (v : ℕ) (xs : List Attribute) : Type 0 where
+  last : (w : ℕ) → planOf (v * 4) xs ≡ ((v + w) * 4) ∷ []
+      → ((room : Room) (s : List ℕ) (at : ℕ) → at + w ≤ reach room s → ends (fieldsIn room xs s at) ≡ ok (at + w) (at + w)) → Walk v xs
+  more : (w k : ℕ) (ys : List Attribute) → 0 < k → k < 4 → planOf (v * 4) xs ≡ ((v + w) * 4 + k) ∷ planOf 0 ys
+      → ((room : Room) (s : List ℕ) (at p : ℕ) → at + w ≤ reach room s → ends (valueIn room (closing k) s (at + w)) ≡ ok p p → ends (fieldsIn room xs s at) ≡ ends (fieldsIn room ys s p))
+      → Walk v xs
+
+module _ (v : ℕ) (a : Attribute) (others : List Attribute) where
+  plan-on : mark (formOf (a .kind .basic)) % 4 ≡ 0 → planOf (v * 4) (a ∷ others) ≡ planOf (v * 4 + mark (formOf (a .kind .basic))) others
+  unfolding planOf
+  plan-on e = rw (eq-eqb (mark (formOf (a .kind .basic)) % 4) 0 e) refl
+
+  plan-close : (mark (formOf (a .kind .basic)) % 4 ≡ 0 → ⊥) → planOf (v * 4) (a ∷ others) ≡ (v * 4 + mark (formOf (a .kind .basic))) ∷ planOf 0 others
+  unfolding planOf
+  plan-close e = rw (ne-eqb (mark (formOf (a .kind .basic)) % 4) 0 e) refl
+
+  -- A number joins the sum.
+  fixed : (w : ℕ) → formOf (a .kind .basic) ≡ form.Fixed w → Walk (v + w) others → Walk v (a ∷ others)
+  fixed w f walk = go walk
+    where
+      value : (room : Room) (s : List ℕ) (at n : ℕ) → at + (w + n) ≤ reach room s → ends (fieldsIn room (a ∷ others) s at) ≡ ends (fieldsIn room others s (at + w))
+      value room s at n h = fields-on room s at a others (at + w) (ap (λ (x : Form). ends (valueIn room x s at)) f ∙ fixed-ok room s at w (omega arith))
+
+      plan : planOf (v * 4) (a ∷ others) ≡ planOf ((v + w) * 4) others
+      plan = plan-on (ap (λ (x : Form). mark x % 4) f ∙ omega arith) ∙ ap (λ (n : ℕ). planOf n others) (ap (λ (x : Form). v * 4 + mark x) f ∙ omega arith)
+
+      go : Walk (v + w) others → Walk v (a ∷ others)
+      go (last n e g) =
+          last (w + n) (plan ∙ (e ∙ ap (λ (m : ℕ). m ∷ []) (omega arith)))
+          λ room s at h. value room s at n h ∙ (g room s (at + w) (omega arith) ∙ ap (λ (m : ℕ). ok m m) (omega arith))
+      go (more n k ys z y e g) =
+          more (w + n) k ys z y (plan ∙ (e ∙ ap (λ (m : ℕ). m ∷ planOf 0 ys) (omega arith)))
+          λ room s at p h q.
+          value room s at n h ∙ g room s (at + w) p (omega arith) (subst (λ (m : ℕ). ends (valueIn room (closing k) s m) ≡ ok p p) (omega arith) q)
+
+  -- Any other value closes the step.
+  closes : (f : Form) (k : ℕ) → formOf (a .kind .basic) ≡ f → mark f ≡ k → 0 < k → k < 4
+      → ((room : Room) (s : List ℕ) (at : ℕ) → ends (valueIn room f s at) ≡ ends (valueIn room (closing k) s at)) → Walk v (a ∷ others)
+  closes f k e m z y alike =
+      let is : mark (formOf (a .kind .basic)) ≡ k = ap mark e ∙ m in
+      more 0 k others z y (plan-close (λ q. absurd (never k z y (sym (ap (λ (n : ℕ). n % 4) is) ∙ q))) ∙ ap (λ (n : ℕ). n ∷ planOf 0 others) (sum (mark (formOf (a .kind .basic))) is))
+      λ room s at p h q.
+      fields-on room s at a others p
+      (ap (λ (x : Form). ends (valueIn room x s at)) e ∙ (alike room s at ∙ subst (λ (n : ℕ). ends (valueIn room (closing k) s n) ≡ ok p p) (omega arith) q))
+    where
+      never : (k : ℕ) → 0 < k → k < 4 → k % 4 ≡ 0 → ⊥
+      never k z y q = omega arith
+
+      sum : (n : ℕ) → n ≡ k → v * 4 + n ≡ (v + 0) * 4 + k
+      sum n q = omega arith
+
+pub walk : (v : ℕ) (xs : List Attribute) → Walk v xs
+unfolding planOf
+walk v [] = last 0 (ap (λ (m : ℕ). m ∷ []) (omega arith)) λ room s at h. fields-none room s at ∙ ap (λ (m : ℕ). ok m m) (omega arith)
+walk v (a ∷ others) = go (formOf (a .kind .basic)) refl (λ w. walk (v + w) others)
+  where
+    go : (f : Form) → formOf (a .kind .basic) ≡ f → ((w : ℕ) → Walk (v + w) others) → Walk v (a ∷ others)
+    go (form.Fixed w) e again = fixed v a others w e (again w)
+    go form.Truth e again = closes v a others form.Truth 2 e refl (omega arith) (omega arith) (λ room s at. refl)
+    go form.Octets e again = closes v a others form.Octets 1 e refl (omega arith) (omega arith) (λ room s at. refl)
+    go form.Text e again = closes v a others form.Text 1 e refl (omega arith) (omega arith) (λ room s at. text-value room s at ∙ sym (octets-value room s at))
+
+-- What begins at a place, as a span and back.
+pub begins-spans : (s : List ℕ) (at : ℕ) (xs : List ℕ) → Begins s at xs → Spans s (length s) at (at + length xs) xs
+begins-spans s at xs b = subst (λ (t : List ℕ). Spans s (length s) at (at + length xs) t) (b .is) (part-spans at (length xs) (b .inside) (omega arith) .1)
+
+pub spans-begins : (s : List ℕ) (at next : ℕ) (xs : List ℕ) → Spans s (length s) at next xs → Begins s at xs
+spans-begins s at next xs p = record { inside = omega (arith, p .place, p .inside); is = part-is p }
+
+-- The first of a list that begins at a place, and the others behind it.
+pub begins-cons : (s : List ℕ) (at x : ℕ) (xs : List ℕ) → Begins s at (x ∷ xs) → (at < length s) × (getD s at 0 ≡ x) × Begins s (at + 1) xs
+begins-cons s at x xs b =
+    let (one, rest) = middle (x ∷ []) xs (begins-spans s at (x ∷ xs) b) in
+    (omega (arith, b .inside), one-is one, spans-begins s (at + 1) _ xs rest)
+
+-- A walk on its way: the values of all attributes end where those of the others do, from here, and the others' plan stands here.
+pub record Onward (s steps : List ℕ) (end : ℕ) (xs : List Attribute) (at pos j : ℕ) : Type 0 where
+  pub others : List Attribute
+  pub stands : Begins steps j (planOf 0 others)
+  pub same : (room : Room) → reach room s ≡ end → ends (fieldsIn room xs s at) ≡ ends (fieldsIn room others s pos)
+
+pub onward-start : (s steps : List ℕ) (end : ℕ) (xs : List Attribute) (at j : ℕ) → Begins steps j (planOf 0 xs) → Onward s steps end xs at at j
+onward-start s steps end xs at j b = record { others = xs; stands = b; same = λ room h. refl }
+
+module _ (s steps : List ℕ) (end : ℕ) (xs : List Attribute) (at pos j : ℕ) (o : Onward s steps end xs at pos j) where
+  -- There is a step.
+  pub onward-room : j < length steps
+  onward-room = go (walk 0 (o .others))
+    where
+      go : Walk 0 (o .others) → j < length steps
+      go (last w e g) = begins-cons steps j ((0 + w) * 4) [] (subst (Begins steps j) e (o .stands)) .0
+      go (more w k ys z y e g) = begins-cons steps j ((0 + w) * 4 + k) (planOf 0 ys) (subst (Begins steps j) e (o .stands)) .0
+
+  module _ (step : ℕ) (here : step ≡ getD steps j 0) where
+    pub onward-last : step % 4 ≡ 0 → pos + step / 4 ≤ end → (room : Room) → reach room s ≡ end → ends (fieldsIn room xs s at) ≡ ok (pos + step / 4) (pos + step / 4)
+    onward-last k h room r = o .same room r ∙ go (walk 0 (o .others))
+      where
+        go : Walk 0 (o .others) → ends (fieldsIn room (o .others) s pos) ≡ ok (pos + step / 4) (pos + step / 4)
+        go (last w e g) =
+            let is : getD steps j 0 ≡ (0 + w) * 4 = begins-cons steps j ((0 + w) * 4) [] (subst (Begins steps j) e (o .stands)) .1 in
+            let q : w ≡ step / 4 = quarter w (here ∙ is) in
+            g room s pos (omega arith) ∙ ap (λ (n : ℕ). ok (pos + n) (pos + n)) q
+          where
+            quarter : (w : ℕ) → step ≡ (0 + w) * 4 → w ≡ step / 4
+            quarter w e = omega arith
+        go (more w m ys z y e g) =
+            let is : getD steps j 0 ≡ (0 + w) * 4 + m = begins-cons steps j ((0 + w) * 4 + m) (planOf 0 ys) (subst (Begins steps j) e (o .stands)) .1 in
+            absurd (never w m z y (here ∙ is))
+          where
+            never : (w m : ℕ) → 0 < m → m < 4 → step ≡ (0 + w) * 4 + m → ⊥
+            never w m z y e = omega arith
+
+    pub onward-on : (step % 4 ≡ 0 → ⊥) → (p : ℕ) → pos + step / 4 ≤ end → ((room : Room) → reach room s ≡ end → ends (valueIn room (closing (step % 4)) s (pos + step / 4)) ≡ ok p p)
+        → Onward s steps end xs at p (j + 1)
+    onward-on k p h value = go (walk 0 (o .others))
+      where
+        go : Walk 0 (o .others) → Onward s steps end xs at p (j + 1)
+        go (last w e g) =
+            let is : getD steps j 0 ≡ (0 + w) * 4 = begins-cons steps j ((0 + w) * 4) [] (subst (Begins steps j) e (o .stands)) .1 in
+            absurd (k (four w (here ∙ is)))
+          where
+            four : (w : ℕ) → step ≡ (0 + w) * 4 → step % 4 ≡ 0
+            four w e = omega arith
+        go (more w m ys z y e g) =
+            let b = begins-cons steps j ((0 + w) * 4 + m) (planOf 0 ys) (subst (Begins steps j) e (o .stands)) in
+            let q : w ≡ step / 4 = quarter w m z y (here ∙ b .1) in
+            let r : m ≡ step % 4 = rest w m z y (here ∙ b .1) in
+            record {
+              others = ys;
+              stands = b .2;
+              same = λ room f. o .same room f ∙ g room s pos p (omega arith)
+                  (ap (λ (n : ℕ). ends (valueIn room (closing n) s (pos + w))) r ∙ (ap (λ (n : ℕ). ends (valueIn room (closing (step % 4)) s (pos + n))) q ∙ value room f));
+            }
+          where
+            quarter : (w m : ℕ) → 0 < m → m < 4 → step ≡ (0 + w) * 4 + m → w ≡ step / 4
+            quarter w m z y e = omega arith
+
+            rest : (w m : ℕ) → 0 < m → m < 4 → step ≡ (0 + w) * 4 + m → m ≡ step % 4
+            rest w m z y e = omega arith
+
+-- The value that closes a step.
+module _ (room : Room) (s : List ℕ) (at kind : ℕ) where
+  pub close-octets : kind ≡ 1 → at + 4 ≤ reach room s → at + 4 + be 4 s at ≤ reach room s → ends (valueIn room (closing kind) s at) ≡ ok (at + 4 + be 4 s at) (at + 4 + be 4 s at)
+  close-octets e h g = rw (eq-eqb kind 1 e) (octets-value room s at ∙ ap ends (octets-in room s at h g))
+
+  pub close-truth : (kind ≡ 1 → ⊥) → at + 1 ≤ reach room s → be 1 s at ≤ 1 → ends (valueIn room (closing kind) s at) ≡ ok (at + 1) (at + 1)
+  close-truth e h g = rw (ne-eqb kind 1 e) (truth-ok room s at h g)

@@ -1,0 +1,22 @@
+-- `plans::mark_of` meets its contract: a number's width is at most eight. Assumes nothing.
+use borrow.Author.Needs.{needs}
+use native.Mathlib.Omega.{arith}
+use Prim.Native.Nat.{_≤_}
+use mathlib.Core.Path.{sym, ap, subst}
+use Rattle.rows.specs.Answers.{Slim}
+use Rattle.plans.specs.Plan.{mark}
+use Rattle.plans.proofs.mark_of.Statement.{statement}
+use Rattle.plans.proofs.mark_of.Tie as tie
+
+-- The width that was matched.
+slim : (c : tie.After-known-told) → c .before .form .given .0 .0 ≤ 8
+slim c = subst Slim (c .before .form .given .1) (c .before .before .before .pre)
+
+returns : tie.Need-returns
+returns c = let s = slim c in (sym (ap mark (c .before .form .given .1)), omega arith)
+
+pub mark-of-spec : {M : Type 1} → statement M
+mark-of-spec =
+    tie.close
+    (tie.spec (λ c. search needs) (λ c. let s = slim c in omega arith) (λ c. let s = slim c in omega arith) (λ c. search needs) (λ c. search needs) (λ c. search needs) returns
+    (λ c. search needs) (λ c. search needs) (λ c. search needs))

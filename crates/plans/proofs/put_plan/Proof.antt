@@ -1,0 +1,154 @@
+-- `plans::put_plan` meets its contract. The invariant: the steps that stand, with those of the attributes that are left, are the plan.
+-- The measure is the attributes to come. Assumes nothing.
+use borrow.Author.Needs.{needs}
+use native.Mathlib.Omega.{arith}
+use Prim.Native.Nat.{ℕ, suc, _+_, _-_, _*_, _%_, _≤_, _<_}
+use denote.Ref.{now}
+use mathlib.Core.Path.{_≡_, refl, sym, ap, _∙_, subst}
+use mathlib.Core.List.{List}
+use mathlib.Core.Bool.{true}
+use lib.ListN.{length, take, set, length-set}
+use lib.Seq.{take-set-le}
+use Rattle.octets.specs.Reading.{ok, ends, isOk, run}
+use Rattle.octets.proofs.Inverse.{ok-place}
+use Rattle.octets.proofs.Ends.{left-suc, none-left, sub-none}
+use Rattle.kinds.specs.Kinds.{formOf}
+use Rattle.layouts.specs.Layout.{Attribute, attributeAt}
+use Rattle.plans.specs.Plan.{mark, planOf, Begins}
+use Rattle.plans.proofs.Making.{Making, making-start, Next, making-next, making-last}
+use Rattle.plans.proofs.put_plan.Statement.{statement}
+use Rattle.plans.proofs.put_plan.Tie as tie
+
+abbrev Inv-loop : tie.InvT-loop
+Inv-loop doc first count steps₀ from place₀ j₀ sum₀ i₀ steps place j sum i =
+    (i ≤ count) × (j ≤ from + i) × (from ≤ j) × (sum ≤ i * 32) × (length steps ≡ 4160) × (take from steps ≡ take from steps₀)
+    × ((xs : List Attribute) (last : ℕ) → run (attributeAt doc) count first ≡ ok xs last → Making doc steps xs last from (count - i) place j sum)
+
+abbrev μ-loop : tie.MeasureT-loop
+μ-loop doc first count steps₀ from place₀ j₀ sum₀ i₀ steps place j sum i = count - i
+
+loop-holds : tie.Need-loop-holds Inv-loop μ-loop
+loop-holds c =
+    let a = c .before .args in
+    let p = c .before .pre in (
+      omega arith,
+      omega arith,
+      omega arith,
+      omega arith,
+      p .3,
+      refl,
+      λ xs last e.
+          making-start (now (a .doc)) xs last (a .from) (now (a .steps)) (a .count - 0) (a .first) (omega (arith, p .2, p .3))
+          (subst (λ (k : ℕ). run (attributeAt (now (a .doc))) k (a .first) ≡ ok xs last) (sub-none (a .count)) e),
+    )
+
+-- The turn by names.
+abbrev Turn : Type 0
+Turn = tie.In-loop Inv-loop μ-loop
+
+abbrev Start : Turn → tie.Start Inv-loop μ-loop
+Start t = t .before .before .before
+
+abbrev Doc : Turn → List ℕ
+Doc t = now (Start t .args .doc)
+
+abbrev More : Turn → ℕ
+More t = Start t .args .count - (t .before .loop .i + 1)
+
+next-of : (t : Turn) (xs : List Attribute) (last : ℕ) (e : run (attributeAt (Doc t)) (Start t .args .count) (Start t .args .first) ≡ ok xs last)
+    → (m : Making (Doc t) (t .before .loop .steps) xs last (Start t .args .from) (suc (More t)) (t .before .loop .place) (t .before .loop .j) (t .before .loop .sum))
+    × Next (Doc t) xs last (Start t .args .from) (t .before .loop .steps) (More t) (t .before .loop .place) (t .before .loop .j) (t .before .loop .sum) m
+next-of t xs last e =
+    let m = subst (λ (k : ℕ). Making (Doc t) (t .before .loop .steps) xs last (Start t .args .from) k (t .before .loop .place) (t .before .loop .j) (t .before .loop .sum))
+    (left-suc (Start t .args .count) (t .before .loop .i) (t .loop-test .taken)) (t .before .loop .inv .6 xs last e) in
+    (m, making-next (Doc t) xs last (Start t .args .from) (t .before .loop .steps) (More t) (t .before .loop .place) (t .before .loop .j) (t .before .loop .sum) m)
+
+accepted : (t : Turn) → isOk (attributeAt (Doc t) (t .before .loop .place)) ≡ true
+accepted t = let r = Start t .pre .4 in ap isOk (next-of t (r .list) (r .end) (r .reads) .1 .reads)
+
+-- The mark of the attribute here, and the place behind it.
+abbrev Skipped : Type 0
+Skipped = tie.After-attribute-skip Inv-loop μ-loop
+
+abbrev Of : Skipped → Turn
+Of s = s .before .before .before
+
+is-mark : (s : Skipped) (a : Attribute) (next : ℕ) → attributeAt (Doc (Of s)) (Of s .before .loop .place) ≡ ok a next → mark (formOf (a .kind .basic)) ≡ s .before .mark-of .result
+is-mark s a next e = sym (s .before .mark-of .ensures .0 ∙ ap mark (s .before .before .form-at .ensures .0 a next e))
+
+is-place : (s : Skipped) (a : Attribute) (next : ℕ) → attributeAt (Doc (Of s)) (Of s .before .loop .place) ≡ ok a next → next ≡ s .attribute-skip .result
+is-place s a next e = ok-place (ap ends e) (s .attribute-skip .ensures)
+
+bounds : (s : Skipped) → (Of s .before .loop .sum + s .before .mark-of .result ≤ 2080) × (Of s .before .loop .j < 4160)
+bounds s =
+    let t = Of s in
+    let l = t .before .loop .inv in
+    let p = Start t .pre in
+    (omega (arith, l .0, l .3, p .1, s .before .mark-of .ensures .1, t .loop-test .taken), omega (arith, l .0, l .1, p .1, p .2, t .loop-test .taken))
+
+loop-again : tie.Need-loop-again Inv-loop μ-loop
+loop-again c =
+    let s = c .before in
+    let t = Of s in
+    let l = t .before .loop .inv in (
+      omega (arith, t .loop-test .taken),
+      omega (arith, l .1),
+      l .2,
+      omega (arith, l .3, s .before .mark-of .ensures .1),
+      l .4,
+      l .5,
+      λ xs last e.
+          let (m, n) = next-of t xs last e in
+          let q = is-mark s (n .attribute) (n .next) (n .reads) in
+          subst (λ (x : ℕ). Making (Doc t) (t .before .loop .steps) xs last (Start t .args .from) (More t) (s .attribute-skip .result) (t .before .loop .j) (t .before .loop .sum + x)) q
+          (subst (λ (p : ℕ). Making (Doc t) (t .before .loop .steps) xs last (Start t .args .from) (More t) p (t .before .loop .j) (t .before .loop .sum + mark (formOf (n .attribute .kind .basic))))
+          (is-place s (n .attribute) (n .next) (n .reads)) (n .on (ap (λ (x : ℕ). x % 4) q ∙ c .if1 .taken))),
+    )
+
+loop-again-2 : tie.Need-loop-again-2 Inv-loop μ-loop
+loop-again-2 c =
+    let s = c .before in
+    let t = Of s in
+    let l = t .before .loop .inv in (
+      omega (arith, t .loop-test .taken),
+      omega (arith, l .1),
+      omega (arith, l .2),
+      omega arith,
+      simp length-set (l .4),
+      take-set-le (Start t .args .from) (t .before .loop .steps) (t .before .loop .j) (t .before .loop .sum + s .before .mark-of .result) (l .2) ∙ l .5,
+      λ xs last e.
+          let (m, n) = next-of t xs last e in
+          let q = is-mark s (n .attribute) (n .next) (n .reads) in
+          subst (λ (x : ℕ). Making (Doc t) (set (t .before .loop .steps) (t .before .loop .j) (t .before .loop .sum + x)) xs last (Start t .args .from) (More t) (s .attribute-skip .result) (t .before .loop .j + 1) 0) q
+          (subst (λ (p : ℕ). Making (Doc t) (set (t .before .loop .steps) (t .before .loop .j) (t .before .loop .sum + mark (formOf (n .attribute .kind .basic)))) xs last (Start t .args .from) (More t) p (t .before .loop .j + 1) 0)
+          (is-place s (n .attribute) (n .next) (n .reads)) (n .close (λ z. c .if1 .left (sym (ap (λ (x : ℕ). x % 4) q) ∙ z)) (omega (arith, bounds s .1, l .4)))),
+    )
+
+-- Behind the last attribute.
+last-room : (c : tie.After-loop Inv-loop μ-loop) → c .before .loop .j < 4160
+last-room c =
+    let l = c .before .loop .inv in
+    let p = c .before .before .before .pre in
+    omega (arith, l .0, l .1, p .1, p .2)
+
+returns : tie.Need-returns Inv-loop μ-loop
+returns c =
+    let l = c .before .loop in
+    let s = c .before .before .before in
+    let a = s .args in (
+      λ xs last e.
+          let m = making-last (now (a .doc)) xs last (a .from) (l .steps) (l .place) (l .j) (l .sum)
+          (subst (λ (k : ℕ). Making (now (a .doc)) (l .steps) xs last (a .from) k (l .place) (l .j) (l .sum)) (none-left (a .count) (l .i) (c .loop-test .left)) (l .inv .6 xs last e))
+          (omega (arith, last-room c, l .inv .4)) in
+          (omega (arith, m .0, l .inv .0, l .inv .1, s .pre .1), m .1),
+      take-set-le (a .from) (l .steps) (l .j) (l .sum) (l .inv .2) ∙ l .inv .5,
+      simp length-set (l .inv .4),
+    )
+
+pub put-plan-spec : {M : Type 1} → statement M
+put-plan-spec =
+    tie.close
+    (tie.spec Inv-loop μ-loop loop-holds (λ c κs. (Start c .pre .0, accepted c)) (λ c κs. c .form-at .ensures .1) (λ c κs. (Start (c .before .before) .pre .0, accepted (c .before .before)))
+    (λ c. let t = Of c in omega (arith, t .loop-test .taken)) (λ c. let b = bounds (c .before) in omega arith) (λ c. let t = Of (c .before) in omega (arith, t .loop-test .taken)) loop-again
+    (λ c. let b = bounds (c .before) in omega arith) (λ c. let b = bounds (c .before) in omega arith) (λ c. bounds (c .before) .1) (λ c. let b = bounds (c .before) in omega arith)
+    (λ c. let t = Of (c .before) in omega (arith, t .loop-test .taken)) loop-again-2 (λ c. let b = last-room c in omega arith) last-room returns)

@@ -1,0 +1,63 @@
+-- `plans::quick_row` meets its contract: the number that was found is that of a layout of the book, and its plan passes the row's values. Assumes nothing.
+use borrow.Author.Needs.{needs}
+use native.Mathlib.Omega.{arith}
+use Prim.Native.Nat.{ℕ, _+_, _*_, _<_}
+use denote.Ref.{now}
+use mathlib.Core.Path.{_≡_, refl, sym, ap, _∙_, subst}
+use lib.ListN.{length, getD}
+use Rattle.octets.specs.Reading.{ok, be, number}
+use Rattle.octets.proofs.Ends.{number-ok}
+use Rattle.layouts.specs.Book.{Book, find}
+use Rattle.plans.specs.Plan.{Entry, Planned}
+use Rattle.plans.specs.Answers.{Lasts}
+use Rattle.plans.specs.declared.Passed.{Passed}
+use Rattle.plans.proofs.Keeping.{row-passed}
+use Rattle.plans.proofs.quick_row.Statement.{statement}
+use Rattle.plans.proofs.quick_row.Tie as tie
+
+-- The index that was found, by names.
+abbrev Indexed : Type 0
+Indexed = tie.Else3
+
+abbrev Start : Indexed → tie.Start
+Start x = x .before .before .before .before .before .before .before
+
+abbrev I : Indexed → ℕ
+I x = x .before .index-of .result
+
+known : (x : Indexed) → I x < Start x .args .known
+known x = omega (arith, x .if3 .left)
+
+is-number : (x : Indexed) → getD (now (Start x .args .numbers)) (I x) 0 ≡ be 4 (now (Start x .args .doc)) (Start x .args .at + 4)
+is-number x = x .before .index-of .ensures (known x) ∙ x .before .before .u32-at2 .ensures
+
+values-to-requires : tie.Need-values-to-requires
+values-to-requires c κs =
+    let p = Start c .pre .2 .planned in
+    let e = p .entry (I c) (known c) in
+    (omega arith, Start c .pre .1, record { long = p .steps-long; attributes = e .layout .attributes; stands = e .stands })
+
+-- The values that were passed.
+lasts : (v : tie.After-values-to) (x : Passed) → v .values-to .result ≡ x
+    → Lasts (now (Start (v .before) .args .doc)) (Start (v .before) .args .at + 8) (now (Start (v .before) .args .steps)) (I (v .before) * 65) x
+lasts v x e = subst (Lasts (now (Start (v .before) .args .doc)) (Start (v .before) .args .at + 8) (now (Start (v .before) .args .steps)) (I (v .before) * 65)) e (v .values-to .ensures)
+
+returns-5 : tie.Need-returns-5
+returns-5 c = λ book p.
+    let v = c .before .before .before in
+    let x = v .before in
+    let a = Start x .args in
+    let e = p .entry (I x) (known x) in
+    let u = x .before .before .before .before in (
+      known x,
+      number-ok (now (a .doc)) (a .at) 4 (omega arith) ∙ ap (λ (n : ℕ). ok n (a .at + 4)) (sym (u .u32-at .ensures) ∙ x .before .before .before .if2 .left),
+      row-passed (now (a .doc)) (a .at + 4) (a .at + 8) _ book (e .layout) (omega arith) (omega arith) (ap (λ (n : ℕ). find n book) (sym (is-number x)) ∙ e .found)
+          (lasts v _ (c .before .passed .given .1) (e .layout .attributes) (e .stands)),
+    )
+
+pub quick-row-spec : {M : Type 1} → statement M
+quick-row-spec =
+    tie.close
+    (tie.spec (λ c. search needs) (λ c. search needs) (λ c κs. search needs) (λ c. search needs) (λ c. search needs) (λ c κs. search needs)
+    (λ c κs. search needs) (λ c. search needs) (λ c. search needs) (λ c. search needs) values-to-requires (λ c. search needs) (λ c. search needs)
+    (λ c. search needs) returns-5)

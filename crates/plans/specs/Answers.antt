@@ -1,0 +1,45 @@
+-- What the answers of a reading by plan say. Where one is unsure it says nothing.
+use Prim.Native.Nat.{ℕ, _+_, _≤_, _<_}
+use mathlib.Core.Path.{_≡_}
+use mathlib.Core.List.{List}
+use lib.ListN.{length}
+use lib.Dec.{eqb}
+use Rattle.octets.specs.Reading.{ok, ends, choose, be, Room, reach, number}
+use Rattle.kinds.specs.declared.Form.{Form}
+use Rattle.kinds.specs.declared.Form.the-variants as form
+use Rattle.layouts.specs.Layout.{Attribute}
+use Rattle.layouts.specs.Book.{Book}
+use Rattle.rows.specs.Row.{Row, valueIn, fieldsIn, valuesAt, rowAt}
+use Rattle.plans.specs.Plan.{planOf, Begins}
+use Rattle.plans.specs.declared.Passed.{Passed}
+use Rattle.plans.specs.declared.Passed.the-variants as passed
+use Rattle.plans.specs.declared.Quick.{Quick}
+use Rattle.plans.specs.declared.Quick.the-variants as quick
+
+-- The form of the value that closes a step.
+abbrev pub closing : ℕ → Form
+closing kind = choose (eqb kind 1) (λ _. form.Octets) (λ _. form.Truth)
+
+-- The value that closes a step ends at a place.
+abbrev pub Closes : List ℕ → ℕ → ℕ → ℕ → Passed → Type 0
+Closes s at end kind (passed.To p) =
+    (at ≤ p) × (p ≤ end) × ((room : Room) → reach room s ≡ end → ends (valueIn room (closing kind) s at) ≡ ok p p)
+Closes s at end kind passed.Unsure = Unit {0}
+
+-- The values of the attributes whose plan stands at a place of the steps end at a place.
+abbrev pub Follows : List ℕ → ℕ → ℕ → List ℕ → ℕ → Passed → Type 0
+Follows s at end steps from (passed.To p) =
+    (at ≤ p) × (p ≤ end)
+    × ((xs : List Attribute) → Begins steps from (planOf 0 xs) → (room : Room) → reach room s ≡ end → ends (fieldsIn room xs s at) ≡ ok p p)
+Follows s at end steps from passed.Unsure = Unit {0}
+
+-- The values behind a row's length, by the same plan, end at a place.
+abbrev pub Lasts : List ℕ → ℕ → List ℕ → ℕ → Passed → Type 0
+Lasts s at steps from (passed.To p) = (xs : List Attribute) → Begins steps from (planOf 0 xs) → ends (valuesAt xs s at (be 4 s at)) ≡ ok p p
+Lasts s at steps from passed.Unsure = Unit {0}
+
+-- A row of a book stands at a place, behind its kind, and ends at another; its layout's number has an index.
+abbrev pub Passes : List ℕ → ℕ → Book → ℕ → Quick → Type 0
+Passes s at book known (quick.Row next i) =
+    (i < known) × (number 4 s at ≡ ok 2 (at + 4)) × ((row : Row) × (rowAt book s (at + 4) ≡ ok row next))
+Passes s at book known quick.Unsure = Unit {0}

@@ -1,0 +1,56 @@
+-- A layout's plan: the steps that pass the values of a row, with the octets of numbers that stand side by side summed.
+use Prim.Native.Nat.{ℕ, _+_, _*_, _%_, _≤_, _<_}
+use mathlib.Core.Path.{_≡_}
+use mathlib.Core.List.{List, [], _∷_}
+use mathlib.Core.Option.{some}
+use lib.ListN.{length, getD}
+use lib.Dec.{eqb}
+use Rattle.octets.specs.Reading.{choose, part}
+use Rattle.kinds.specs.declared.Form.{Form}
+use Rattle.kinds.specs.declared.Form.the-variants as form
+use Rattle.kinds.specs.Kinds.{formOf}
+use Rattle.layouts.specs.Layout.{Attribute, Layout}
+use Rattle.layouts.specs.Book.{Book, find}
+
+-- What a form adds to a step: four for each octet of a number; one for octets behind a length, two for a boolean, and these close the step.
+abbrev pub mark : Form → ℕ
+mark (form.Fixed w) = w * 4
+mark form.Truth = 2
+mark form.Octets = 1
+mark form.Text = 1
+
+-- The steps of attributes behind a sum. The last step is a multiple of four, every other is not.
+unfoldable pub planOf : ℕ → List Attribute → List ℕ
+planOf sum [] = sum ∷ []
+planOf sum (a ∷ others) =
+    choose (eqb (mark (formOf (a .kind .basic)) % 4) 0) (λ _. planOf (sum + mark (formOf (a .kind .basic))) others)
+    (λ _. (sum + mark (formOf (a .kind .basic))) ∷ planOf 0 others)
+
+-- Numbers that stand in a list from a place on.
+pub record Begins (s : List ℕ) (at : ℕ) (xs : List ℕ) : Type 0 where
+  pub inside : at + length xs ≤ length s
+  pub is : part s at (length xs) ≡ xs
+
+-- Some attributes' plan stands at a place.
+pub record Plan (steps : List ℕ) (from : ℕ) : Type 0 where
+  pub long : length steps ≡ 4160
+  pub attributes : List Attribute
+  pub stands : Begins steps from (planOf 0 attributes)
+
+-- The number of index i is that of a layout in a book, whose plan stands in the i-th 65 steps.
+pub record Entry (numbers steps : List ℕ) (i : ℕ) (book : Book) : Type 0 where
+  pub layout : Layout
+  pub found : find (getD numbers i 0) book ≡ some layout
+  pub short : length (planOf 0 (layout .attributes)) ≤ 65
+  pub stands : Begins steps (i * 65) (planOf 0 (layout .attributes))
+
+-- Plans of so many layouts of a book.
+pub record Planned (numbers steps : List ℕ) (known : ℕ) (book : Book) : Type 0 where
+  pub few : known ≤ 64
+  pub numbers-long : length numbers ≡ 64
+  pub steps-long : length steps ≡ 4160
+  pub entry : (i : ℕ) → i < known → Entry numbers steps i book
+
+pub record Plans (numbers steps : List ℕ) (known : ℕ) : Type 0 where
+  pub book : Book
+  pub planned : Planned numbers steps known book

@@ -1,0 +1,240 @@
+// Plans: each layout's values as steps made once, so that a row is passed without its layout's octets. What is unsure is left to the exact readers.
+
+ghost use mathlib.Core.Path.{_≡_};
+ghost use mathlib.Core.List.{List};
+ghost use mathlib.Core.Option.{some};
+ghost use mathlib.Core.Bool.{true};
+ghost use Prim.Native.Nat.{ℕ, _+_, _≤_, _<_};
+ghost use lib.ListN.{length, getD, take};
+ghost use Rattle.octets.specs.Reading.{ok, isOk, run};
+ghost use Rattle.layouts.specs.Layout.{Attribute, Layout, attributeAt, layoutAt};
+ghost use Rattle.layouts.specs.Book.{Book, find};
+ghost use Rattle.rows.specs.Answers.{Slim, Attributes};
+ghost use Rattle.plans.specs.Plan.{mark, planOf, Begins, Plan, Planned, Plans};
+ghost use Rattle.plans.specs.Answers.{Closes, Follows, Lasts, Passes};
+use kinds::Form;
+
+// The place behind values, or that the exact readers are to be asked.
+pub enum Passed {
+    To(usize),
+    Unsure,
+}
+
+// The place behind a row and the index of its layout's number, or that the exact readers are to be asked.
+pub enum Quick {
+    Row(usize, usize),
+    Unsure,
+}
+
+fn wide(x: u16) -> usize
+    ensures { λ r. ⌜ (r ≡ x) × (r < 65536) ⌝ }
+{
+    x as usize
+}
+
+// What a form adds to a step.
+fn mark_of(form: Form) -> u16
+    requires { ⌜ Slim form ⌝ }
+    ensures { λ r. ⌜ (r ≡ mark form) × (r ≤ 32) ⌝ }
+{
+    match form {
+        Form::Fixed(w) => (w * 4) as u16,
+        Form::Truth => 2,
+        Form::Octets => 1,
+        Form::Text => 1,
+    }
+}
+
+// Puts the plan of so many attributes, which stand at a place of a document, into the steps from an index on.
+fn put_plan<'d, 'p>(
+    doc: &'d [u8],
+    first: usize,
+    count: u32,
+    steps: &'p mut [u16; 4160],
+    from: usize,
+)
+    requires { ⌜ (length (now doc) ≤ 1048576) × (count ≤ 64) × (from + 65 ≤ 4160) × (length (now steps) ≡ 4160) × Attributes (now doc) count first ⌝ }
+    ensures { λ _. ⌜ ((xs : List Attribute) (last : ℕ) → run (attributeAt (now (doc .entry))) count first ≡ ok xs last → (length (planOf 0 xs) ≤ 65) × Begins (now (steps .exit)) from (planOf 0 xs)) × (take from (now (steps .exit)) ≡ take from (now (steps .entry))) × (length (now (steps .exit)) ≡ 4160) ⌝ }
+{
+    let mut place = first;
+    let mut j = from;
+    let mut sum: u16 = 0;
+    let mut i: u32 = 0;
+    while i < count {
+        let form = rows::form_at(doc, place);
+        let more = mark_of(form);
+        place = layouts::attribute_skip(doc, place);
+        i += 1;
+        if more % 4 == 0 {
+            sum += more;
+        } else {
+            steps[j] = sum + more;
+            j += 1;
+            sum = 0;
+        }
+    }
+    steps[j] = sum;
+}
+
+// The place behind the value that closes a step.
+fn close_end(doc: &[u8], at: usize, end: usize, kind: usize) -> Passed
+    requires { ⌜ (end ≤ length (now doc)) × (length (now doc) ≤ 1048576) × (at ≤ 2097152) ⌝ }
+    ensures { λ r. ⌜ Closes (now (doc .entry)) at end kind r ⌝ }
+{
+    if kind == 1 {
+        if end < at + 4 {
+            return Passed::Unsure;
+        }
+        let next = at + 4 + (octets::u32_at(doc, at) as usize);
+        if end < next {
+            return Passed::Unsure;
+        }
+        return Passed::To(next);
+    }
+    if end < at + 1 {
+        return Passed::Unsure;
+    }
+    if 1 < octets::u8_at(doc, at) {
+        return Passed::Unsure;
+    }
+    Passed::To(at + 1)
+}
+
+// The place behind the values of the attributes whose plan stands in the steps from an index on.
+fn follow<'d, 'p>(
+    doc: &'d [u8],
+    at: usize,
+    end: usize,
+    steps: &'p [u16; 4160],
+    from: usize,
+) -> Passed
+    requires { ⌜ (at ≤ end) × (end ≤ length (now doc)) × (length (now doc) ≤ 1048576) × Plan (now steps) from ⌝ }
+    ensures { λ r. ⌜ Follows (now (doc .entry)) at end (now (steps .entry)) from r ⌝ }
+{
+    let mut pos = at;
+    let mut j = from;
+    loop {
+        let step = wide(steps[j]);
+        let place = pos + step / 4;
+        let kind = step % 4;
+        if kind == 0 {
+            if end < place {
+                return Passed::Unsure;
+            }
+            return Passed::To(place);
+        }
+        j += 1;
+        let closed = close_end(doc, place, end, kind);
+        match closed {
+            Passed::Unsure => {
+                return Passed::Unsure;
+            }
+            Passed::To(next) => {
+                pos = next;
+            }
+        }
+    }
+}
+
+// The index of a number among those known: the index that was last, or the one behind it, or the first that is found; all known where there is none.
+fn index_of(numbers: &[u32; 64], known: usize, last: usize, number: u32) -> usize
+    requires { ⌜ known ≤ 64 ⌝ }
+    ensures { λ r. ⌜ (r < known → getD (now (numbers .entry)) r 0 ≡ number) ⌝ }
+{
+    if last < known {
+        if numbers[last] == number {
+            return last;
+        }
+        if last + 1 < known {
+            if numbers[last + 1] == number {
+                return last + 1;
+            }
+        }
+    }
+    let mut i = 0;
+    while i < known {
+        if numbers[i] == number {
+            return i;
+        }
+        i += 1;
+    }
+    known
+}
+
+// The place behind a row's values, from its length on.
+fn values_to<'d, 'p>(doc: &'d [u8], at: usize, steps: &'p [u16; 4160], from: usize) -> Passed
+    requires { ⌜ (at + 4 ≤ length (now doc)) × (length (now doc) ≤ 1048576) × Plan (now steps) from ⌝ }
+    ensures { λ r. ⌜ Lasts (now (doc .entry)) at (now (steps .entry)) from r ⌝ }
+{
+    let size = octets::u32_at(doc, at);
+    if size == 0xffff_ffff {
+        return follow(doc, at + 4, doc.len(), steps, from);
+    }
+    let end = at + 4 + (size as usize);
+    if doc.len() < end {
+        return Passed::Unsure;
+    }
+    let passed = follow(doc, at + 4, end, steps, from);
+    match passed {
+        Passed::Unsure => Passed::Unsure,
+        Passed::To(next) => {
+            if next != end {
+                return Passed::Unsure;
+            }
+            Passed::To(next)
+        }
+    }
+}
+
+// The row at a place, passed by the plan of its layout.
+pub fn quick_row<'d, 'n, 'p>(
+    doc: &'d [u8],
+    at: usize,
+    numbers: &'n [u32; 64],
+    steps: &'p [u16; 4160],
+    known: usize,
+    last: usize,
+) -> Quick
+    requires { ⌜ (at ≤ length (now doc)) × (length (now doc) ≤ 1048576) × Plans (now numbers) (now steps) known ⌝ }
+    ensures { λ r. ⌜ ((book : Book) → Planned (now (numbers .entry)) (now (steps .entry)) known book → Passes (now (doc .entry)) at book known r) ⌝ }
+{
+    if doc.len() < at + 12 {
+        return Quick::Unsure;
+    }
+    if octets::u32_at(doc, at) != 2 {
+        return Quick::Unsure;
+    }
+    let i = index_of(numbers, known, last, octets::u32_at(doc, at + 4));
+    if known <= i {
+        return Quick::Unsure;
+    }
+    let passed = values_to(doc, at + 8, steps, i * 65);
+    match passed {
+        Passed::Unsure => Quick::Unsure,
+        Passed::To(next) => Quick::Row(next, i),
+    }
+}
+
+// Makes the plan of the layout whose number stands at a place of a document, where there is room for one more; how many plans there are then.
+pub fn note<'d, 'n, 'p>(
+    doc: &'d [u8],
+    at: usize,
+    numbers: &'n mut [u32; 64],
+    steps: &'p mut [u16; 4160],
+    known: usize,
+) -> usize
+    requires { ⌜ (length (now doc) ≤ 1048576) × (isOk (layoutAt (now doc) at) ≡ true) × (length (now steps) ≡ 4160) ⌝ }
+    ensures { λ r. ⌜ ((l : Layout) (end : ℕ) (book : Book) → layoutAt (now (doc .entry)) at ≡ ok l end → find (l .number) book ≡ some l → Planned (now (numbers .entry)) (now (steps .entry)) known book → Planned (now (numbers .exit)) (now (steps .exit)) r book) ⌝ }
+{
+    let counted = layouts::attributes_at(doc, at);
+    let count = octets::u32_at(doc, counted);
+    if 64 <= known {
+        return known;
+    }
+    if 64 < count {
+        return known;
+    }
+    numbers[known] = layouts::layout_number(doc, at);
+    put_plan(doc, counted + 4, count, steps, known * 65);
+    known + 1
+}
