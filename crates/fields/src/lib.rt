@@ -128,7 +128,13 @@ pub fn room_of(len: usize) -> usize
 }
 
 // Three runs of octets put one behind another at a place, where they fit in the room.
-pub fn put_runs<'b, 'h, 'x, 't>(buf: &'b mut [u8], at: usize, head: &'h [u8], body: &'x [u8], tail: &'t [u8]) -> Put
+pub fn put_runs<'b, 'h, 'x, 't>(
+    buf: &'b mut [u8],
+    at: usize,
+    head: &'h [u8],
+    body: &'x [u8],
+    tail: &'t [u8],
+) -> Put
     requires { ⌜ at ≤ min (length (now buf)) 1048576 ⌝ }
     ensures { λ r. ⌜ Puts (now (buf .entry)) (now (buf .exit)) at (now (head .entry) ++ (now (body .entry) ++ now (tail .entry))) r ⌝ }
 {
@@ -305,7 +311,14 @@ pub fn enter<'b, 'f, 'l>(
 }
 
 // The octets that complete the layout whose number stands at a place: 10 and 11, the room, the octets, and the layout in the book.
-pub fn complete<'b, 'k, 'l>(buf: &'b mut [u8], book: &'k mut [u8], used: usize, from: usize, at: usize, last: &'l [u8]) -> Completed
+pub fn complete<'b, 'k, 'l>(
+    buf: &'b mut [u8],
+    book: &'k mut [u8],
+    used: usize,
+    from: usize,
+    at: usize,
+    last: &'l [u8],
+) -> Completed
     requires { ⌜ IsBook (now book) used × (from + 4 ≤ at) × (at ≤ min (length (now buf)) 1048576) ⌝ }
     ensures { λ r. ⌜ Completes (now (buf .entry)) (now (buf .exit)) (now (book .entry)) (now (book .exit)) used from at (now (last .entry)) r ⌝ }
 {

@@ -27,9 +27,11 @@ returns c =
     let f = c .before in
     let r = f .before in
     let i = r .before .before .before .before .before in
-    let a = i .args in
-    (tested (now (a .buf)) (now (a .head)) (now (a .body)) (now (a .tail)) (a .at) (r .room-of .result) (f .fits2 .result) (i .pre) (r .room-of .ensures) (f .fits2 .ensures)
-    ∙ not-true _ (c .if1 .taken), refl)
+    let a = i .args in (
+      tested (now (a .buf)) (now (a .head)) (now (a .body)) (now (a .tail)) (a .at) (r .room-of .result) (f .fits2 .result) (i .pre) (r .room-of .ensures) (f .fits2 .ensures)
+          ∙ not-true _ (c .if1 .taken),
+      refl,
+    )
 
 lay3-requires : tie.Need-lay3-requires
 lay3-requires c κs =
@@ -47,9 +49,12 @@ returns-2 c =
     let f = n .before in
     let r = f .before in
     let i = r .before .before .before .before .before in
-    let a = i .args in
-    (tested (now (a .buf)) (now (a .head)) (now (a .body)) (now (a .tail)) (a .at) (r .room-of .result) (f .fits2 .result) (i .pre) (r .room-of .ensures) (f .fits2 .ensures)
-    ∙ not-false _ (n .if1 .left), d .lay3 .ensures .0, d .lay3 .ensures .1)
+    let a = i .args in (
+      tested (now (a .buf)) (now (a .head)) (now (a .body)) (now (a .tail)) (a .at) (r .room-of .result) (f .fits2 .result) (i .pre) (r .room-of .ensures) (f .fits2 .ensures)
+          ∙ not-false _ (n .if1 .left),
+      d .lay3 .ensures .0,
+      d .lay3 .ensures .1,
+    )
 
 pub put-runs-spec : {M : Type 1} → statement M
 put-runs-spec =
