@@ -1,21 +1,33 @@
 -- What the answers about a field say.
-use Prim.Native.Nat.{ℕ, _+_}
-use mathlib.Core.List.{List, [], _∷_}
-use mathlib.Core.Bool.{_&&_}
+use Prim.Native.Nat.{ℕ, _+_, _-_, min}
+use mathlib.Core.Path.{_≡_}
+use mathlib.Core.List.{List, [], _∷_, _++_}
+use mathlib.Core.Bool.{true, false, _&&_}
 use mathlib.Core.Option.{Option, some, none}
-use lib.ListN.{length, drop}
+use lib.ListN.{length, take, drop}
 use lib.Dec.{leb, ltb}
 use Rattle.octets.specs.Reading.{Read, ok, no, choose, be, same}
+use Rattle.octets.specs.Writing.{over}
 use Rattle.layouts.specs.Layout.{Attribute, Layout, layoutImage}
-use Rattle.layouts.specs.Book.{Book, find}
+use Rattle.layouts.specs.Book.{Book, find, bookIn}
 use Rattle.layouts.specs.declared.Learning.{Learning}
 use Rattle.layouts.specs.declared.Learning.the-variants.{Known, New, Refused}
+use Rattle.fields.specs.declared.Put.{Put}
+use Rattle.fields.specs.declared.Put.the-variants.{To, Full}
+use Rattle.fields.specs.declared.Completed.{Completed}
+use Rattle.fields.specs.declared.Completed.the-variants as completed
 use Rattle.fields.specs.declared.Fault.{Fault}
 use Rattle.fields.specs.declared.Fault.the-variants.{None, Is}
 use Rattle.fields.specs.declared.Next.{Next}
 use Rattle.fields.specs.declared.Next.the-variants as next
 use Rattle.fields.specs.declared.Counting.{Counting}
 use Rattle.fields.specs.declared.Counting.the-variants as counting
+
+-- Octets that fit in the room are laid from the place on; others leave everything.
+abbrev pub Puts : List ℕ → List ℕ → ℕ → List ℕ → Put → Type 0
+Puts buffer after at xs (To next) =
+    (leb (at + length xs) (min (length buffer) 1048576) ≡ true) × (next ≡ at + length xs) × (after ≡ over buffer at xs)
+Puts buffer after at xs Full = (leb (at + length xs) (min (length buffer) 1048576) ≡ false) × (after ≡ buffer)
 
 -- A test passed, or its refusal, which gets its place from the call.
 abbrev pub says : Fault → Read (Unit {0})
@@ -54,3 +66,18 @@ abbrev pub added : Learning → List ℕ → List ℕ
 added Known xs = []
 added (New v) xs = xs
 added (Refused n) xs = []
+
+-- A layout's octets from its number on, of which the last are still to be put.
+abbrev pub whole : List ℕ → ℕ → ℕ → List ℕ → List ℕ
+whole buffer from at xs = take (at - from) (drop from buffer) ++ xs
+
+-- What completing a layout answers and leaves.
+abbrev pub Completes : (buffer after lent held : List ℕ) → ℕ → ℕ → ℕ → List ℕ → Completed → Type 0
+Completes buffer after lent held used from at xs (completed.Done next total) =
+    (refusal (learning (bookIn lent used) used (whole buffer from at xs)) ≡ ok tt 0) × Puts buffer after at xs (To next)
+    × (total ≡ used + length (added (learning (bookIn lent used) used (whole buffer from at xs)) (whole buffer from at xs)))
+    × (held ≡ over lent used (added (learning (bookIn lent used) used (whole buffer from at xs)) (whole buffer from at xs)))
+Completes buffer after lent held used from at xs completed.Full =
+    (refusal (learning (bookIn lent used) used (whole buffer from at xs)) ≡ ok tt 0) × Puts buffer after at xs Full × (held ≡ lent)
+Completes buffer after lent held used from at xs (completed.Refused n) =
+    (refusal (learning (bookIn lent used) used (whole buffer from at xs)) ≡ no n 0) × (after ≡ buffer) × (held ≡ lent)

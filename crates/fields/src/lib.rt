@@ -2,19 +2,33 @@
 
 ghost use mathlib.Core.Path.{_≡_};
 ghost use mathlib.Core.List.{_++_};
-ghost use Prim.Native.Nat.{ℕ, _+_, _^_, _≤_};
+ghost use Prim.Native.Nat.{ℕ, _+_, _-_, _^_, _≤_, min};
 ghost use lib.ListN.{length, drop, replicate};
 ghost use lib.Dec.{leb, ltb};
-ghost use Rattle.octets.specs.Reading.{ok, same};
+ghost use Rattle.octets.specs.Reading.{ok, be, same};
 ghost use Rattle.octets.specs.Writing.{word, over};
 ghost use Rattle.layouts.specs.Layout.{Layout, layoutAt, layoutImage};
 ghost use Rattle.layouts.specs.Book.{find, bookIn, IsBook};
 ghost use Rattle.layouts.specs.Answers.{Reads};
-ghost use Rattle.fields.specs.Answers.{says, firstOf, nextOf, countOf, learning, refusal, added};
+ghost use Rattle.rows.specs.Row.{lengthImage};
+ghost use Rattle.fields.specs.Answers.{Puts, Completes, says, firstOf, nextOf, countOf, learning, refusal, added};
 use kinds::Basic;
 use layouts::Found;
 use layouts::Learning;
 use layouts::Looked;
+
+// Octets put, with the place behind them; or that they do not fit in the room.
+pub enum Put {
+    To(usize),
+    Full,
+}
+
+// A layout completed, with the place behind it and the used count; or that its last octets do not fit in the room; or its refusal.
+pub enum Completed {
+    Done(usize, usize),
+    Full,
+    Refused(u32),
+}
 
 // Nothing against a call so far, or a refusal's number.
 pub enum Fault {
@@ -106,6 +120,31 @@ pub fn lay3<'h, 'x, 't, 'b>(
     octets::lay(buf, b, tail)
 }
 
+// The room in a buffer of so many octets.
+pub fn room_of(len: usize) -> usize
+    ensures { λ r. ⌜ r ≡ min len 1048576 ⌝ }
+{
+    if len < 1048576 { len } else { 1048576 }
+}
+
+// Three runs of octets put one behind another at a place, where they fit in the room.
+pub fn put_runs<'b, 'h, 'x, 't>(
+    buf: &'b mut [u8],
+    at: usize,
+    head: &'h [u8],
+    body: &'x [u8],
+    tail: &'t [u8],
+) -> Put
+    requires { ⌜ at ≤ min (length (now buf)) 1048576 ⌝ }
+    ensures { λ r. ⌜ Puts (now (buf .entry)) (now (buf .exit)) at (now (head .entry) ++ (now (body .entry) ++ now (tail .entry))) r ⌝ }
+{
+    let room = room_of(buf.len());
+    if !fits(room - at, head.len(), body.len(), tail.len()) {
+        return Put::Full;
+    }
+    Put::To(lay3(buf, at, head, body, tail))
+}
+
 // So many octets of zero put at the start of the rest that is lent.
 fn put_zeros(rest: &mut [u8], n: usize)
     requires { ⌜ n ≤ length (now rest) ⌝ }
@@ -161,6 +200,42 @@ pub fn count_of(book: &[u8], used: usize, number: u32) -> Counting
         Found::At(p) => Counting::Has(layouts::attribute_count(&book[..used], p)),
         Found::Nothing => Counting::Unknown,
     }
+}
+
+// Field n of the row that starts at a place of a buffer, by the number of its layout that stands there.
+pub fn row_next<'b, 'k>(buf: &'b [u8], start: usize, book: &'k [u8], used: usize, n: u32) -> Next
+    requires { ⌜ (start + 8 ≤ length (now buf)) × IsBook (now book) used ⌝ }
+    ensures { λ r. ⌜ r ≡ nextOf (find (be 4 (now (buf .entry)) (start + 4)) (bookIn (now (book .entry)) used)) n ⌝ }
+{
+    next_of(book, used, octets::u32_at(buf, start + 4), n)
+}
+
+// The count of fields of the row that starts at a place of a buffer.
+pub fn row_count<'b, 'k>(buf: &'b [u8], start: usize, book: &'k [u8], used: usize) -> Counting
+    requires { ⌜ (start + 8 ≤ length (now buf)) × IsBook (now book) used ⌝ }
+    ensures { λ r. ⌜ r ≡ countOf (find (be 4 (now (buf .entry)) (start + 4)) (bookIn (now (book .entry)) used)) ⌝ }
+{
+    count_of(book, used, octets::u32_at(buf, start + 4))
+}
+
+// A row's length: stated by so many octets, or the four octets FF.
+pub fn length_octets(stated: bool, size: usize) -> [u8; 4]
+    ensures { λ r. ⌜ r ≡ lengthImage stated size ⌝ }
+{
+    if stated {
+        return word4(size as u64);
+    }
+    octets::OPEN
+}
+
+// The length of the row that starts at a place and ends at another, laid where it stands; one that is not stated stays so.
+pub fn lay_length(buf: &mut [u8], start: usize, end: usize)
+    requires { ⌜ (start + 12 ≤ end) × (end ≤ length (now buf)) ⌝ }
+    ensures { λ _. ⌜ now (buf .exit) ≡ over (now (buf .entry)) (start + 8) (lengthImage (ltb (be 4 (now (buf .entry)) (start + 8)) 0xffffffff) (end - (start + 12))) ⌝ }
+{
+    let stands = octets::u32_at(buf, start + 8);
+    let size = length_octets(stands < 0xffff_ffff, end - (start + 12));
+    octets::lay(buf, start + 8, &size);
 }
 
 // Whether the layout at a place is two runs of octets, one behind the other, compared where they stand.
@@ -233,4 +308,30 @@ pub fn enter<'b, 'f, 'l>(
         Learning::New(v) => lay3(book, used, front, last, b""),
         Learning::Refused(n) => used,
     }
+}
+
+// The octets that complete the layout whose number stands at a place: 10 and 11, the room, the octets, and the layout in the book.
+pub fn complete<'b, 'k, 'l>(
+    buf: &'b mut [u8],
+    book: &'k mut [u8],
+    used: usize,
+    from: usize,
+    at: usize,
+    last: &'l [u8],
+) -> Completed
+    requires { ⌜ IsBook (now book) used × (from + 4 ≤ at) × (at ≤ min (length (now buf)) 1048576) ⌝ }
+    ensures { λ r. ⌜ Completes (now (buf .entry)) (now (buf .exit)) (now (book .entry)) (now (book .exit)) used from at (now (last .entry)) r ⌝ }
+{
+    let learning = meet(book, used, &buf[from..at], last);
+    let fault = refusal_of(learning);
+    if let Fault::Is(n) = fault {
+        return Completed::Refused(n);
+    }
+    let room = room_of(buf.len());
+    if room - at < last.len() {
+        return Completed::Full;
+    }
+    let total = enter(book, used, learning, &buf[from..at], last);
+    let next = octets::lay(buf, at, last);
+    Completed::Done(next, total)
 }

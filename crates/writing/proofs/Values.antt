@@ -1,17 +1,22 @@
 -- Values and the closing of a row: their own faults by what the book was asked, and a number's octets by its width. Assumes nothing.
-use mathlib.Core.Path.{_≡_, refl, sym, _∙_}
-use mathlib.Core.List.{List, [], _∷_}
+use mathlib.Core.Path.{_≡_, refl, sym, ap, _∙_}
+use mathlib.Core.List.{List, [], _∷_, _++_}
 use mathlib.Core.Bool.{Bool, true, false, _&&_}
 use mathlib.Core.Option.{Option, some, none}
-use Prim.Native.Nat.{ℕ, _+_, _-_, _≤_}
+use Prim.Native.Nat.{ℕ, zero, suc, _+_, _-_, _/_, _%_, _≤_}
 use native.Mathlib.Omega.{arith}
-use lib.ListN.{length, drop}
+use native.Mathlib.Nat.{add-zero, add-suc}
+use lib.ListN.{length, take, drop, drop-of-length-le}
+use lib.Seq.{drop-append-le}
 use lib.Dec.{leb, eqb}
 use Rattle.octets.specs.Reading.{no, _then_}
 use Rattle.octets.specs.Writing.{word, Each, Octet}
 use Rattle.octets.proofs.Spans.{length-word}
+use Rattle.octets.proofs.Copies.{rest}
 use Rattle.kinds.specs.declared.Basic.{Basic}
 use Rattle.kinds.specs.declared.Basic.the-variants as basic
+use Rattle.kinds.specs.declared.Form.{Form}
+use Rattle.kinds.specs.declared.Form.the-variants as form
 use Rattle.kinds.specs.Kinds.{codeOf, formOf}
 use Rattle.layouts.specs.Layout.{Attribute, Layout}
 use Rattle.layouts.specs.Book.{IsBook}
@@ -57,21 +62,26 @@ length-size true n = length-word 4 n
 length-size false n = length-word 4 0xffffffff
 
 -- A number's own octets are the last of its eight.
-pub last-octets : (b : Basic) (n : ℕ) → drop (8 - widthOf (formOf b)) (word 8 n) ≡ valueImage (formOf b) (bits n)
+last-octets : (w k n : ℕ) → drop k (word (k + w) n) ≡ word w n
 unfolding word
-last-octets basic.Int n = refl
-last-octets basic.UnsignedInt n = refl
-last-octets basic.Long n = refl
-last-octets basic.UnsignedLong n = refl
-last-octets basic.Float n = refl
-last-octets basic.Double n = refl
-last-octets basic.HexBinary n = refl
-last-octets basic.String n = refl
-last-octets basic.Boolean n = refl
-last-octets basic.Byte n = refl
-last-octets basic.UnsignedByte n = refl
-last-octets basic.Short n = refl
-last-octets basic.UnsignedShort n = refl
+last-octets zero k n = rw (add-zero k) (drop-of-length-le (word k n) {i = k} (omega (arith, length-word k n)))
+last-octets (suc w) k n =
+    rw (add-suc k w, drop-append-le k (word (k + w) (n / 256)) (n % 256 ∷ []) (omega (arith, length-word (k + w) (n / 256))))
+    (ap (λ (xs : List ℕ). xs ++ n % 256 ∷ []) (last-octets w k (n / 256)))
+
+pub number-octets : (w n : ℕ) {h : List ℕ} → w ≤ 8 → h ≡ word 8 n → take (8 - (8 - w)) (drop (8 - w) h) ≡ word w n
+number-octets w n {h} k e =
+    let long : 8 ≡ length h = sym (rw e (length-word 8 n)) in
+    let eight : 8 ≡ 8 - w + w = omega arith in
+    ap (λ (m : ℕ). take (m - (8 - w)) (drop (8 - w) h)) long
+    ∙ (rest h (8 - w) ∙ rw e (ap (λ (m : ℕ). drop (8 - w) (word m n)) eight ∙ last-octets w (8 - w) n))
+
+pub number-image : (f : Form) (n : ℕ) → word (widthOf f) n ≡ valueImage f (bits n)
+unfolding word
+number-image (form.Fixed w) n = refl
+number-image form.Truth n = refl
+number-image form.Octets n = refl
+number-image form.Text n = refl
 
 pub width-most : (b : Basic) → widthOf (formOf b) ≤ 8
 width-most basic.Int = omega arith

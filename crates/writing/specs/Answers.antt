@@ -9,16 +9,14 @@ use Rattle.kinds.specs.declared.Form.{Form}
 use Rattle.kinds.specs.declared.Form.the-variants as form
 use Rattle.kinds.specs.Kinds.{codeOf}
 use Rattle.layouts.specs.Book.{bookIn}
-use Rattle.fields.specs.Answers.{says}
 use Rattle.fields.specs.declared.Next.{Next}
 use Rattle.fields.specs.declared.Next.the-variants as next
 use Rattle.fields.specs.declared.Counting.{Counting}
 use Rattle.fields.specs.declared.Counting.the-variants as counting
 use Rattle.writing.specs.declared.State.{State}
-use Rattle.writing.specs.declared.Field.{Field}
 use Rattle.writing.specs.declared.Answer.{Answer}
 use Rattle.writing.specs.declared.Answer.the-variants.{Done, Refused}
-use Rattle.writing.specs.Writer.{Call, Written, Deed, unless, put, does, tried, placed, answered}
+use Rattle.writing.specs.Writer.{Call, Written, Deed, unless, does, tried, placed, answered}
 
 pub record Left : Type 0 where
   pub answer : Answer
@@ -43,10 +41,6 @@ leavesOn s buffer lent used d = told (placed (s .place) (tried s buffer lent use
 -- All that one call answers and leaves.
 unfoldable pub leaves : State → List ℕ → List ℕ → ℕ → Call → Left
 leaves s buffer lent used c = leavesOf s buffer lent used (does s buffer (bookIn lent used) c)
-
--- The deed of a field that puts octets.
-abbrev pub deedOf : State → Field → List ℕ → Deed
-deedOf s f xs = put s (f .turn) (says (f .fault)) xs (f .next) (f .count) (f .start)
 
 -- The octets of a number of a form.
 abbrev pub widthOf : Form → ℕ

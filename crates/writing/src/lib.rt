@@ -3,23 +3,24 @@
 ghost use mathlib.Core.Path.{_≡_};
 ghost use mathlib.Core.Bool.{true};
 ghost use mathlib.Core.List.{List, _++_};
-ghost use Prim.Native.Nat.{ℕ, _+_, _-_, _≤_};
+ghost use Prim.Native.Nat.{ℕ, _-_, _≤_};
 ghost use lib.ListN.{length};
 ghost use lib.Dec.{leb, eqb};
 ghost use Rattle.octets.specs.Reading.{_then_};
 ghost use Rattle.octets.specs.Writing.{word, textImage};
 ghost use Rattle.kinds.specs.Kinds.{formOf, kindOf};
 ghost use Rattle.layouts.specs.Book.{find, bookIn, IsBook};
-ghost use Rattle.rows.specs.Row.{Value, bits, held, valueImage, lengthImage};
+ghost use Rattle.rows.specs.Row.{Value, bits, held, valueImage};
 ghost use Rattle.fields.specs.Answers.{says};
-ghost use Rattle.writing.specs.declared.Turn.{Turn};
-ghost use Rattle.writing.specs.Writer.{fresh, room, rule, sameTurn, isOpen, bounded, fine, unless, turnAt, known, suits, attributes, does, early};
+ghost use Rattle.writing.specs.Writer.{fresh, room, rule, sameTurn, isOpen, bounded, fine, unless, put, puts, attributes, turnAt, known, suits, early};
 ghost use Rattle.writing.specs.Writer.{recorder, startTime, defaultNamespace, namespaceCount, uri, shortName, serviceCount, service, documentId};
 ghost use Rattle.writing.specs.Writer.{openLayout, typeName, attributeCount, attributeName, attributeType, openRow, value, closeRow, giveUp, finish};
-ghost use Rattle.writing.specs.Answers.{left, leavesOf, leavesOn, leaves, deedOf, widthOf, valueFault, closeFault};
+ghost use Rattle.writing.specs.Answers.{left, leavesOf, leavesOn, leaves, widthOf, valueFault, closeFault};
+use fields::Completed;
 use fields::Counting;
 use fields::Fault;
 use fields::Next;
+use fields::Put;
 use kinds::Basic;
 use kinds::Form;
 use kinds::Typed;
@@ -68,15 +69,6 @@ pub struct Rule {
     pub head: usize,
 }
 
-// A field's turn and its own fault; the turn and the count that follow it, and where the open element starts.
-pub struct Field {
-    pub turn: Turn,
-    pub fault: Fault,
-    pub next: Turn,
-    pub count: u32,
-    pub start: usize,
-}
-
 fn line(number: u32, least: u32, most: u32, head: usize) -> Rule
     ensures { λ r. ⌜ (r .number ≡ number) × (r .least ≡ least) × (r .most ≡ most) × (r .head ≡ head) ⌝ }
 {
@@ -112,13 +104,6 @@ fn rule_of(t: Turn) -> Rule
     }
 }
 
-// The room in a buffer of so many octets.
-fn room_of(len: usize) -> usize
-    ensures { λ r. ⌜ r ≡ room len ⌝ }
-{
-    if len < 1048576 { len } else { 1048576 }
-}
-
 // Whether two turns are the same.
 fn same_turn(t: Turn, u: Turn) -> bool
     ensures { λ r. ⌜ r ≡ sameTurn t u ⌝ }
@@ -141,7 +126,7 @@ fn in_bounds(s: State, len: usize) -> bool
     let least = rule.least;
     let most = rule.most;
     let head = rule.head;
-    let room = room_of(len);
+    let room = fields::room_of(len);
     if room < place {
         return false;
     }
@@ -176,83 +161,164 @@ fn ready(s: State, len: usize, book: &[u8], used: usize, mine: bool) -> Fault
     if mine { Fault::None } else { Fault::Is(20) }
 }
 
-// Behind 17 and 20, a field that completes no layout: its own fault, 23, its octets behind those written.
+// Behind 17 and 20, octets that complete no layout: the call's own fault, 23, and the octets behind those written. What follows is a turn, a count, and where the open element starts.
 fn give_on(
     s: State,
     buf: &mut [u8],
     used: usize,
-    field: Field,
+    fault: Fault,
     head: &[u8],
     body: &[u8],
     tail: &[u8],
+    next: Turn,
+    count: u32,
+    start: usize,
 ) -> Answer
     requires { ⌜ s .place ≤ room (length (now buf)) ⌝ }
-    ensures { λ r. ⌜ ((lent : List ℕ) → left r (now (buf .exit)) lent ≡ leavesOn s (now (buf .entry)) lent used (deedOf s field (now (head .entry) ++ (now (body .entry) ++ now (tail .entry))))) ⌝ }
+    ensures { λ r. ⌜ ((turn : Turn) (lent : List ℕ) → left r (now (buf .exit)) lent ≡ leavesOn s (now (buf .entry)) lent used (put s turn (says fault) (now (head .entry) ++ (now (body .entry) ++ now (tail .entry))) next count start)) ⌝ }
 {
     let place = s.place;
     let rows = s.rows;
-    let fault = field.fault;
-    let turn = field.next;
-    let count = field.count;
-    let start = field.start;
     if let Fault::Is(n) = fault {
         return Answer::Refused(n, place);
     }
-    let room = room_of(buf.len());
-    if !fields::fits(room - place, head.len(), body.len(), tail.len()) {
-        return Answer::Refused(23, place);
+    let to = fields::put_runs(buf, place, head, body, tail);
+    match to {
+        Put::To(end) => Answer::Done(
+            State {
+                place: end,
+                turn: next,
+                count,
+                start,
+                rows,
+            },
+            used,
+        ),
+        Put::Full => Answer::Refused(23, place),
     }
-    let next = fields::lay3(buf, place, head, body, tail);
-    Answer::Done(
-        State {
-            place: next,
-            turn,
-            count,
-            start,
-            rows,
-        },
-        used,
-    )
 }
 
-// A field that completes no layout.
+// Octets in a turn that complete no layout, and what follows them.
 fn give(
     s: State,
     buf: &mut [u8],
     book: &[u8],
     used: usize,
-    field: Field,
+    turn: Turn,
+    fault: Fault,
     head: &[u8],
     body: &[u8],
     tail: &[u8],
+    next: Turn,
+    count: u32,
+    start: usize,
 ) -> Answer
-    ensures { λ r. ⌜ left r (now (buf .exit)) (now (book .entry)) ≡ leavesOf s (now (buf .entry)) (now (book .entry)) used (deedOf s field (now (head .entry) ++ (now (body .entry) ++ now (tail .entry)))) ⌝ }
+    ensures { λ r. ⌜ left r (now (buf .exit)) (now (book .entry)) ≡ leavesOf s (now (buf .entry)) (now (book .entry)) used (put s turn (says fault) (now (head .entry) ++ (now (body .entry) ++ now (tail .entry))) next count start) ⌝ }
 {
     let place = s.place;
     let wanted = s.turn;
-    let turn = field.turn;
     let mine = same_turn(wanted, turn);
     let first = ready(s, buf.len(), book, used, mine);
     if let Fault::Is(n) = first {
         return Answer::Refused(n, place);
     }
-    give_on(s, buf, used, field, head, body, tail)
+    give_on(s, buf, used, fault, head, body, tail, next, count, start)
 }
 
-// A string that completes no layout.
-fn give_text(s: State, buf: &mut [u8], book: &[u8], used: usize, field: Field, xs: &[u8]) -> Answer
-    ensures { λ r. ⌜ left r (now (buf .exit)) (now (book .entry)) ≡ leavesOf s (now (buf .entry)) (now (book .entry)) used (deedOf s field (textImage (now (xs .entry)))) ⌝ }
+// A string.
+fn give_text(
+    s: State,
+    buf: &mut [u8],
+    book: &[u8],
+    used: usize,
+    turn: Turn,
+    xs: &[u8],
+    next: Turn,
+    count: u32,
+) -> Answer
+    ensures { λ r. ⌜ left r (now (buf .exit)) (now (book .entry)) ≡ leavesOf s (now (buf .entry)) (now (book .entry)) used (puts s turn fine (textImage (now (xs .entry))) next count) ⌝ }
 {
     let head = fields::word4(xs.len() as u64);
-    give(s, buf, book, used, field, &head, xs, b"")
+    give(
+        s,
+        buf,
+        book,
+        used,
+        turn,
+        Fault::None,
+        &head,
+        xs,
+        b"",
+        next,
+        count,
+        s.start,
+    )
 }
 
-// A number of four octets that completes no layout.
-fn give_number(s: State, buf: &mut [u8], book: &[u8], used: usize, field: Field, n: u32) -> Answer
-    ensures { λ r. ⌜ left r (now (buf .exit)) (now (book .entry)) ≡ leavesOf s (now (buf .entry)) (now (book .entry)) used (deedOf s field (word 4 n)) ⌝ }
+// A number of w octets, with its own fault.
+fn give_number(
+    s: State,
+    buf: &mut [u8],
+    book: &[u8],
+    used: usize,
+    turn: Turn,
+    fault: Fault,
+    w: usize,
+    n: u64,
+    next: Turn,
+    count: u32,
+) -> Answer
+    requires { ⌜ w ≤ 8 ⌝ }
+    ensures { λ r. ⌜ left r (now (buf .exit)) (now (book .entry)) ≡ leavesOf s (now (buf .entry)) (now (book .entry)) used (puts s turn (says fault) (word w n) next count) ⌝ }
 {
-    let head = fields::word4(n as u64);
-    give(s, buf, book, used, field, &head, b"", b"")
+    let head = fields::word8(n);
+    let from = 8 - w;
+    give(
+        s,
+        buf,
+        book,
+        used,
+        turn,
+        fault,
+        &head[from..],
+        b"",
+        b"",
+        next,
+        count,
+        s.start,
+    )
+}
+
+// Two numbers of four octets and octets behind them, from which an element may start.
+fn give_pair(
+    s: State,
+    buf: &mut [u8],
+    book: &[u8],
+    used: usize,
+    turn: Turn,
+    a: u64,
+    b: u64,
+    xs: &[u8],
+    next: Turn,
+    start: usize,
+) -> Answer
+    ensures { λ r. ⌜ left r (now (buf .exit)) (now (book .entry)) ≡ leavesOf s (now (buf .entry)) (now (book .entry)) used (put s turn fine (word 4 a ++ word 4 b ++ now (xs .entry)) next 0 start) ⌝ }
+{
+    let head = fields::pair(a, b);
+    give(
+        s,
+        buf,
+        book,
+        used,
+        turn,
+        Fault::None,
+        &head,
+        xs,
+        b"",
+        next,
+        0,
+        start,
+    )
 }
 
 // 4 for a count over its limit.
@@ -300,230 +366,192 @@ pub fn fresh() -> State
 pub fn recorder(s: State, buf: &mut [u8], book: &[u8], used: usize, xs: &[u8]) -> Answer
     ensures { λ r. ⌜ left r (now (buf .exit)) (now (book .entry)) ≡ leaves s (now (buf .entry)) (now (book .entry)) used (recorder (now (xs .entry))) ⌝ }
 {
-    let start = s.start;
-    let field = Field {
-        turn: Turn::Recorder,
-        fault: Fault::None,
-        next: Turn::StartTime,
-        count: 0,
-        start,
-    };
-    let head = fields::pair(4, xs.len() as u64);
-    give(s, buf, book, used, field, &head, xs, b"")
+    give_pair(
+        s,
+        buf,
+        book,
+        used,
+        Turn::Recorder,
+        4,
+        xs.len() as u64,
+        xs,
+        Turn::StartTime,
+        s.start,
+    )
 }
 
 // The start time, by its bits.
 pub fn start_time(s: State, buf: &mut [u8], book: &[u8], used: usize, time: u64) -> Answer
     ensures { λ r. ⌜ left r (now (buf .exit)) (now (book .entry)) ≡ leaves s (now (buf .entry)) (now (book .entry)) used (startTime time) ⌝ }
 {
-    let start = s.start;
-    let field = Field {
-        turn: Turn::StartTime,
-        fault: Fault::None,
-        next: Turn::DefaultNamespace,
-        count: 0,
-        start,
-    };
-    let head = fields::word8(time);
-    give(s, buf, book, used, field, &head, b"", b"")
+    give_number(
+        s,
+        buf,
+        book,
+        used,
+        Turn::StartTime,
+        Fault::None,
+        8,
+        time,
+        Turn::DefaultNamespace,
+        0,
+    )
 }
 
 // The default namespace.
 pub fn default_namespace(s: State, buf: &mut [u8], book: &[u8], used: usize, xs: &[u8]) -> Answer
     ensures { λ r. ⌜ left r (now (buf .exit)) (now (book .entry)) ≡ leaves s (now (buf .entry)) (now (book .entry)) used (defaultNamespace (now (xs .entry))) ⌝ }
 {
-    let start = s.start;
-    let field = Field {
-        turn: Turn::DefaultNamespace,
-        fault: Fault::None,
-        next: Turn::NamespaceCount,
-        count: 0,
-        start,
-    };
-    give_text(s, buf, book, used, field, xs)
+    give_text(
+        s,
+        buf,
+        book,
+        used,
+        Turn::DefaultNamespace,
+        xs,
+        Turn::NamespaceCount,
+        0,
+    )
 }
 
 // The count of other namespaces.
 pub fn namespace_count(s: State, buf: &mut [u8], book: &[u8], used: usize, n: u32) -> Answer
     ensures { λ r. ⌜ left r (now (buf .exit)) (now (book .entry)) ≡ leaves s (now (buf .entry)) (now (book .entry)) used (namespaceCount n) ⌝ }
 {
-    let start = s.start;
     let fault = at_most(n, 16);
     let next = turn_at(n, Turn::Uri, Turn::ServiceCount);
-    let field = Field {
-        turn: Turn::NamespaceCount,
+    give_number(
+        s,
+        buf,
+        book,
+        used,
+        Turn::NamespaceCount,
         fault,
+        4,
+        n as u64,
         next,
-        count: n,
-        start,
-    };
-    give_number(s, buf, book, used, field, n)
+        n,
+    )
 }
 
 // A namespace's URI.
 pub fn uri(s: State, buf: &mut [u8], book: &[u8], used: usize, xs: &[u8]) -> Answer
     ensures { λ r. ⌜ left r (now (buf .exit)) (now (book .entry)) ≡ leaves s (now (buf .entry)) (now (book .entry)) used (uri (now (xs .entry))) ⌝ }
 {
-    let start = s.start;
-    let count = s.count;
-    let field = Field {
-        turn: Turn::Uri,
-        fault: Fault::None,
-        next: Turn::ShortName,
-        count,
-        start,
-    };
-    give_text(s, buf, book, used, field, xs)
+    give_text(s, buf, book, used, Turn::Uri, xs, Turn::ShortName, s.count)
 }
 
 // A namespace's short name.
 pub fn short_name(s: State, buf: &mut [u8], book: &[u8], used: usize, xs: &[u8]) -> Answer
     ensures { λ r. ⌜ left r (now (buf .exit)) (now (book .entry)) ≡ leaves s (now (buf .entry)) (now (book .entry)) used (shortName (now (xs .entry))) ⌝ }
 {
-    let start = s.start;
     let count = less_one(s.count);
     let next = turn_at(count, Turn::Uri, Turn::ServiceCount);
-    let field = Field {
-        turn: Turn::ShortName,
-        fault: Fault::None,
-        next,
-        count,
-        start,
-    };
-    give_text(s, buf, book, used, field, xs)
+    give_text(s, buf, book, used, Turn::ShortName, xs, next, count)
 }
 
 // The count of service definitions.
 pub fn service_count(s: State, buf: &mut [u8], book: &[u8], used: usize, n: u32) -> Answer
     ensures { λ r. ⌜ left r (now (buf .exit)) (now (book .entry)) ≡ leaves s (now (buf .entry)) (now (book .entry)) used (serviceCount n) ⌝ }
 {
-    let start = s.start;
     let fault = at_most(n, 16);
     let next = turn_at(n, Turn::Service, Turn::DocumentId);
-    let field = Field {
-        turn: Turn::ServiceCount,
+    give_number(
+        s,
+        buf,
+        book,
+        used,
+        Turn::ServiceCount,
         fault,
+        4,
+        n as u64,
         next,
-        count: n,
-        start,
-    };
-    give_number(s, buf, book, used, field, n)
+        n,
+    )
 }
 
 // A service definition.
 pub fn service(s: State, buf: &mut [u8], book: &[u8], used: usize, xs: &[u8]) -> Answer
     ensures { λ r. ⌜ left r (now (buf .exit)) (now (book .entry)) ≡ leaves s (now (buf .entry)) (now (book .entry)) used (service (now (xs .entry))) ⌝ }
 {
-    let start = s.start;
     let count = less_one(s.count);
     let next = turn_at(count, Turn::Service, Turn::DocumentId);
-    let field = Field {
-        turn: Turn::Service,
-        fault: Fault::None,
-        next,
-        count,
-        start,
-    };
-    give_text(s, buf, book, used, field, xs)
+    give_text(s, buf, book, used, Turn::Service, xs, next, count)
 }
 
 // The document id, and the four octets FF behind the header.
 pub fn document_id(s: State, buf: &mut [u8], book: &[u8], used: usize, xs: &[u8]) -> Answer
     ensures { λ r. ⌜ left r (now (buf .exit)) (now (book .entry)) ≡ leaves s (now (buf .entry)) (now (book .entry)) used (documentId (now (xs .entry))) ⌝ }
 {
-    let start = s.start;
     let fault = sixteen(xs.len());
-    let field = Field {
-        turn: Turn::DocumentId,
-        fault,
-        next: Turn::Element,
-        count: 0,
-        start,
-    };
     let head = fields::word4(16);
-    give(s, buf, book, used, field, &head, xs, &octets::OPEN)
+    give(
+        s,
+        buf,
+        book,
+        used,
+        Turn::DocumentId,
+        fault,
+        &head,
+        xs,
+        &octets::OPEN,
+        Turn::Element,
+        0,
+        s.start,
+    )
 }
 
 // A layout's kind and number.
 pub fn open_layout(s: State, buf: &mut [u8], book: &[u8], used: usize, n: u32) -> Answer
     ensures { λ r. ⌜ left r (now (buf .exit)) (now (book .entry)) ≡ leaves s (now (buf .entry)) (now (book .entry)) used (openLayout n) ⌝ }
 {
-    let place = s.place;
-    let field = Field {
-        turn: Turn::Element,
-        fault: Fault::None,
-        next: Turn::TypeName,
-        count: 0,
-        start: place,
-    };
-    let head = fields::pair(1, n as u64);
-    give(s, buf, book, used, field, &head, b"", b"")
+    give_pair(
+        s,
+        buf,
+        book,
+        used,
+        Turn::Element,
+        1,
+        n as u64,
+        b"",
+        Turn::TypeName,
+        s.place,
+    )
 }
 
 // A layout's type name.
 pub fn type_name(s: State, buf: &mut [u8], book: &[u8], used: usize, xs: &[u8]) -> Answer
     ensures { λ r. ⌜ left r (now (buf .exit)) (now (book .entry)) ≡ leaves s (now (buf .entry)) (now (book .entry)) used (typeName (now (xs .entry))) ⌝ }
 {
-    let start = s.start;
-    let field = Field {
-        turn: Turn::TypeName,
-        fault: Fault::None,
-        next: Turn::AttributeCount,
-        count: 0,
-        start,
-    };
-    give_text(s, buf, book, used, field, xs)
+    give_text(
+        s,
+        buf,
+        book,
+        used,
+        Turn::TypeName,
+        xs,
+        Turn::AttributeCount,
+        0,
+    )
 }
 
 // An attribute's name.
 pub fn attribute_name(s: State, buf: &mut [u8], book: &[u8], used: usize, xs: &[u8]) -> Answer
     ensures { λ r. ⌜ left r (now (buf .exit)) (now (book .entry)) ≡ leaves s (now (buf .entry)) (now (book .entry)) used (attributeName (now (xs .entry))) ⌝ }
 {
-    let start = s.start;
-    let count = s.count;
-    let field = Field {
-        turn: Turn::AttributeName,
-        fault: Fault::None,
-        next: Turn::AttributeType,
-        count,
-        start,
-    };
-    give_text(s, buf, book, used, field, xs)
-}
-
-// Behind 17, 20 and its own fault, the octets that complete a layout: 10 and 11, 23, the octets, and the layout in the book.
-fn complete_on(s: State, buf: &mut [u8], book: &mut [u8], used: usize, last: &[u8]) -> Answer
-    requires { ⌜ IsBook (now book) used × (s .start + 8 ≤ s .place) × (s .place ≤ room (length (now buf))) ⌝ }
-    ensures { λ r. ⌜ ((turn : Turn) → left r (now (buf .exit)) (now (book .exit)) ≡ leavesOn s (now (buf .entry)) (now (book .entry)) used (attributes s turn fine (now (last .entry)) 0)) ⌝ }
-{
-    let place = s.place;
-    let start = s.start;
-    let rows = s.rows;
-    let from = start + 4;
-    let learning = fields::meet(book, used, &buf[from..place], last);
-    let fault = fields::refusal_of(learning);
-    if let Fault::Is(n) = fault {
-        return Answer::Refused(n, place);
-    }
-    let room = room_of(buf.len());
-    if room - place < last.len() {
-        return Answer::Refused(23, place);
-    }
-    let total = fields::enter(book, used, learning, &buf[from..place], last);
-    let next = octets::lay(buf, place, last);
-    Answer::Done(
-        State {
-            place: next,
-            turn: Turn::Element,
-            count: 0,
-            start: 0,
-            rows,
-        },
-        total,
+    give_text(
+        s,
+        buf,
+        book,
+        used,
+        Turn::AttributeName,
+        xs,
+        Turn::AttributeType,
+        s.count,
     )
 }
 
-// Octets that complete a layout.
+// Octets in a turn that complete a layout.
 fn complete(
     s: State,
     buf: &mut [u8],
@@ -537,6 +565,8 @@ fn complete(
     ensures { λ r. ⌜ left r (now (buf .exit)) (now (book .exit)) ≡ leavesOf s (now (buf .entry)) (now (book .entry)) used (attributes s turn (says fault) (now (last .entry)) 0) ⌝ }
 {
     let place = s.place;
+    let start = s.start;
+    let rows = s.rows;
     let wanted = s.turn;
     let mine = same_turn(wanted, turn);
     let first = ready(s, buf.len(), book, used, mine);
@@ -546,7 +576,21 @@ fn complete(
     if let Fault::Is(n) = fault {
         return Answer::Refused(n, place);
     }
-    complete_on(s, buf, book, used, last)
+    let completed = fields::complete(buf, book, used, start + 4, place, last);
+    match completed {
+        Completed::Done(end, total) => Answer::Done(
+            State {
+                place: end,
+                turn: Turn::Element,
+                count: 0,
+                start: 0,
+                rows,
+            },
+            total,
+        ),
+        Completed::Full => Answer::Refused(23, place),
+        Completed::Refused(n) => Answer::Refused(n, place),
+    }
 }
 
 // A number of a layout, behind which so many attributes are still to come.
@@ -563,19 +607,22 @@ fn give_attribute(
     requires { ⌜ 8 ≤ rule turn .head ⌝ }
     ensures { λ r. ⌜ left r (now (buf .exit)) (now (book .exit)) ≡ leavesOf s (now (buf .entry)) (now (book .entry)) used (attributes s turn (says fault) (word 4 n) more) ⌝ }
 {
-    let start = s.start;
     if more == 0 {
         let last = fields::word4(n as u64);
         return complete(s, buf, book, used, turn, fault, &last);
     }
-    let field = Field {
+    give_number(
+        s,
+        buf,
+        book,
+        used,
         turn,
         fault,
-        next: Turn::AttributeName,
-        count: more,
-        start,
-    };
-    give_number(s, buf, book, used, field, n)
+        4,
+        n as u64,
+        Turn::AttributeName,
+        more,
+    )
 }
 
 // The count of a layout's attributes; with none the layout is complete.
@@ -618,16 +665,6 @@ fn layout_fault(book: &[u8], used: usize, n: u32) -> Fault
     }
 }
 
-// A row's length: stated by so many octets, or the four octets FF.
-fn length_word(stated: bool, size: usize) -> [u8; 4]
-    ensures { λ r. ⌜ r ≡ lengthImage stated size ⌝ }
-{
-    if stated {
-        return fields::word4(size as u64);
-    }
-    octets::OPEN
-}
-
 // A row's kind, its layout's number, and its length: as zero until the row is closed, or unstated.
 pub fn open_row(s: State, buf: &mut [u8], book: &[u8], used: usize, n: u32, stated: bool) -> Answer
     ensures { λ r. ⌜ left r (now (buf .exit)) (now (book .entry)) ≡ leaves s (now (buf .entry)) (now (book .entry)) used (openRow n stated) ⌝ }
@@ -640,16 +677,20 @@ pub fn open_row(s: State, buf: &mut [u8], book: &[u8], used: usize, n: u32, stat
         return Answer::Refused(k, place);
     }
     let fault = layout_fault(book, used, n);
-    let field = Field {
-        turn: Turn::Element,
-        fault,
-        next: Turn::Value,
-        count: 0,
-        start: place,
-    };
     let head = fields::pair(2, n as u64);
-    let body = length_word(stated, 0);
-    give_on(s, buf, used, field, &head, &body, b"")
+    let body = fields::length_octets(stated, 0);
+    give_on(
+        s,
+        buf,
+        used,
+        fault,
+        &head,
+        &body,
+        b"",
+        Turn::Value,
+        0,
+        place,
+    )
 }
 
 // 12 for a row whose layout is not in the book; 21 with no field left, or for a value that is not of the next field's type.
@@ -690,17 +731,20 @@ fn give_value(
     if let Fault::Is(n) = first {
         return Answer::Refused(n, place);
     }
-    let number = octets::u32_at(buf, start + 4);
-    let next = fields::next_of(book, used, number, count);
+    let next = fields::row_next(buf, start, book, used, count);
     let fault = value_fault(next, b, fits);
-    let field = Field {
-        turn: Turn::Value,
+    give_on(
+        s,
+        buf,
+        used,
         fault,
-        next: Turn::Value,
-        count: count + 1,
+        head,
+        body,
+        b"",
+        Turn::Value,
+        count + 1,
         start,
-    };
-    give_on(s, buf, used, field, head, body, b"")
+    )
 }
 
 // Whether a number is a value of a basic type.
@@ -784,24 +828,26 @@ fn close_fault(counting: Counting, count: u32) -> Fault
     }
 }
 
-// Behind 17 and 20, the open row closed: its length where it is stated, and the row counted.
-fn close_on(s: State, buf: &mut [u8], book: &[u8], used: usize) -> Answer
-    requires { ⌜ IsBook (now book) used × (s .start + 12 ≤ s .place) × (s .place ≤ room (length (now buf))) × (s .rows ≤ 1048576) ⌝ }
-    ensures { λ r. ⌜ left r (now (buf .exit)) (now (book .entry)) ≡ leavesOn s (now (buf .entry)) (now (book .entry)) used (does s (now (buf .entry)) (bookIn (now (book .entry)) used) closeRow) ⌝ }
+// The open row closed: its length where it is stated, and the row counted.
+pub fn close_row(s: State, buf: &mut [u8], book: &[u8], used: usize) -> Answer
+    ensures { λ r. ⌜ left r (now (buf .exit)) (now (book .entry)) ≡ leaves s (now (buf .entry)) (now (book .entry)) used closeRow ⌝ }
 {
     let place = s.place;
     let start = s.start;
     let count = s.count;
     let rows = s.rows;
-    let number = octets::u32_at(buf, start + 4);
-    let counting = fields::count_of(book, used, number);
+    let wanted = s.turn;
+    let mine = same_turn(wanted, Turn::Value);
+    let first = ready(s, buf.len(), book, used, mine);
+    if let Fault::Is(n) = first {
+        return Answer::Refused(n, place);
+    }
+    let counting = fields::row_count(buf, start, book, used);
     let fault = close_fault(counting, count);
     if let Fault::Is(n) = fault {
         return Answer::Refused(n, place);
     }
-    let stands = octets::u32_at(buf, start + 8);
-    let size = length_word(stands < 0xffff_ffff, place - (start + 12));
-    octets::lay(buf, start + 8, &size);
+    fields::lay_length(buf, start, place);
     Answer::Done(
         State {
             place,
@@ -812,20 +858,6 @@ fn close_on(s: State, buf: &mut [u8], book: &[u8], used: usize) -> Answer
         },
         used,
     )
-}
-
-// The open row closed.
-pub fn close_row(s: State, buf: &mut [u8], book: &[u8], used: usize) -> Answer
-    ensures { λ r. ⌜ left r (now (buf .exit)) (now (book .entry)) ≡ leaves s (now (buf .entry)) (now (book .entry)) used closeRow ⌝ }
-{
-    let place = s.place;
-    let wanted = s.turn;
-    let mine = same_turn(wanted, Turn::Value);
-    let first = ready(s, buf.len(), book, used, mine);
-    if let Fault::Is(n) = first {
-        return Answer::Refused(n, place);
-    }
-    close_on(s, buf, book, used)
 }
 
 // Whether a layout or a row is open.
@@ -866,16 +898,17 @@ pub fn give_up(s: State, buf: &mut [u8], book: &[u8], used: usize) -> Answer
 pub fn finish(s: State, buf: &mut [u8], book: &[u8], used: usize, time: u64) -> Answer
     ensures { λ r. ⌜ left r (now (buf .exit)) (now (book .entry)) ≡ leaves s (now (buf .entry)) (now (book .entry)) used (finish time) ⌝ }
 {
-    let start = s.start;
-    let rows = s.rows;
-    let field = Field {
-        turn: Turn::Element,
-        fault: Fault::None,
-        next: Turn::Nothing,
-        count: 0,
-        start,
-    };
-    let head = fields::pair(3, rows as u64);
     let body = fields::word8(time);
-    give(s, buf, book, used, field, &head, &body, b"")
+    give_pair(
+        s,
+        buf,
+        book,
+        used,
+        Turn::Element,
+        3,
+        s.rows as u64,
+        &body,
+        Turn::Nothing,
+        s.start,
+    )
 }

@@ -1,24 +1,30 @@
--- `writing::close_row` meets its contract: 17 and 20 first, then what is behind them. Assumes nothing.
+-- `writing::close_row` meets its contract: 17 and 20 first, then the fault, or the length laid where it stands. Assumes nothing.
 use borrow.Author.Needs.{needs}
-use Prim.Native.Nat.{ℕ}
-use mathlib.Core.Path.{_≡_, sym, ap, _∙_}
+use borrow.Author.Tests.{le-leb}
+use native.Mathlib.Omega.{arith}
+use Prim.Native.Nat.{ℕ, _+_, _-_, _≤_}
+use mathlib.Core.Path.{_≡_, refl, sym, ap, _∙_}
 use mathlib.Core.Bool.{Bool}
 use mathlib.Core.List.{List}
 use denote.Ref.{now}
 use lib.ListN.{length}
-use Rattle.octets.specs.Writing.{Each, Octet}
+use lib.Dec.{ltb}
+use Rattle.octets.specs.Reading.{be}
+use Rattle.octets.specs.Writing.{over, Each, Octet}
 use Rattle.octets.proofs.Spans.{each-octet}
-use Rattle.layouts.specs.Book.{bookIn}
-use Rattle.fields.specs.Answers.{says}
+use Rattle.layouts.specs.Book.{find, bookIn}
+use Rattle.rows.specs.Row.{lengthImage}
+use Rattle.fields.specs.Answers.{says, countOf}
+use Rattle.fields.specs.declared.Counting.{Counting}
 use Rattle.fields.specs.declared.Fault.{Fault}
 use Rattle.fields.specs.declared.Fault.the-variants.{None, Is}
 use Rattle.writing.specs.declared.Turn.the-variants as wants
 use Rattle.writing.specs.declared.State.{State}
-use Rattle.writing.specs.declared.Answer.the-variants.{Refused}
-use Rattle.writing.specs.Writer.{sameTurn, does, closeRow, early}
-use Rattle.writing.specs.Answers.{Left, left, leavesOn, leaves}
-use Rattle.writing.proofs.Tests.{stopped, passed, ready}
-use Rattle.writing.proofs.Values.{InRow, in-row}
+use Rattle.writing.specs.declared.Answer.the-variants.{Done, Refused}
+use Rattle.writing.specs.Writer.{room, sameTurn, between, rowLayout, does, closeRow, early}
+use Rattle.writing.specs.Answers.{left, leaves, closeFault}
+use Rattle.writing.proofs.Tests.{leaves-fault, leaves-put, stopped, passed, ready}
+use Rattle.writing.proofs.Values.{close-own, length-size, InRow, in-row}
 use Rattle.writing.proofs.close_row.Statement.{statement}
 use Rattle.writing.proofs.close_row.Tie as tie
 
@@ -31,9 +37,26 @@ module _ (s : State) (b l : List ℕ) (used : ℕ) (r : Fault) (mine : Bool) (is
     inside : Each Octet l → InRow s (length b) l used
     inside o = in-row s (length b) l used o own (ready s (length b) l used mine (sym is ∙ ap says e))
 
-    done : {y : Left} → y ≡ leavesOn s b l used (does s b (bookIn l used) closeRow) → y ≡ leaves s b l used closeRow
-    unfolding leaves does
-    done g = g ∙ sym (passed s b l used (does s b (bookIn l used) closeRow) r mine is own e)
+    module _ (f : Fault) {x : Counting} (j : x ≡ countOf (find (be 4 b (s .start + 4)) (bookIn l used))) (k : says f ≡ closeFault x (s .count)) where
+      fault : does s b (bookIn l used) closeRow .fault ≡ says f
+      unfolding does rowLayout
+      fault = sym (k ∙ rw j (close-own (find (be 4 b (s .start + 4)) (bookIn l used)) (s .count)))
+
+      refused : (m : ℕ) → f ≡ Is m → left (Refused m (s .place)) b l ≡ leaves s b l used closeRow
+      unfolding leaves does
+      refused m g =
+          sym (passed s b l used (does s b (bookIn l used) closeRow) r mine is own e ∙ leaves-fault s b l used (does s b (bookIn l used) closeRow) m 0 (fault ∙ ap says g))
+
+      done : f ≡ None → s .start + 12 ≤ s .place → s .place ≤ room (length b) → {y : List ℕ}
+          → y ≡ over b (s .start + 8) (lengthImage (ltb (be 4 b (s .start + 8)) 0xffffffff) (s .place - (s .start + 12)))
+          → left (Done (between (s .place) (s .rows + 1)) used) y l ≡ leaves s b l used closeRow
+      unfolding leaves does
+      done g h p q =
+          let stated : Bool = ltb (be 4 b (s .start + 8)) 0xffffffff in
+          let four = length-size stated (s .place - (s .start + 12)) in
+          rw q (sym (passed s b l used (does s b (bookIn l used) closeRow) r mine is own e
+          ∙ leaves-put s b l used (does s b (bookIn l used) closeRow) (fault ∙ ap says g) refl
+          (le-leb (s .start + 8 + length (lengthImage stated (s .place - (s .start + 12)))) (room (length b)) (omega arith))))
 
 returns : tie.Need-returns
 returns c =
@@ -43,28 +66,50 @@ returns c =
     let a = t .before .before .before .args in
     first (a .s) (now (a .buf)) (now (a .book)) (a .used) (r .ready .result) (t .same-turn .result) (r .ready .ensures) (t .same-turn .ensures) (f .first .given .0 .0) (f .first .given .1)
 
-close-on-requires : tie.Need-close-on-requires
-close-on-requires c κs =
-    let e = c .before in
+-- What holds where 17 and 20 are not given.
+behind : (e : tie.After-enum-told) → InRow (e .before .before .before .before .before .before .args .s) (length (now (e .before .before .before .before .before .before .args .buf)))
+    (now (e .before .before .before .before .before .before .args .book)) (e .before .before .before .before .before .before .args .used)
+behind e =
     let r = e .before .before in
     let t = r .before in
     let k = t .before in
     let a = k .before .before .args in
-    let w = inside (a .s) (now (a .buf)) (now (a .book)) (a .used) (r .ready .result) (t .same-turn .result) (r .ready .ensures) (t .same-turn .ensures)
-    (e .enum-told .given .1) (each-octet (now (a .book)) (k .shared-slice-known .given)) in
-    (w .book, w .head, w .place, w .rows)
+    inside (a .s) (now (a .buf)) (now (a .book)) (a .used) (r .ready .result) (t .same-turn .result) (r .ready .ensures) (t .same-turn .ensures) (e .enum-told .given .1) (each-octet (now (a .book)) (k .shared-slice-known .given))
+
+row-count-requires : tie.Need-row-count-requires
+unfolding room
+row-count-requires c κs = let w = behind (c .before) in (omega arith, w .book)
 
 returns-2 : tie.Need-returns-2
 returns-2 c =
-    let d = c .before .before in
-    let e = d .before .before in
+    let g = c .before in
+    let f = g .before .before in
+    let n = f .before in
+    let e = n .before .before in
     let r = e .before .before in
     let t = r .before in
     let a = t .before .before .before .args in
-    done (a .s) (now (a .buf)) (now (a .book)) (a .used) (r .ready .result) (t .same-turn .result) (r .ready .ensures) (t .same-turn .ensures) (e .enum-told .given .1) (d .close-on .ensures)
+    refused (a .s) (now (a .buf)) (now (a .book)) (a .used) (r .ready .result) (t .same-turn .result) (r .ready .ensures) (t .same-turn .ensures) (e .enum-told .given .1) (f .close-fault .result) (n .row-count .ensures) (f .close-fault .ensures) (g .fault .given .0 .0) (g .fault .given .1)
+
+lay-length-requires : tie.Need-lay-length-requires
+unfolding room
+lay-length-requires c κs = let w = behind (c .before .before .before .before .before .before) in (w .head, omega arith)
+
+returns-3 : tie.Need-returns-3
+returns-3 c =
+    let d = c .before .before in
+    let g = d .before .before in
+    let f = g .before .before in
+    let n = f .before in
+    let e = n .before .before in
+    let r = e .before .before in
+    let t = r .before in
+    let a = t .before .before .before .args in
+    let w = behind e in
+    done (a .s) (now (a .buf)) (now (a .book)) (a .used) (r .ready .result) (t .same-turn .result) (r .ready .ensures) (t .same-turn .ensures) (e .enum-told .given .1) (f .close-fault .result) (n .row-count .ensures) (f .close-fault .ensures) (g .enum-told2 .given .1) (w .head) (w .place) (d .lay-length .ensures)
 
 pub close-row-spec : {M : Type 1} → statement M
 close-row-spec =
     tie.close
-    (tie.spec (λ c κs. search needs) (λ c κs. search needs) (λ c. search needs) returns (λ c. search needs) close-on-requires (λ c. search needs)
-    returns-2)
+    (tie.spec (λ c κs. search needs) (λ c κs. search needs) (λ c. search needs) returns (λ c. search needs) row-count-requires (λ c κs. search needs)
+    (λ c. search needs) (λ c. search needs) returns-2 (λ c. search needs) lay-length-requires (λ c. let w = behind (c .before .before .before .before .before .before .before .before .before) in omega arith) (λ c. search needs) returns-3)

@@ -1,26 +1,29 @@
--- `writing::complete` meets its contract: 17 and 20 first, the own fault, then what is behind them. Assumes nothing.
+-- `writing::complete` meets its contract: 17 and 20 first, the own fault, then what completing the layout answers. Assumes nothing.
 use borrow.Author.Needs.{needs}
 use native.Mathlib.Omega.{arith}
-use Prim.Native.Nat.{ℕ, _+_, _≤_}
-use mathlib.Core.Path.{_≡_, refl, sym, ap, _∙_}
-use mathlib.Core.Bool.{Bool}
+use Prim.Native.Nat.{ℕ, _+_, _-_, _≤_}
+use mathlib.Core.Path.{_≡_, refl, sym, ap, _∙_, subst}
+use mathlib.Core.Bool.{Bool, true}
 use mathlib.Core.List.{List}
 use denote.Ref.{now}
 use lib.ListN.{length}
+use Rattle.octets.specs.Reading.{ok, _then_, part}
 use Rattle.octets.specs.Writing.{Each, Octet}
 use Rattle.octets.proofs.Spans.{each-octet}
-use Rattle.layouts.specs.Book.{IsBook}
+use Rattle.layouts.specs.Book.{bookIn, IsBook}
 use Rattle.layouts.proofs.Checks.{good-book}
-use Rattle.fields.specs.Answers.{says}
+use Rattle.fields.specs.Answers.{says, learning, refusal, added, whole, Completes}
+use Rattle.fields.specs.declared.Completed.{Completed}
+use Rattle.fields.specs.declared.Completed.the-variants as completed
 use Rattle.fields.specs.declared.Fault.{Fault}
 use Rattle.fields.specs.declared.Fault.the-variants.{None, Is}
 use Rattle.writing.specs.declared.Turn.{Turn}
 use Rattle.writing.specs.declared.State.{State}
-use Rattle.writing.specs.declared.Answer.the-variants.{Refused}
-use Rattle.writing.specs.Writer.{room, rule, sameTurn, fine, attributes, early}
-use Rattle.writing.specs.Answers.{Left, left, leavesOf, leavesOn}
-use Rattle.writing.proofs.Bounds.{same-turn, bounds, open-head}
-use Rattle.writing.proofs.Tests.{leaves-fault, stopped, passed, at-ready}
+use Rattle.writing.specs.declared.Answer.the-variants.{Done, Refused}
+use Rattle.writing.specs.Writer.{room, rule, sameTurn, between, attributes, addition, layoutSoFar, early}
+use Rattle.writing.specs.Answers.{left, leavesOf, leavesOn}
+use Rattle.writing.proofs.Bounds.{bounds, open-head}
+use Rattle.writing.proofs.Tests.{leaves-fault, leaves-layout, leaves-23, leaves-done, stopped, passed, at-ready, addition-is}
 use Rattle.writing.proofs.complete.Statement.{statement}
 use Rattle.writing.proofs.complete.Tie as tie
 
@@ -30,9 +33,11 @@ module _ (s : State) (b l : List ℕ) (used : ℕ) (turn : Turn) (f : Fault) (xs
   first = stopped s b l used (attributes s turn (says f) xs 0) r mine is own
 
   module _ (e : r ≡ None) where
+    on : leavesOf s b l used (attributes s turn (says f) xs 0) ≡ leavesOn s b l used (attributes s turn (says f) xs 0)
+    on = passed s b l used (attributes s turn (says f) xs 0) r mine is own e
+
     refused : (n : ℕ) → f ≡ Is n → left (Refused n (s .place)) b l ≡ leavesOf s b l used (attributes s turn (says f) xs 0)
-    refused n g =
-        sym (passed s b l used (attributes s turn (says f) xs 0) r mine is own e ∙ leaves-fault s b l used (attributes s turn (says f) xs 0) n 0 (ap says g))
+    refused n g = sym (on ∙ leaves-fault s b l used (attributes s turn (says f) xs 0) n 0 (ap says g))
 
     asked : 8 ≤ rule turn .head → Each Octet l → IsBook l used × (s .start + 8 ≤ s .place) × (s .place ≤ room (length b))
     asked h o =
@@ -41,8 +46,30 @@ module _ (s : State) (b l : List ℕ) (used : ℕ) (turn : Turn) (f : Fault) (xs
         let head = open-head s (length b) w turn (sym own ∙ k .in-turn) (omega arith) in
         (good-book l used o (k .book), omega arith, w .place)
 
-    done : f ≡ None → {x : Left} → ((t : Turn) → x ≡ leavesOn s b l used (attributes s t fine xs 0)) → x ≡ leavesOf s b l used (attributes s turn (says f) xs 0)
-    done g h = h turn ∙ sym (passed s b l used (attributes s turn (says f) xs 0) r mine is own e ∙ rw g refl)
+    module _ (g : f ≡ None) (x : Completed) (y z : List ℕ) (p : Completes b y l z used (s .start + 4) (s .place) xs x) where
+      abbrev F : List ℕ
+      F = whole b (s .start + 4) (s .place) xs
+
+      takes : addition true (bookIn l used) used (layoutSoFar s b xs) ≡ (refusal (learning (bookIn l used) used F) then λ _ _. ok (added (learning (bookIn l used) used F) F) 0)
+      unfolding layoutSoFar part
+      takes = addition-is (bookIn l used) used F
+
+      not-taken : (n : ℕ) → x ≡ completed.Refused n → left (Refused n (s .place)) y z ≡ leavesOf s b l used (attributes s turn (says f) xs 0)
+      not-taken n q =
+          let (no-book, same, held) = subst (Completes b y l z used (s .start + 4) (s .place) xs) q p in
+          rw (same, held) (sym (on ∙ leaves-layout s b l used (attributes s turn (says f) xs 0) (ap says g) n 0 (takes ∙ rw no-book refl)))
+
+      full : x ≡ completed.Full → left (Refused 23 (s .place)) y z ≡ leavesOf s b l used (attributes s turn (says f) xs 0)
+      unfolding room
+      full q =
+          let (taken, (no-room, same), held) = subst (Completes b y l z used (s .start + 4) (s .place) xs) q p in
+          rw (same, held) (sym (on ∙ leaves-23 s b l used (attributes s turn (says f) xs 0) (ap says g) (added (learning (bookIn l used) used F) F) 0 (takes ∙ rw taken refl) no-room))
+
+      done : (end total : ℕ) → x ≡ completed.Done end total → left (Done (between end (s .rows)) total) y z ≡ leavesOf s b l used (attributes s turn (says f) xs 0)
+      unfolding room
+      done end total q =
+          let (taken, (fits, place, laid), sum, held) = subst (Completes b y l z used (s .start + 4) (s .place) xs) q p in
+          rw (place, laid, sum, held) (sym (on ∙ leaves-done s b l used (attributes s turn (says f) xs 0) (ap says g) (added (learning (bookIn l used) used F) F) 0 (takes ∙ rw taken refl) fits))
 
 returns : tie.Need-returns
 returns c =
@@ -50,8 +77,7 @@ returns c =
     let r = f .before .before in
     let t = r .before .before in
     let a = t .before .before .before .before .args in
-    first (a .s) (now (a .buf)) (now (a .book)) (a .used) (a .turn) (a .fault) (now (a .last)) (r .ready .result) (t .same-turn .result) (r .ready .ensures) (t .same-turn .ensures)
-    (f .first .given .0 .0) (f .first .given .1)
+    first (a .s) (now (a .buf)) (now (a .book)) (a .used) (a .turn) (a .fault) (now (a .last)) (r .ready .result) (t .same-turn .result) (r .ready .ensures) (t .same-turn .ensures) (f .first .given .0 .0) (f .first .given .1)
 
 returns-2 : tie.Need-returns-2
 returns-2 c =
@@ -60,33 +86,66 @@ returns-2 c =
     let r = e .before .before in
     let t = r .before .before in
     let a = t .before .before .before .before .args in
-    refused (a .s) (now (a .buf)) (now (a .book)) (a .used) (a .turn) (a .fault) (now (a .last)) (r .ready .result) (t .same-turn .result) (r .ready .ensures) (t .same-turn .ensures)
-    (e .enum-told .given .1) (f .fault .given .0 .0) (f .fault .given .1)
+    refused (a .s) (now (a .buf)) (now (a .book)) (a .used) (a .turn) (a .fault) (now (a .last)) (r .ready .result) (t .same-turn .result) (r .ready .ensures) (t .same-turn .ensures) (e .enum-told .given .1) (f .fault .given .0 .0) (f .fault .given .1)
 
-complete-on-requires : tie.Need-complete-on-requires
-complete-on-requires c κs =
-    let e = c .before .before .before .before in
+-- What holds where 17 and 20 are not given.
+behind : (e : tie.After-enum-told) → IsBook (now (e .before .before .before .before .before .before .before .before .args .book)) (e .before .before .before .before .before .before .before .before .args .used)
+    × (e .before .before .before .before .before .before .before .before .args .s .start + 8 ≤ e .before .before .before .before .before .before .before .before .args .s .place)
+    × (e .before .before .before .before .before .before .before .before .args .s .place ≤ room (length (now (e .before .before .before .before .before .before .before .before .args .buf))))
+behind e =
     let r = e .before .before in
     let t = r .before .before in
     let k = t .before .before in
     let i = k .before .before in
     let a = i .args in
-    asked (a .s) (now (a .buf)) (now (a .book)) (a .used) (a .turn) (a .fault) (now (a .last)) (r .ready .result) (t .same-turn .result) (r .ready .ensures) (t .same-turn .ensures)
-    (e .enum-told .given .1) (i .pre) (each-octet (now (a .book)) (k .slice-known2 .given))
+    asked (a .s) (now (a .buf)) (now (a .book)) (a .used) (a .turn) (a .fault) (now (a .last)) (r .ready .result) (t .same-turn .result) (r .ready .ensures) (t .same-turn .ensures) (e .enum-told .given .1) (i .pre) (each-octet (now (a .book)) (k .slice-known2 .given))
+
+add-complete : tie.Need-add-complete
+unfolding room
+add-complete c = let w = behind (c .before .before .before .before) in omega arith
+
+complete-requires : tie.Need-complete-requires
+unfolding room
+complete-requires c κs = let w = behind (c .before .before .before .before) in (w .0, omega arith, w .2)
 
 returns-3 : tie.Need-returns-3
 returns-3 c =
-    let d = c .before .before .before .before in
+    let q = c .before in
+    let d = q .before .before .before .before .before .before in
     let g = d .before .before .before in
     let e = g .before .before in
     let r = e .before .before in
     let t = r .before .before in
     let a = t .before .before .before .before .args in
-    done (a .s) (now (a .buf)) (now (a .book)) (a .used) (a .turn) (a .fault) (now (a .last)) (r .ready .result) (t .same-turn .result) (r .ready .ensures) (t .same-turn .ensures)
-    (e .enum-told .given .1) (g .enum-told2 .given .1) (d .complete-on .ensures)
+    done (a .s) (now (a .buf)) (now (a .book)) (a .used) (a .turn) (a .fault) (now (a .last)) (r .ready .result) (t .same-turn .result) (r .ready .ensures) (t .same-turn .ensures) (e .enum-told .given .1) (g .enum-told2 .given .1) (d .complete .result) (d .complete .last .0) (d .complete .last .1 .0) (d .complete .ensures)
+    (q .completed .given .0 .0) (q .completed .given .0 .1 .0) (q .completed .given .1)
+
+returns-4 : tie.Need-returns-4
+returns-4 c =
+    let d = c .before .before .before .before .before .before in
+    let g = d .before .before .before in
+    let e = g .before .before in
+    let r = e .before .before in
+    let t = r .before .before in
+    let a = t .before .before .before .before .args in
+    full (a .s) (now (a .buf)) (now (a .book)) (a .used) (a .turn) (a .fault) (now (a .last)) (r .ready .result) (t .same-turn .result) (r .ready .ensures) (t .same-turn .ensures) (e .enum-told .given .1) (g .enum-told2 .given .1) (d .complete .result) (d .complete .last .0) (d .complete .last .1 .0) (d .complete .ensures) (c .enum-told3 .given .1)
+
+returns-5 : tie.Need-returns-5
+returns-5 c =
+    let q = c .before in
+    let d = q .before .before .before .before .before .before in
+    let g = d .before .before .before in
+    let e = g .before .before in
+    let r = e .before .before in
+    let t = r .before .before in
+    let a = t .before .before .before .before .args in
+    not-taken (a .s) (now (a .buf)) (now (a .book)) (a .used) (a .turn) (a .fault) (now (a .last)) (r .ready .result) (t .same-turn .result) (r .ready .ensures) (t .same-turn .ensures) (e .enum-told .given .1) (g .enum-told2 .given .1) (d .complete .result) (d .complete .last .0) (d .complete .last .1 .0) (d .complete .ensures)
+    (q .completed2 .given .0 .0) (q .completed2 .given .1)
 
 pub complete-spec : {M : Type 1} → statement M
 complete-spec =
     tie.close
     (tie.spec (λ c κs. search needs) (λ c κs. search needs) (λ c. search needs) (λ c. search needs) returns (λ c. search needs) (λ c. search needs)
-    (λ c. search needs) returns-2 (λ c. search needs) complete-on-requires (λ c. search needs) (λ c. search needs) returns-3)
+    (λ c. search needs) returns-2 (λ c. search needs) add-complete complete-requires (λ c. search needs) (λ c. search needs) (λ c. search needs)
+    (λ c. search needs) (λ c. search needs) returns-3 (λ c. search needs) (λ c. search needs) returns-4 (λ c. search needs) (λ c. search needs)
+    returns-5)

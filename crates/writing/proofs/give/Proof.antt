@@ -3,7 +3,8 @@ use borrow.Author.Needs.{needs}
 use mathlib.Core.Path.{sym, _∙_}
 use mathlib.Core.List.{_++_}
 use denote.Ref.{now}
-use Rattle.writing.specs.Answers.{deedOf}
+use Rattle.fields.specs.Answers.{says}
+use Rattle.writing.specs.Writer.{put}
 use Rattle.writing.proofs.Bounds.{bounds}
 use Rattle.writing.proofs.Tests.{stopped, passed, at-ready}
 use Rattle.writing.proofs.give.Statement.{statement}
@@ -15,7 +16,7 @@ returns c =
     let r = f .before .before in
     let t = r .before in
     let a = t .before .before .before .before .before .before .args in
-    stopped (a .s) (now (a .buf)) (now (a .book)) (a .used) (deedOf (a .s) (a .field) (now (a .head) ++ (now (a .body) ++ now (a .tail))))
+    stopped (a .s) (now (a .buf)) (now (a .book)) (a .used) (put (a .s) (a .turn) (says (a .fault)) (now (a .head) ++ (now (a .body) ++ now (a .tail))) (a .next) (a .count) (a .start))
     (r .ready .result) (t .same-turn .result) (r .ready .ensures) (t .same-turn .ensures) (f .first .given .0 .0) (f .first .given .1)
 
 give-on-requires : tie.Need-give-on-requires
@@ -24,7 +25,7 @@ give-on-requires c κs =
     let r = e .before .before in
     let t = r .before in
     let a = t .before .before .before .before .before .before .args in
-    bounds (a .s) _ (at-ready (a .s) (now (a .buf)) (now (a .book)) (a .used) (deedOf (a .s) (a .field) (now (a .head) ++ (now (a .body) ++ now (a .tail))))
+    bounds (a .s) _ (at-ready (a .s) (now (a .buf)) (now (a .book)) (a .used) (put (a .s) (a .turn) (says (a .fault)) (now (a .head) ++ (now (a .body) ++ now (a .tail))) (a .next) (a .count) (a .start))
     (r .ready .result) (t .same-turn .result) (r .ready .ensures) (t .same-turn .ensures) (e .enum-told .given .1) .within) .place
 
 returns-2 : tie.Need-returns-2
@@ -34,11 +35,12 @@ returns-2 c =
     let r = e .before .before in
     let t = r .before in
     let a = t .before .before .before .before .before .before .args in
-    g .give-on .ensures (now (a .book))
-    ∙ sym (passed (a .s) (now (a .buf)) (now (a .book)) (a .used) (deedOf (a .s) (a .field) (now (a .head) ++ (now (a .body) ++ now (a .tail))))
+    g .give-on .ensures (a .turn) (now (a .book))
+    ∙ sym (passed (a .s) (now (a .buf)) (now (a .book)) (a .used) (put (a .s) (a .turn) (says (a .fault)) (now (a .head) ++ (now (a .body) ++ now (a .tail))) (a .next) (a .count) (a .start))
     (r .ready .result) (t .same-turn .result) (r .ready .ensures) (t .same-turn .ensures) (e .enum-told .given .1))
 
 pub give-spec : {M : Type 1} → statement M
 give-spec =
     tie.close
-    (tie.spec (λ c κs. search needs) (λ c κs. search needs) (λ c. search needs) returns (λ c. search needs) give-on-requires (λ c. search needs) returns-2)
+    (tie.spec (λ c κs. search needs) (λ c κs. search needs) (λ c. search needs) returns (λ c. search needs) give-on-requires (λ c. search needs)
+    returns-2)

@@ -11,7 +11,7 @@ use Rattle.fields.specs.declared.Fault.{Fault}
 use Rattle.writing.specs.declared.Turn.{Turn}
 use Rattle.writing.specs.declared.Turn.the-variants as wants
 use Rattle.writing.specs.declared.State.{State}
-use Rattle.writing.specs.Writer.{put, attributes}
+use Rattle.writing.specs.Writer.{puts, attributes}
 use Rattle.writing.proofs.Tests.{gave}
 use Rattle.writing.proofs.give_attribute.Statement.{statement}
 use Rattle.writing.proofs.give_attribute.Tie as tie
@@ -20,8 +20,7 @@ last : (s : State) (turn : Turn) (f : Fault) (n : ℕ) {more : ℕ} {xs : List �
     → attributes s turn (says f) xs 0 ≡ attributes s turn (says f) (word 4 n) more
 last s turn f n e h = rw (e, h) refl
 
-other : (s : State) (turn : Turn) (f : Fault) (n more : ℕ) → (more ≡ 0 → ⊥)
-    → put s turn (says f) (word 4 n) wants.AttributeName more (s .start) ≡ attributes s turn (says f) (word 4 n) more
+other : (s : State) (turn : Turn) (f : Fault) (n more : ℕ) → (more ≡ 0 → ⊥) → puts s turn (says f) (word 4 n) wants.AttributeName more ≡ attributes s turn (says f) (word 4 n) more
 other s turn f n more h = rw (ne-eqb more 0 h) refl
 
 returns : tie.Need-returns

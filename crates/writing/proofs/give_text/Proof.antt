@@ -20,7 +20,7 @@ returns c =
     let w = g .before .before .before .before in
     let a = w .before .before .before .before .args in
     gave (a .s) (now (a .buf)) (now (a .book)) (a .used) (g .give .ensures)
-    (same-put (a .s) (a .field .turn) (a .field .start) refl (image (now (a .xs)) (w .word4 .ensures)) refl refl)
+    (same-put (a .s) (a .turn) (a .s .start) refl (image (now (a .xs)) (w .word4 .ensures)) refl refl)
 
 pub give-text-spec : {M : Type 1} → statement M
 give-text-spec =

@@ -38,11 +38,11 @@ module _ (s : State) (b l : List ℕ) (used : ℕ) (a : Basic) (r : Fault) (mine
     inside : Each Octet l → InRow s (length b) l used
     inside o = in-row s (length b) l used o own (ready s (length b) l used mine (sym is ∙ ap says e))
 
-    module _ {n : ℕ} {x : Next} (f : Fault) {t : Bool} (i : n ≡ be 4 b (s .start + 4)) (j : x ≡ nextOf (find n (bookIn l used)) (s .count)) (k : says f ≡ valueFault x a t)
-        (v : Value) (g : t ≡ suits (formOf a) v) (h xs : List ℕ) (image : t ≡ true → h ++ xs ≡ valueImage (formOf a) v) where
+    module _ {x : Next} (f : Fault) {t : Bool} (j : x ≡ nextOf (find (be 4 b (s .start + 4)) (bookIn l used)) (s .count)) (k : says f ≡ valueFault x a t) (v : Value)
+        (g : t ≡ suits (formOf a) v) (h xs : List ℕ) (image : t ≡ true → h ++ xs ≡ valueImage (formOf a) v) where
       fault : says f ≡ does s b (bookIn l used) (value a v) .fault
       unfolding does rowLayout
-      fault = k ∙ rw (j, i, g) (value-own (find (be 4 b (s .start + 4)) (bookIn l used)) (s .count) a v)
+      fault = k ∙ rw (j, g) (value-own (find (be 4 b (s .start + 4)) (bookIn l used)) (s .count) a v)
 
       same : (u : Bool) → t ≡ u
           → leavesOn s b l used (put s wants.Value (says f) (h ++ (xs ++ [])) wants.Value (s .count + 1) (s .start)) ≡ leavesOn s b l used (does s b (bookIn l used) (value a v))
@@ -62,8 +62,7 @@ returns c = λ v _ _.
     let r = f .before .before in
     let t = r .before in
     let a = t .before .before .before .before .before .args in
-    first (a .s) (now (a .buf)) (now (a .book)) (a .used) (a .b) (r .ready .result) (t .same-turn .result) (r .ready .ensures) (t .same-turn .ensures)
-    (f .first .given .0 .0) (f .first .given .1) v
+    first (a .s) (now (a .buf)) (now (a .book)) (a .used) (a .b) (r .ready .result) (t .same-turn .result) (r .ready .ensures) (t .same-turn .ensures) (f .first .given .0 .0) (f .first .given .1) v
 
 -- What holds where 17 and 20 are not given.
 behind : (e : tie.After-enum-told) → InRow (e .before .before .before .before .before .before .before .before .args .s) (length (now (e .before .before .before .before .before .before .before .before .args .buf)))
@@ -73,32 +72,26 @@ behind e =
     let t = r .before in
     let k = t .before .before .before in
     let a = k .before .before .args in
-    inside (a .s) (now (a .buf)) (now (a .book)) (a .used) (a .b) (r .ready .result) (t .same-turn .result) (r .ready .ensures) (t .same-turn .ensures)
-    (e .enum-told .given .1) (each-octet (now (a .book)) (k .shared-slice-known .given))
+    inside (a .s) (now (a .buf)) (now (a .book)) (a .used) (a .b) (r .ready .result) (t .same-turn .result) (r .ready .ensures) (t .same-turn .ensures) (e .enum-told .given .1) (each-octet (now (a .book)) (k .shared-slice-known .given))
 
-add-u32-at : tie.Need-add-u32-at
+row-next-requires : tie.Need-row-next-requires
 unfolding room
-add-u32-at c = let w = behind (c .before) in omega arith
-
-u32-at-requires : tie.Need-u32-at-requires
-unfolding room
-u32-at-requires c κs = let w = behind (c .before) in omega arith
+row-next-requires c κs = let w = behind (c .before) in (omega arith, w .book)
 
 returns-2 : tie.Need-returns-2
 returns-2 c = λ v m image.
     let g = c .before .before in
     let f = g .before .before .before in
     let n = f .before in
-    let u = n .before in
-    let e = u .before .before in
+    let e = n .before .before in
     let r = e .before .before in
     let t = r .before in
     let a = t .before .before .before .before .before .args in
-    done (a .s) (now (a .buf)) (now (a .book)) (a .used) (a .b) (r .ready .result) (t .same-turn .result) (r .ready .ensures) (t .same-turn .ensures)
-    (e .enum-told .given .1) (f .value-fault .result) (u .u32-at .ensures) (n .next-of .ensures) (f .value-fault .ensures) v m (now (a .head)) (now (a .body)) image (g .give-on .ensures (now (a .book)))
+    done (a .s) (now (a .buf)) (now (a .book)) (a .used) (a .b) (r .ready .result) (t .same-turn .result) (r .ready .ensures) (t .same-turn .ensures) (e .enum-told .given .1) (f .value-fault .result) (n .row-next .ensures) (f .value-fault .ensures) v m
+    (now (a .head)) (now (a .body)) image (g .give-on .ensures wants.Value (now (a .book)))
 
 pub give-value-spec : {M : Type 1} → statement M
 give-value-spec =
     tie.close
-    (tie.spec (λ c κs. search needs) (λ c κs. search needs) (λ c. search needs) returns (λ c. search needs) add-u32-at u32-at-requires (λ c κs. behind (c .before .before) .book) (λ c κs. search needs) (λ c. let w = behind (c .before .before .before .before) in omega arith) (λ c. search needs)
-    (λ c κs. behind (c .before .before .before .before .before .before) .place) (λ c. search needs) returns-2)
+    (tie.spec (λ c κs. search needs) (λ c κs. search needs) (λ c. search needs) returns (λ c. search needs) row-next-requires (λ c κs. search needs)
+    (λ c. search needs) (λ c. let w = behind (c .before .before .before .before .before) in omega arith) (λ c κs. behind (c .before .before .before .before .before) .place) (λ c. search needs) returns-2)

@@ -5,31 +5,37 @@ use Prim.Native.Nat.{_+_}
 use mathlib.Core.Path.{sym, _∙_}
 use borrow.Author.Tests.{lt-leb}
 use Rattle.fields.proofs.Over.{sub-leb}
-use Rattle.writing.specs.Writer.{rule}
+use Rattle.writing.specs.Writer.{room, rule}
 use Rattle.writing.proofs.Bounds.{place-over, count-under, count-over, rows-over, none-open, one-open}
 use Rattle.writing.proofs.in_bounds.Statement.{statement}
 use Rattle.writing.proofs.in_bounds.Tie as tie
 
 returns : tie.Need-returns
+unfolding room
 returns c = let a = c .before .before .before .args in sym (place-over (a .s) (a .len) (omega arith))
 
 returns-2 : tie.Need-returns-2
+unfolding room
 returns-2 c = let a = c .before .before .before .before .args in sym (count-under (a .s) (a .len) (omega arith) (omega arith))
 
 returns-3 : tie.Need-returns-3
+unfolding room
 returns-3 c = let a = c .before .before .before .before .before .args in sym (count-over (a .s) (a .len) (omega arith) (omega arith) (omega arith))
 
 returns-4 : tie.Need-returns-4
+unfolding room
 returns-4 c =
     let a = c .before .before .before .before .before .before .args in
     sym (rows-over (a .s) (a .len) (omega arith) (omega arith) (omega arith) (omega arith))
 
 returns-5 : tie.Need-returns-5
+unfolding room
 returns-5 c =
     let a = c .before .before .before .before .before .before .before .args in
     sym (none-open (a .s) (a .len) (omega arith) (omega arith) (omega arith) (omega arith) (omega arith))
 
 returns-6 : tie.Need-returns-6
+unfolding room
 returns-6 c =
     let a = c .before .before .before .before .before .before .before .before .args in
     let s = a .s in
@@ -37,6 +43,7 @@ returns-6 c =
     ∙ lt-leb (s .start + rule (s .turn) .head) (s .place) (omega arith))
 
 returns-7 : tie.Need-returns-7
+unfolding room
 returns-7 c =
     let r = c .before .before .before .before .before .before .before in
     let a = r .before .args in

@@ -1,6 +1,6 @@
 -- `writing::open_layout` meets its contract: its octets are the kind's and the number's. Assumes nothing.
 use borrow.Author.Needs.{needs}
-use mathlib.Core.Path.{refl, _∙_}
+use mathlib.Core.Path.{refl}
 use mathlib.Core.List.{append-nil}
 use denote.Ref.{now}
 use Rattle.writing.specs.declared.Turn.the-variants as wants
@@ -14,12 +14,11 @@ returns : tie.Need-returns
 unfolding leaves does
 returns c =
     let g = c .before .before in
-    let w = g .before .before .before .before .before in
-    let a = w .before .before .before .args in
-    gave (a .s) (now (a .buf)) (now (a .book)) (a .used) (g .give .ensures)
-    (same-put (a .s) wants.Element (a .s .place) refl (append-nil _ ∙ w .pair .ensures) refl refl)
+    let a = g .before .before .before .before .before .args in
+    gave (a .s) (now (a .buf)) (now (a .book)) (a .used) (g .give-pair .ensures)
+    (same-put (a .s) wants.Element (a .s .place) refl (append-nil _) refl refl)
 
 pub open-layout-spec : {M : Type 1} → statement M
 open-layout-spec =
     tie.close
-    (tie.spec (λ c κs. search needs) (λ c. search needs) (λ c. search needs) (λ c. search needs) (λ c κs. search needs) (λ c. search needs) returns)
+    (tie.spec (λ c. search needs) (λ c κs. search needs) (λ c. search needs) returns)

@@ -84,7 +84,7 @@ returns-2 c =
     let t = r .before in
     let a = t .before .before .before .args in
     done (a .s) (now (a .buf)) (now (a .book)) (a .used) (a .n) (a .stated) (r .ready .result) (t .same-turn .result) (r .ready .ensures) (t .same-turn .ensures)
-    (e .enum-told .given .1) (f .layout-fault .result) (f .layout-fault .ensures) (p .pair .ensures) (w .length-word .ensures) (g .give-on .ensures (now (a .book)))
+    (e .enum-told .given .1) (f .layout-fault .result) (f .layout-fault .ensures) (p .pair .ensures) (w .length-octets .ensures) (g .give-on .ensures wants.Element (now (a .book)))
 
 pub open-row-spec : {M : Type 1} → statement M
 open-row-spec =
