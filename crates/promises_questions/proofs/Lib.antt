@@ -1,1 +1,4 @@
 pub mod Settles
+pub mod Parts
+pub mod Asked
+pub mod Each
