@@ -1,0 +1,3 @@
+pub mod Puts
+pub mod Spelling
+pub mod Signs

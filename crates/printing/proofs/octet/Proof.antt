@@ -1,0 +1,28 @@
+-- `printing::octet` meets its contract. Assumes nothing.
+use borrow.Author.Needs.{needs}
+use native.Mathlib.Omega.{arith}
+use denote.Ref.{now}
+use Rattle.printing.proofs.Puts.{inside, anew, away}
+use Rattle.printing.proofs.octet.Statement.{statement}
+use Rattle.printing.proofs.octet.Tie as tie
+
+returns : tie.Need-returns
+returns c =
+    let a = c .before .before .args in
+    inside (now (a .out)) (a .n) (a .x) (c .if1 .taken)
+
+returns-2 : tie.Need-returns-2
+returns-2 c =
+    let a = c .before .before .before .before .before .before .before .args in
+    away (now (a .out)) (a .n) (a .x)
+
+returns-3 : tie.Need-returns-3
+returns-3 c =
+    let a = c .before .before .before .before .before .args in
+    anew (now (a .out)) (a .n) (a .x) (omega arith)
+
+pub octet-spec : {M : Type 1} → statement M
+octet-spec =
+    tie.close
+    (tie.spec (λ c. search needs) (λ c. search needs) (λ c. search needs) returns (λ c κs. search needs) (λ c. search needs) (λ c κs. search needs)
+    (λ c. search needs) returns-2 (λ c. search needs) (λ c. search needs) returns-3)

@@ -1,0 +1,61 @@
+-- The texts that programs print, as octets, and what it is to print one.
+use Prim.Native.Nat.{ℕ, zero, suc, _+_, _-_, _/_, _%_}
+use mathlib.Core.Path.{_≡_}
+use mathlib.Core.List.{List, [], _∷_, _++_}
+use mathlib.Core.Bool.{Bool, true, false, cond, _&&_, not}
+use lib.ListN.{take}
+use lib.Dec.{leb, ltb, eqb}
+use lib.IntN.{ℤ, pos, negsuc}
+use Rattle.octets.specs.Writing.{word, images}
+use Rattle.printing.specs.declared.Show.{Show}
+use Rattle.printing.specs.declared.Show.the-variants.{Plain, Hex, Escaped}
+
+-- What waited and the text behind it are what was written out and what waits now.
+pub record Prints (before : List ℕ) (n : ℕ) (text after : List ℕ) (r : ℕ) : Type 0 where
+  pub gone : List ℕ
+  pub same : take n before ++ text ≡ gone ++ take r after
+
+-- A digit: from 10 on a letter, of which the first is given.
+abbrev pub digit : ℕ → ℕ → ℕ
+digit ten d = cond (ltb d 10) (48 + d) (ten + (d - 10))
+
+-- An octet as two hex digits.
+abbrev pub pair : ℕ → ℕ → List ℕ
+pair ten x = digit ten (x / 16) ∷ digit ten (x % 16) ∷ []
+
+-- The octets of a string that stand for themselves: those from 21 to 7E hex, "%" excepted.
+abbrev pub isPlain : ℕ → Bool
+isPlain x = leb 0x21 x && (leb x 0x7e && not (eqb x 0x25))
+
+-- How an octet is shown: as it is, as two lower-case hex digits, or, where it does not stand for itself, as "%" and two capital ones.
+abbrev pub shown : Show → ℕ → List ℕ
+shown Plain x = x ∷ []
+shown Hex x = pair 97 x
+shown Escaped x = cond (isPlain x) (x ∷ []) (37 ∷ pair 65 x)
+
+-- Octets shown one after another.
+abbrev pub showing : Show → List ℕ → List ℕ
+showing how xs = images (shown how) xs
+
+-- The digits of a number, the most significant first, at most k of them.
+unfoldable pub digits : ℕ → ℕ → List ℕ
+digits zero n = []
+digits (suc k) n = cond (ltb n 10) [] (digits k (n / 10)) ++ (48 + n % 10) ∷ []
+
+-- A number in decimal: no number of 64 bits has more than twenty digits.
+abbrev pub decimal : ℕ → List ℕ
+decimal n = digits 20 n
+
+-- A signed number in decimal, with "-" before a negative one.
+abbrev pub signed : ℤ → List ℕ
+signed (pos n) = decimal n
+signed (negsuc n) = 45 ∷ decimal (n + 1)
+
+abbrev pub truth : Bool → List ℕ
+truth true = 49 ∷ []
+truth false = 48 ∷ []
+
+-- "refused ", the number, " " and the place.
+abbrev pub refusal : ℕ → ℕ → List ℕ
+refusal number place =
+    (showing Plain (114 ∷ 101 ∷ 102 ∷ 117 ∷ 115 ∷ 101 ∷ 100 ∷ 32 ∷ []) ++ decimal number) ++ (showing Plain (32 ∷ []) ++ decimal place)
