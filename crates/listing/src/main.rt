@@ -1,0 +1,227 @@
+// The listing: a document on standard input, a line for its header and for each element.
+
+use elements::Met;
+use elements::Stepping;
+use printing::Show;
+use questions::Fielded;
+use questions::Value;
+use reading::Headed;
+
+// The version and the start time.
+fn header_line(out: &mut [u8], start: u64) -> usize {
+    let head = printing::show_all(out, 0, Show::Plain, b"document 4 ");
+    let to = dates::time(out, head, start);
+    printing::octet(out, to, b'\n')
+}
+
+// What an element is, its place, and a layout's number.
+fn numbered<'o, 'x>(out: &'o mut [u8], n: usize, word: &'x [u8], at: usize, number: u32) -> usize {
+    let place = printing::named(out, n, word, at as u64);
+    let to = printing::octet(out, place, b' ');
+    printing::signed(out, to, kinds::signed32(number) as i64)
+}
+
+// A string behind "=".
+fn string<'o, 'x>(out: &'o mut [u8], n: usize, xs: &'x [u8]) -> usize {
+    let to = printing::octet(out, n, b'=');
+    printing::show_all(out, to, Show::Escaped, xs)
+}
+
+// Octets behind "x".
+fn octets<'o, 'x>(out: &'o mut [u8], n: usize, xs: &'x [u8]) -> usize {
+    let to = printing::octet(out, n, b'x');
+    printing::show_all(out, to, Show::Hex, xs)
+}
+
+// A layout's type name and count of attributes.
+fn layout_line<'d, 'b, 'o>(
+    doc: &'d [u8],
+    at: usize,
+    rows: usize,
+    book: &'b [u8],
+    used: usize,
+    number: u32,
+    count: u32,
+    out: &'o mut [u8],
+    n: usize,
+) -> usize {
+    let head = numbered(out, n, b"layout ", at, number);
+    let gap = printing::octet(out, head, b' ');
+    let name = string(out, gap, questions::type_name(doc, at, rows, book, used));
+    let to = printing::named(out, name, b" ", count as u64);
+    printing::octet(out, to, b'\n')
+}
+
+// A value, of which octets are asked from the document.
+fn value_word<'d, 'b, 'o>(
+    doc: &'d [u8],
+    at: usize,
+    rows: usize,
+    book: &'b [u8],
+    used: usize,
+    i: usize,
+    value: Value,
+    out: &'o mut [u8],
+    n: usize,
+) -> usize {
+    match value {
+        Value::HexBinary => octets(
+            out,
+            n,
+            questions::field_octets(doc, at, rows, book, used, i),
+        ),
+        Value::String => string(
+            out,
+            n,
+            questions::field_octets(doc, at, rows, book, used, i),
+        ),
+        _ => values::value(out, n, value),
+    }
+}
+
+// Field i of a row behind a space. The row is accepted and has the field, so a refusal does not come about.
+fn field_word<'d, 'b, 'o>(
+    doc: &'d [u8],
+    at: usize,
+    rows: usize,
+    book: &'b [u8],
+    used: usize,
+    i: usize,
+    out: &'o mut [u8],
+    n: usize,
+) -> usize {
+    let to = printing::octet(out, n, b' ');
+    let field = questions::field(doc, at, rows, book, used, i);
+    match field {
+        Fielded::Is(kind, value) => value_word(doc, at, rows, book, used, i, value, out, to),
+        Fielded::Refused(number, place) => to,
+    }
+}
+
+// A row's layout's number and values.
+fn row_line<'d, 'b, 'o>(
+    doc: &'d [u8],
+    at: usize,
+    rows: usize,
+    book: &'b [u8],
+    used: usize,
+    number: u32,
+    count: u32,
+    out: &'o mut [u8],
+    n: usize,
+) -> usize {
+    let mut to = numbered(out, n, b"row ", at, number);
+    let mut i: u32 = 0;
+    while i < count {
+        to = field_word(doc, at, rows, book, used, i as usize, out, to);
+        i += 1;
+    }
+    printing::octet(out, to, b'\n')
+}
+
+// The end's count and time.
+fn end_line(out: &mut [u8], n: usize, at: usize, count: u32, time: u64) -> usize {
+    let place = printing::named(out, n, b"end ", at as u64);
+    let head = printing::named(out, place, b" ", count as u64);
+    let gap = printing::octet(out, head, b' ');
+    let to = dates::time(out, gap, time);
+    printing::octet(out, to, b'\n')
+}
+
+// The line of an element, which a step from these inputs answered.
+fn element_line<'d, 'b, 'o>(
+    doc: &'d [u8],
+    at: usize,
+    rows: usize,
+    book: &'b [u8],
+    used: usize,
+    met: Met,
+    out: &'o mut [u8],
+    n: usize,
+) -> usize {
+    match met {
+        Met::Layout(number, count) => layout_line(doc, at, rows, book, used, number, count, out, n),
+        Met::Row(number, stated, count) => row_line(
+            doc,
+            at,
+            rows,
+            book,
+            used,
+            number,
+            count,
+            out,
+            n,
+        ),
+        Met::End(count, time) => end_line(out, n, at, count, time),
+    }
+}
+
+fn is_end(met: Met) -> bool {
+    match met {
+        Met::Layout(number, count) => false,
+        Met::Row(number, stated, count) => false,
+        Met::End(count, time) => true,
+    }
+}
+
+// A refusal as the last line.
+fn refused_line(out: &mut [u8], n: usize, number: u32, place: usize) -> usize {
+    let to = printing::refused(out, n, number, place);
+    printing::octet(out, to, b'\n')
+}
+
+// The lines of the elements from a place on, up to the end or a refusal.
+fn element_lines<'d, 'o>(doc: &'d [u8], at: usize, out: &'o mut [u8], n: usize) -> usize {
+    let mut book = [0u8; 32768];
+    let mut pos = at;
+    let mut rows: usize = 0;
+    let mut used: usize = 0;
+    let mut to = n;
+    loop {
+        let one = reading::step(doc, pos, rows, &mut book, used);
+        match one {
+            Stepping::Refused(number, place) => {
+                return refused_line(out, to, number, place);
+            }
+            Stepping::Done(step) => {
+                let met = step.met;
+                to = element_line(doc, pos, rows, &book, used, met, out, to);
+                if is_end(met) {
+                    return to;
+                }
+                pos = step.next;
+                rows = step.rows;
+                used = step.used;
+            }
+        }
+    }
+}
+
+// The lines of a document.
+fn lines<'d, 'o>(doc: &'d [u8], out: &'o mut [u8]) -> usize {
+    let headed = reading::header(doc);
+    match headed {
+        Headed::Refused(number, place) => refused_line(out, 0, number, place),
+        Headed::Is(head) => {
+            let next = head.next;
+            let to = header_line(out, head.start);
+            element_lines(doc, next, out, to)
+        }
+    }
+}
+
+fn list(doc: &[u8]) {
+    let mut out = [0u8; 4096];
+    let n = lines(doc, &mut out);
+    printing::flush(&out, n);
+}
+
+fn main() {
+    let mut doc = [0u8; 65537];
+    let n = io::read_full(0, &mut doc);
+    if 65536 < n {
+        io::write_all(1, b"input too long\n");
+        return;
+    }
+    list(&doc[..n]);
+}
