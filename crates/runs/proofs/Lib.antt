@@ -1,0 +1,5 @@
+mod Words
+mod Steps
+mod Mets
+mod Runs
+mod Entry

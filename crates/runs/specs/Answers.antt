@@ -1,0 +1,48 @@
+-- What the answers of a run say.
+use Prim.Native.Nat.{ℕ}
+use mathlib.Core.Path.{_≡_}
+use mathlib.Core.List.{List}
+use mathlib.Core.Bool.{Bool, true, false}
+use lib.ListN.{length}
+use Rattle.octets.specs.Reading.{Read, ok, no}
+use Rattle.layouts.specs.Book.{Book, bookImage}
+use Rattle.plans.specs.Plan.{Planned}
+use Rattle.elements.specs.Element.{Item, item, Stepped}
+use Rattle.elements.specs.Steps.{holding, stepAt}
+use Rattle.runs.specs.Runs.{itemWord, Passed, onItem}
+use Rattle.runs.specs.declared.Gone.{Gone}
+use Rattle.runs.specs.declared.Turn.{Turn}
+use Rattle.runs.specs.declared.Turn.the-variants as turn
+use Rattle.runs.specs.declared.Went.{Went}
+use Rattle.runs.specs.declared.Running.{Running}
+use Rattle.runs.specs.declared.Running.the-variants as running
+
+-- An item that the step at a place reads, with what is known of it behind the step.
+pub record Goes (s : List ℕ) (at rows : ℕ) (entry : List ℕ) (used : ℕ) (exit numbers steps : List ℕ) (g : Gone) : Type 0 where
+  pub stepped : Stepped
+  pub which : Item
+  pub reads : stepAt s at rows entry used ≡ ok stepped (g .next)
+  pub is : stepped .element ≡ item which
+  pub told : g .word ≡ itemWord which (g .next)
+  pub counts : g .rows ≡ stepped .rows
+  pub fills : g .used ≡ length (bookImage (stepped .book))
+  pub left : exit ≡ holding (stepped .book) entry
+  pub planned : Planned numbers steps (g .known) (stepped .book)
+
+-- Whether a step reads an item.
+abbrev pub isItem : Read Stepped → Bool
+isItem r = onItem r (λ _ _ _. true) false
+
+-- One turn of a run: the item of the step, or that there is none, and then all is as it was.
+abbrev pub Turns : List ℕ → ℕ → ℕ → List ℕ → ℕ → List ℕ → List ℕ → List ℕ → Turn → Type 0
+Turns s at rows entry used exit numbers steps (turn.Item g) = Goes s at rows entry used exit numbers steps g
+Turns s at rows entry used exit numbers steps turn.Stop = (isItem (stepAt s at rows entry used) ≡ false) × (exit ≡ entry)
+
+-- How many items were passed, and where the run stands then.
+abbrev pub wentOf : Passed → Went
+wentOf p = record { count = length (p .words); next = p .next; rows = p .rows; used = p .used }
+
+-- The refusals that stand before every step, or what was passed.
+abbrev pub runTells : Read Book → Passed → Running
+runTells (ok book end) p = running.Went (wentOf p)
+runTells (no n q) p = running.Refused n q

@@ -1,0 +1,57 @@
+-- A run of steps: the layouts and rows from a place on, each told in one number.
+use Prim.Native.Nat.{ℕ, zero, suc, _+_, _*_}
+use mathlib.Core.List.{List, [], _∷_, _++_}
+use mathlib.Core.Bool.{Bool, true, false}
+use lib.ListN.{length, set}
+use Rattle.octets.specs.Reading.{Read, ok, no}
+use Rattle.layouts.specs.Book.{bookImage}
+use Rattle.elements.specs.Element.{Item, layout, row, Element, item, finish, Stepped}
+use Rattle.elements.specs.Steps.{holding, stepAt}
+
+-- An item in one number: its layout's number in the high 32 bits; then a bit for a row and a bit for a stated length; the next place in the low 30.
+abbrev pub layoutWord : ℕ → ℕ → ℕ
+layoutWord number next = number * 4294967296 + next
+
+abbrev pub rowWord : ℕ → Bool → ℕ → ℕ
+rowWord number true next = number * 4294967296 + 3221225472 + next
+rowWord number false next = number * 4294967296 + 2147483648 + next
+
+abbrev pub itemWord : Item → ℕ → ℕ
+itemWord (layout l) next = layoutWord (l .number) next
+itemWord (row r) next = rowWord (r .number) (r .is-stated) next
+
+-- What a run has passed: its items' words, and the inputs of the step behind them.
+pub record Passed : Type 0 where
+  pub words : List ℕ
+  pub next : ℕ
+  pub rows : ℕ
+  pub octets : List ℕ
+  pub used : ℕ
+
+abbrev pub stopped : ℕ → ℕ → List ℕ → ℕ → Passed
+stopped at rows octets used = record { words = []; next = at; rows = rows; octets = octets; used = used }
+
+abbrev pub behind : List ℕ → Passed → Passed
+behind ws p = record { words = ws ++ p .words; next = p .next; rows = p .rows; octets = p .octets; used = p .used }
+
+-- What follows an item that a step has read; the end and a refusal stop the run.
+abbrev pub ofItem : {A : Type 0} → Element → (Item → A) → A → A
+ofItem (item i) f stop = f i
+ofItem (finish n t) f stop = stop
+
+abbrev pub onItem : {A : Type 0} → Read Stepped → (Stepped → Item → ℕ → A) → A → A
+onItem (ok st next) f stop = ofItem (st .element) (λ i. f st i next) stop
+onItem (no n p) f stop = stop
+
+-- Steps one after another, each over the octets that the one before left, while they read items; at most k.
+unfoldable pub runFrom : ℕ → List ℕ → ℕ → ℕ → List ℕ → ℕ → Passed
+runFrom zero s at rows octets used = stopped at rows octets used
+runFrom (suc k) s at rows octets used =
+    onItem (stepAt s at rows octets used)
+    (λ st i next. behind (itemWord i next ∷ []) (runFrom k s next (st .rows) (holding (st .book) octets) (length (bookImage (st .book)))))
+    (stopped at rows octets used)
+
+-- Words put over those that are lent, from an index on.
+abbrev pub laid : ℕ → List ℕ → List ℕ → List ℕ
+laid n [] xs = xs
+laid n (w ∷ ws) xs = laid (n + 1) ws (set xs n w)
