@@ -1,11 +1,12 @@
 -- What the answers of reading tell of the readings behind them, and what the one number of a refusal tells: by the cases of each. Assumes nothing.
 use Prim.Native.Nat.{ℕ, _/_, _%_}
 use mathlib.Core.Path.{_≡_, refl, sym, ap, subst}
-use mathlib.Core.List.{List}
+use mathlib.Core.List.{List, [], _∷_}
 use mathlib.Core.Bool.{true}
 use native.Mathlib.Omega.{arith}
 use lib.ListN.{set}
 use Rattle.octets.specs.Reading.{Read, ok, no, isOk}
+use Rattle.layouts.specs.Book.{Book}
 use Rattle.headers.specs.Header.{Header}
 use Rattle.elements.specs.Element.{Stepped}
 use Rattle.elements.specs.Answers.{tells}
@@ -16,7 +17,11 @@ use Rattle.reading.specs.declared.Headed.{Headed}
 use Rattle.reading.specs.declared.Headed.the-variants as headed
 use Rattle.reading.specs.declared.Checked.{Checked}
 use Rattle.reading.specs.declared.Checked.the-variants as checked
-use Rattle.collector.specs.Calls.{answered, Packs, headLeaves, metWords, stepLeaves, countLeaves}
+use Rattle.runs.specs.Runs.{Passed}
+use Rattle.runs.specs.Answers.{runTells}
+use Rattle.runs.specs.declared.Running.{Running}
+use Rattle.runs.specs.declared.Running.the-variants as running
+use Rattle.collector.specs.Calls.{answered, Packs, headLeaves, metWords, stepLeaves, runLeaves, countLeaves}
 
 -- A header: refused, or its numbers in the first four words.
 abbrev pub HeadTold : List ℕ → Read Header → Headed → Type 0
@@ -35,6 +40,15 @@ StepTold words r (stepping.Done step) = (0 ≡ answered r) × (metWords (step .m
 pub step-told : (words : List ℕ) (r : Read Stepped) (x : Stepping) → x ≡ tells r → StepTold words r x
 step-told words (ok st next) x e = subst (StepTold words (ok st next)) (sym e) (refl, refl)
 step-told words (no n p) x e = subst (StepTold words (no n p)) (sym e) refl
+
+-- A run: refused, or where it stands.
+abbrev pub RunTold : List ℕ → Read Book → Passed → Running → Type 0
+RunTold words r p (running.Refused n q) = r ≡ no n q
+RunTold words r p (running.Went w) = (0 ≡ answered r) × (w .count ∷ w .next ∷ w .rows ∷ w .used ∷ 0 ∷ 0 ∷ 0 ∷ 0 ∷ [] ≡ runLeaves words r p)
+
+pub run-told : (words : List ℕ) (r : Read Book) (p : Passed) (x : Running) → x ≡ runTells r p → RunTold words r p x
+run-told words (ok book end) p x e = subst (RunTold words (ok book end) p) (sym e) (refl, refl)
+run-told words (no n q) p x e = subst (RunTold words (no n q) p) (sym e) refl
 
 -- The whole check: refused, or its count.
 abbrev pub CountTold : ℕ → Read ℕ → Checked → Type 0

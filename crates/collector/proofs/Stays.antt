@@ -279,3 +279,16 @@ module _ (s : List ℕ) where
       go false e h =
           let past = leb-false at (length s) e in
           packs at (stepAt s at rows octets used) small (step-stays s at (omega arith) at rows octets used (le-refl at))
+
+  pub lent-packs : (rows : ℕ) (octets : List ℕ) (used : ℕ) → Packs (lentBook s rows octets used)
+  unfolding lentBook bookOf
+  lent-packs rows octets used =
+      go (leb (length s) 1048576) (leb 32768 (length octets) && leb used 32768) (layoutsAt 64 [] (take used octets) 0) (leb rows 1048576)
+    where
+      go : (short lent : Bool) (r : Read Book) (few : Bool)
+          → Packs (choose short (λ _. choose lent (λ _. as17 r) (λ _. no 17 0) then λ book last. choose few (λ _. ok book last) (λ _. no 17 0)) (λ _. no 2 0))
+      go false lent r few = (lit< tt, lit< tt)
+      go true false r few = (lit< tt, lit< tt)
+      go true true (no n p) few = (lit< tt, lit< tt)
+      go true true (ok book last) false = (lit< tt, lit< tt)
+      go true true (ok book last) true = tt

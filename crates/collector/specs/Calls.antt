@@ -4,12 +4,13 @@ use mathlib.Core.List.{List, [], _∷_}
 use mathlib.Core.Bool.{Bool, true, false}
 use lib.ListN.{length, set}
 use Rattle.octets.specs.Reading.{Read, ok, no}
-use Rattle.layouts.specs.Book.{bookImage}
+use Rattle.layouts.specs.Book.{Book, bookImage}
 use Rattle.headers.specs.Header.{Header}
 use Rattle.elements.specs.Element.{Stepped}
 use Rattle.elements.specs.Answers.{metOf}
 use Rattle.elements.specs.declared.Met.{Met}
 use Rattle.elements.specs.declared.Met.the-variants as met
+use Rattle.runs.specs.Runs.{Passed}
 
 -- A refusal as one number: its number times 2^32, and its place.
 abbrev pub packed : ℕ → ℕ → ℕ
@@ -43,6 +44,11 @@ metWords (met.End count time) next rows used = 3 ∷ next ∷ rows ∷ used ∷ 
 abbrev pub stepLeaves : List ℕ → Read Stepped → List ℕ
 stepLeaves words (ok st next) = metWords (metOf (st .element)) next (st .rows) (length (bookImage (st .book)))
 stepLeaves words (no n p) = words
+
+-- What a run leaves: how many items it has passed, the place, the row count and the used count behind them.
+abbrev pub runLeaves : List ℕ → Read Book → Passed → List ℕ
+runLeaves words (ok book end) p = length (p .words) ∷ p .next ∷ p .rows ∷ p .used ∷ 0 ∷ 0 ∷ 0 ∷ 0 ∷ []
+runLeaves words (no n q) p = words
 
 -- What the whole check leaves of the lent row count.
 abbrev pub countLeaves : ℕ → Read ℕ → ℕ

@@ -1,14 +1,16 @@
-// Reading for C callers: the header check, one step and the whole check, on numbers and octet slices. Each takes every input.
+// Reading for C callers: the header check, one step, a run of steps and the whole check, on numbers and octet slices. Each takes every input.
 
 ghost use mathlib.Core.Path.{_≡_};
 ghost use Prim.Native.Nat.{_<_};
 ghost use Rattle.headers.specs.Header.{headerAt};
-ghost use Rattle.elements.specs.Steps.{stepAt, leaves, whole};
-ghost use Rattle.collector.specs.Calls.{packed, answered, headLeaves, bit, metWords, stepLeaves, countLeaves};
+ghost use Rattle.elements.specs.Steps.{lentBook, stepAt, leaves, whole};
+ghost use Rattle.runs.specs.Runs.{runFrom, laid};
+ghost use Rattle.collector.specs.Calls.{packed, answered, headLeaves, bit, metWords, stepLeaves, runLeaves, countLeaves};
 use elements::Met;
 use elements::Stepping;
 use reading::Checked;
 use reading::Headed;
+use runs::Running;
 
 // A refusal as one number.
 fn pack(number: u32, place: usize) -> u64
@@ -86,6 +88,33 @@ pub extern "C" fn ipdr_step<'d, 'b, 'o>(
             let more = step.used as u64;
             let met = step.met;
             *out = words_of(met, next, passed, more);
+            0
+        }
+    }
+}
+
+// A run of steps: how many layouts and rows it has passed and where it stands then go to the first four words, each layout and row to a word of its own, and new layouts to the book.
+#[no_mangle]
+pub extern "C" fn ipdr_run<'d, 'b, 'w, 'o>(
+    doc: &'d [u8],
+    at: u32,
+    rows: u32,
+    book: &'b mut [u8],
+    used: u32,
+    words: &'w mut [u64; 4096],
+    out: &'o mut [u64; 8],
+) -> u64
+    ensures { λ r. ⌜ (r ≡ answered (lentBook (now (doc .entry)) rows (now (book .entry)) used)) × (now (out .exit) ≡ runLeaves (now (out .entry)) (lentBook (now (doc .entry)) rows (now (book .entry)) used) (runFrom 4096 (now (doc .entry)) at rows (now (book .entry)) used)) × (now (book .exit) ≡ runFrom 4096 (now (doc .entry)) at rows (now (book .entry)) used .octets) × (now (words .exit) ≡ laid 0 (runFrom 4096 (now (doc .entry)) at rows (now (book .entry)) used .words) (now (words .entry))) ⌝ }
+{
+    let running = runs::run(doc, at as usize, rows as usize, book, used as usize, words);
+    match running {
+        Running::Refused(n, p) => pack(n, p),
+        Running::Went(went) => {
+            let count = went.count as u64;
+            let next = went.next as u64;
+            let passed = went.rows as u64;
+            let more = went.used as u64;
+            *out = [count, next, passed, more, 0, 0, 0, 0];
             0
         }
     }

@@ -46,10 +46,10 @@ module _ (s : List ℕ) (at rows : ℕ) (octets : List ℕ) (used : ℕ) (st : S
       let short = leb-true (length s) 1048576 t in
       let inside : at + 4 ≤ length s = after (number 4 s at) _ g λ kind behind k _. number-room s at 4 (ap isOk k) in
       let b : Lent octets used book =
-          after (bookOf octets used) _ l₁ λ found end f h.
-          let same : book ≡ found = ok-value (chosen (leb rows 1048576) _ 17 0 h .1) refl in
-          book-forth octets used lent (f ∙ ap (λ (x : Book). ok x end) (sym same)) .0
-          in
+      after (bookOf octets used) _ l₁ λ found end f h.
+      let same : book ≡ found = ok-value (chosen (leb rows 1048576) _ 17 0 h .1) refl in
+      book-forth octets used lent (f ∙ ap (λ (x : Book). ok x end) (sym same)) .0
+      in
       let place = element-place s short o at rows book (omega arith) st next g in
       let good = element-book s short o at rows book (omega arith) st next g (b .good) in
       let (is, is-book) = holding-book (st .book) octets good (b .room) in
