@@ -1,5 +1,10 @@
 // The listing: a document on standard input, a line for its header and for each element.
 
+ghost use Prim.Native.Nat.{ℕ};
+ghost use mathlib.Core.Path.{_≡_};
+ghost use mathlib.Core.List.{[], _∷_};
+ghost use Rattle.printing.specs.Text.{Prints};
+ghost use Rattle.listing.specs.Lines.{Puts, Timed, headerText, numbered, stringText, octetsText, endText, refusalText};
 use elements::Met;
 use elements::Stepping;
 use printing::Show;
@@ -8,27 +13,35 @@ use questions::Value;
 use reading::Headed;
 
 // The version and the start time.
-fn header_line(out: &mut [u8], start: u64) -> usize {
+fn header_line(out: &mut [u8], start: u64) -> usize
+    ensures { λ r. ⌜ Puts (Timed start headerText) (now (out .entry)) 0 (now (out .exit)) r ⌝ }
+{
     let head = printing::show_all(out, 0, Show::Plain, b"document 4 ");
     let to = dates::time(out, head, start);
     printing::octet(out, to, b'\n')
 }
 
 // What an element is, its place, and a layout's number.
-fn numbered<'o, 'x>(out: &'o mut [u8], n: usize, word: &'x [u8], at: usize, number: u32) -> usize {
+fn numbered<'o, 'x>(out: &'o mut [u8], n: usize, word: &'x [u8], at: usize, number: u32) -> usize
+    ensures { λ r. ⌜ Prints (now (out .entry)) n (numbered (now (word .entry)) at number) (now (out .exit)) r ⌝ }
+{
     let place = printing::named(out, n, word, at as u64);
     let to = printing::octet(out, place, b' ');
     printing::signed(out, to, kinds::signed32(number) as i64)
 }
 
 // A string behind "=".
-fn string<'o, 'x>(out: &'o mut [u8], n: usize, xs: &'x [u8]) -> usize {
+fn string<'o, 'x>(out: &'o mut [u8], n: usize, xs: &'x [u8]) -> usize
+    ensures { λ r. ⌜ Prints (now (out .entry)) n (stringText (now (xs .entry))) (now (out .exit)) r ⌝ }
+{
     let to = printing::octet(out, n, b'=');
     printing::show_all(out, to, Show::Escaped, xs)
 }
 
 // Octets behind "x".
-fn octets<'o, 'x>(out: &'o mut [u8], n: usize, xs: &'x [u8]) -> usize {
+fn octets<'o, 'x>(out: &'o mut [u8], n: usize, xs: &'x [u8]) -> usize
+    ensures { λ r. ⌜ Prints (now (out .entry)) n (octetsText (now (xs .entry))) (now (out .exit)) r ⌝ }
+{
     let to = printing::octet(out, n, b'x');
     printing::show_all(out, to, Show::Hex, xs)
 }
@@ -120,7 +133,9 @@ fn row_line<'d, 'b, 'o>(
 }
 
 // The end's count and time.
-fn end_line(out: &mut [u8], n: usize, at: usize, count: u32, time: u64) -> usize {
+fn end_line(out: &mut [u8], n: usize, at: usize, count: u32, time: u64) -> usize
+    ensures { λ r. ⌜ Puts (Timed time (endText at count)) (now (out .entry)) n (now (out .exit)) r ⌝ }
+{
     let place = printing::named(out, n, b"end ", at as u64);
     let head = printing::named(out, place, b" ", count as u64);
     let gap = printing::octet(out, head, b' ');
@@ -165,7 +180,9 @@ fn is_end(met: Met) -> bool {
 }
 
 // A refusal as the last line.
-fn refused_line(out: &mut [u8], n: usize, number: u32, place: usize) -> usize {
+fn refused_line(out: &mut [u8], n: usize, number: u32, place: usize) -> usize
+    ensures { λ r. ⌜ Prints (now (out .entry)) n (refusalText number place) (now (out .exit)) r ⌝ }
+{
     let to = printing::refused(out, n, number, place);
     printing::octet(out, to, b'\n')
 }

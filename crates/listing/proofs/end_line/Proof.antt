@@ -1,0 +1,31 @@
+-- `listing::end_line` meets its contract. Assumes nothing.
+use borrow.Author.Needs.{needs}
+use mathlib.Core.List.{[], _∷_}
+use Rattle.printing.specs.Text.{decimal}
+use Rattle.printing.proofs.Puts.{then}
+use Rattle.listing.specs.Lines.{timed, endText}
+use Rattle.listing.proofs.Words.{word-then}
+use Rattle.listing.proofs.end_line.Statement.{statement}
+use Rattle.listing.proofs.end_line.Tie as tie
+
+returns : tie.Need-returns
+returns c =
+    let last = c .before .before in
+    let stamp = last .before .before .before .before in
+    let gap = stamp .before .before .before .before in
+    let count = gap .before .before .before .before in
+    let place = count .before .before .before .before .before in
+    let a = place .before .before .before .before .args in
+    let time = stamp .time .ensures in
+    record {
+      text = endText (a .at) (a .count) (time .text);
+      right = timed (time .right);
+      prints = then (word-then (101 ∷ 110 ∷ 100 ∷ 32 ∷ []) (decimal (a .at)) (place .named .ensures))
+          (then (word-then (32 ∷ []) (decimal (a .count)) (count .named2 .ensures)) (then (gap .octet .ensures) (then (time .prints) (last .octet2 .ensures))));
+    }
+
+pub end-line-spec : {M : Type 1} → statement M
+end-line-spec =
+    tie.close
+    (tie.spec (λ c. search needs) (λ c κs. search needs) (λ c. search needs) (λ c κs. search needs) (λ c κs. search needs) (λ c κs. search needs)
+    (λ c κs. search needs) (λ c. search needs) returns)

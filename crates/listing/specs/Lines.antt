@@ -1,0 +1,96 @@
+-- The listing of a document: document 01's lines, as octets. "Fields" of a line are separated by one space, and each line ends in a new line, 10.
+use Prim.Native.Nat.{ℕ}
+use mathlib.Core.Path.{_≡_}
+use mathlib.Core.List.{List, [], _∷_, _++_}
+use mathlib.Core.Bool.{true, false}
+use lib.ListN.{length}
+use Rattle.octets.specs.Reading.{ok, no}
+use Rattle.octets.specs.Writing.{images}
+use Rattle.kinds.specs.Kinds as kinds
+use Rattle.kinds.specs.declared.Form.{Form}
+use Rattle.kinds.specs.declared.Form.the-variants as form
+use Rattle.layouts.specs.Layout.{Layout}
+use Rattle.layouts.specs.Book.{Book}
+use Rattle.rows.specs.Row.{Field, Row}
+use Rattle.headers.specs.Header.{Header, headerAt}
+use Rattle.elements.specs.Element.{Element, item, layout, row, finish, Stepped, elementAt}
+use Rattle.elements.specs.Steps.{isLast}
+use Rattle.questions.specs.Answers.{valueOf, octetsOf}
+use Rattle.questions.specs.declared.Value.{Value}
+use Rattle.values.specs.Values.{valueText}
+use Rattle.printing.specs.Text.{Prints, showing, decimal, signed, refusal}
+use Rattle.printing.specs.declared.Show.the-variants.{Hex, Escaped}
+use Rattle.dates.specs.Times.{TimeText}
+
+-- What it is to print a text that is right.
+pub record Puts (Right : List ℕ → Type 0) (before : List ℕ) (n : ℕ) (after : List ℕ) (r : ℕ) : Type 0 where
+  pub text : List ℕ
+  pub right : Right text
+  pub prints : Prints before n text after r
+
+-- A line with a time in it.
+pub data Timed (bits : ℕ) (line : List ℕ → List ℕ) : List ℕ → Type 0 where
+  timed : {time : List ℕ} → TimeText bits time → Timed bits line (line time)
+
+-- "document 4 " and the start time.
+abbrev pub headerText : List ℕ → List ℕ
+headerText time = (100 ∷ 111 ∷ 99 ∷ 117 ∷ 109 ∷ 101 ∷ 110 ∷ 116 ∷ 32 ∷ 52 ∷ 32 ∷ []) ++ (time ++ 10 ∷ [])
+
+-- What an element is, its place and a layout's number, which is signed.
+abbrev pub numbered : List ℕ → ℕ → ℕ → List ℕ
+numbered word at number = (word ++ decimal at) ++ 32 ∷ signed (kinds.signed 4 number)
+
+-- A string follows "=", with escapes; hexBinary is "x" and the hex digits of its octets.
+abbrev pub stringText : List ℕ → List ℕ
+stringText xs = 61 ∷ showing Escaped xs
+
+abbrev pub octetsText : List ℕ → List ℕ
+octetsText xs = 120 ∷ showing Hex xs
+
+-- A value by its type's form: octets, a string, or a number, and a boolean as 0 or 1.
+abbrev pub wordText : Form → Value → List ℕ → List ℕ
+wordText form.Octets v xs = octetsText xs
+wordText form.Text v xs = stringText xs
+wordText (form.Fixed w) v xs = valueText v
+wordText form.Truth v xs = valueText v
+
+abbrev pub fieldText : Field → List ℕ
+fieldText f = wordText (kinds.formOf (f .attribute .kind .basic)) (valueOf (f .attribute .kind .basic) (f .value)) (octetsOf (f .value))
+
+-- "layout ", place, number, type name and attribute count.
+abbrev pub layoutText : ℕ → Layout → List ℕ
+layoutText at l =
+    numbered (108 ∷ 97 ∷ 121 ∷ 111 ∷ 117 ∷ 116 ∷ 32 ∷ []) at (l .number)
+    ++ ((32 ∷ stringText (l .type-name)) ++ ((32 ∷ decimal (length (l .attributes))) ++ 10 ∷ []))
+
+-- "row ", place, number and values.
+abbrev pub rowText : ℕ → Row → List ℕ
+rowText at r = numbered (114 ∷ 111 ∷ 119 ∷ 32 ∷ []) at (r .number) ++ (images (λ f. 32 ∷ fieldText f) (r .fields) ++ 10 ∷ [])
+
+-- "end ", place, count and end time.
+abbrev pub endText : ℕ → ℕ → List ℕ → List ℕ
+endText at count time = ((101 ∷ 110 ∷ 100 ∷ 32 ∷ []) ++ decimal at) ++ ((32 ∷ decimal count) ++ (32 ∷ time ++ 10 ∷ []))
+
+-- A refusal: number and place.
+abbrev pub refusalText : ℕ → ℕ → List ℕ
+refusalText n p = refusal n p ++ 10 ∷ []
+
+-- The line of an element at a place.
+pub data ElementText (at : ℕ) : Element → List ℕ → Type 0 where
+  of-layout : (l : Layout) → ElementText at (item (layout l)) (layoutText at l)
+  of-row : (r : Row) → ElementText at (item (row r)) (rowText at r)
+  of-end : (n t : ℕ) {text : List ℕ} → Timed t (endText at n) text → ElementText at (finish n t) text
+
+-- The lines from a place on, told the rows passed and over a book: up to the end, or to a refusal, which is the last line.
+pub data LinesFrom (s : List ℕ) : ℕ → ℕ → Book → List ℕ → Type 0 where
+  refused : {at rows : ℕ} {book : Book} (n p : ℕ) → elementAt s at rows book ≡ no n p → LinesFrom s at rows book (refusalText n p)
+  last : {at rows : ℕ} {book : Book} {text : List ℕ} (st : Stepped) (next : ℕ) → elementAt s at rows book ≡ ok st next → isLast (st .element) ≡ true
+      → ElementText at (st .element) text → LinesFrom s at rows book text
+  more : {at rows : ℕ} {book : Book} {text rest : List ℕ} (st : Stepped) (next : ℕ) → elementAt s at rows book ≡ ok st next → isLast (st .element) ≡ false
+      → ElementText at (st .element) text → LinesFrom s next (st .rows) (st .book) rest → LinesFrom s at rows book (text ++ rest)
+
+-- The listing of a document: the header's line and those of the elements from an empty book, or the header's refusal.
+pub data Listing (s : List ℕ) : List ℕ → Type 0 where
+  unheaded : (n p : ℕ) → headerAt s ≡ no n p → Listing s (refusalText n p)
+  headed : {first rest : List ℕ} (h : Header) (next : ℕ) → headerAt s ≡ ok h next → Timed (h .start) headerText first
+      → LinesFrom s next 0 [] rest → Listing s (first ++ rest)
