@@ -3,10 +3,17 @@
 ghost use Prim.Native.Nat.{ℕ};
 ghost use mathlib.Core.Path.{_≡_};
 ghost use mathlib.Core.List.{[], _∷_};
+ghost use lib.ListN.{length};
+ghost use Rattle.octets.specs.Reading.{ok};
+ghost use Rattle.layouts.specs.Layout.{Layout};
+ghost use Rattle.rows.specs.Row.{Field, Row};
+ghost use Rattle.questions.specs.Questions.{rowAsked, fieldAsked, layoutAsked, partOf};
+ghost use Rattle.questions.specs.Answers.{octetsOf};
 ghost use Rattle.printing.specs.Text.{Prints};
-ghost use Rattle.listing.specs.Lines.{Puts, Timed, headerText, numbered, stringText, octetsText, endText, refusalText};
+ghost use Rattle.listing.specs.Lines.{Puts, Timed, headerText, numbered, stringText, octetsText, wordText, fieldText, layoutText, rowText, endText, refusalText};
 use elements::Met;
 use elements::Stepping;
+use kinds::Form;
 use printing::Show;
 use questions::Fielded;
 use questions::Value;
@@ -57,7 +64,9 @@ fn layout_line<'d, 'b, 'o>(
     count: u32,
     out: &'o mut [u8],
     n: usize,
-) -> usize {
+) -> usize
+    ensures { λ r. ⌜ ((l : Layout) (next : ℕ) → layoutAsked (now (doc .entry)) at rows (now (book .entry)) used ≡ ok l next → number ≡ l .number → count ≡ length (l .attributes) → Prints (now (out .entry)) n (layoutText at l) (now (out .exit)) r) ⌝ }
+{
     let head = numbered(out, n, b"layout ", at, number);
     let gap = printing::octet(out, head, b' ');
     let name = string(out, gap, questions::type_name(doc, at, rows, book, used));
@@ -65,7 +74,7 @@ fn layout_line<'d, 'b, 'o>(
     printing::octet(out, to, b'\n')
 }
 
-// A value, of which octets are asked from the document.
+// A value by its form; octets are asked from the document.
 fn value_word<'d, 'b, 'o>(
     doc: &'d [u8],
     at: usize,
@@ -73,22 +82,26 @@ fn value_word<'d, 'b, 'o>(
     book: &'b [u8],
     used: usize,
     i: usize,
+    form: Form,
     value: Value,
     out: &'o mut [u8],
     n: usize,
-) -> usize {
-    match value {
-        Value::HexBinary => octets(
+) -> usize
+    ensures { λ r. ⌜ Prints (now (out .entry)) n (wordText form value (partOf (λ f. octetsOf (f .value)) (fieldAsked (now (doc .entry)) at rows (now (book .entry)) used i))) (now (out .exit)) r ⌝ }
+{
+    match form {
+        Form::Octets => octets(
             out,
             n,
             questions::field_octets(doc, at, rows, book, used, i),
         ),
-        Value::String => string(
+        Form::Text => string(
             out,
             n,
             questions::field_octets(doc, at, rows, book, used, i),
         ),
-        _ => values::value(out, n, value),
+        Form::Fixed(w) => values::value(out, n, value),
+        Form::Truth => values::value(out, n, value),
     }
 }
 
@@ -102,12 +115,18 @@ fn field_word<'d, 'b, 'o>(
     i: usize,
     out: &'o mut [u8],
     n: usize,
-) -> usize {
+) -> usize
+    ensures { λ r. ⌜ ((f : Field) (next : ℕ) → fieldAsked (now (doc .entry)) at rows (now (book .entry)) used i ≡ ok f next → Prints (now (out .entry)) n (32 ∷ fieldText f) (now (out .exit)) r) ⌝ }
+{
     let to = printing::octet(out, n, b' ');
     let field = questions::field(doc, at, rows, book, used, i);
     match field {
-        Fielded::Is(kind, value) => value_word(doc, at, rows, book, used, i, value, out, to),
         Fielded::Refused(number, place) => to,
+        Fielded::Is(kind, value) => {
+            let basic = kind.basic;
+            let form = kinds::form_of(basic);
+            value_word(doc, at, rows, book, used, i, form, value, out, to)
+        }
     }
 }
 
@@ -122,7 +141,9 @@ fn row_line<'d, 'b, 'o>(
     count: u32,
     out: &'o mut [u8],
     n: usize,
-) -> usize {
+) -> usize
+    ensures { λ r. ⌜ ((row : Row) (next : ℕ) → rowAsked (now (doc .entry)) at rows (now (book .entry)) used ≡ ok row next → number ≡ row .number → count ≡ length (row .fields) → Prints (now (out .entry)) n (rowText at row) (now (out .exit)) r) ⌝ }
+{
     let mut to = numbered(out, n, b"row ", at, number);
     let mut i: u32 = 0;
     while i < count {

@@ -1,20 +1,67 @@
--- `listing::row_line` is safe. The measure is the fields left. Assumes nothing.
+-- `listing::row_line` meets its contract. The invariant: the fields passed are printed. The measure is the fields left. Assumes nothing.
 use borrow.Author.Needs.{needs}
 use native.Mathlib.Omega.{arith}
-use mathlib.Core.Path.{_≡_, refl, _∙_}
-use Prim.Native.Nat.{_-_}
-use lib.ListN.{length}
+use mathlib.Core.Path.{_≡_, refl, sym, ap, _∙_}
+use mathlib.Core.List.{List, [], _∷_}
+use Prim.Native.Nat.{ℕ, _-_, _≤_}
+use lib.ListN.{length, take}
+use lib.Seq.{take-length}
+use denote.Ref.{now}
+use Rattle.octets.specs.Reading.{ok}
+use Rattle.octets.specs.Writing.{images}
+use Rattle.rows.specs.Row.{Field, Row}
+use Rattle.questions.specs.Questions.{rowAsked}
+use Rattle.printing.specs.Text.{Prints}
+use Rattle.printing.proofs.Puts.{then, says, nothing, images-none}
+use Rattle.listing.specs.Lines.{numbered, fieldText}
+use Rattle.listing.proofs.Words.{one-more, nth-field}
 use Rattle.listing.proofs.row_line.Statement.{statement}
 use Rattle.listing.proofs.row_line.Tie as tie
 
+-- A field behind a space.
+abbrev spaced : Field → List ℕ
+spaced f = 32 ∷ fieldText f
+
 abbrev Inv-loop : tie.InvT-loop
-Inv-loop doc at rows book used number count out₀ n to₀ i₀ out to i = length out ≡ length out₀
+Inv-loop doc at rows book used number count out₀ n to₀ i₀ out to i =
+    (length out ≡ length out₀) × (i ≤ count)
+    × ((row : Row) (next : ℕ) → rowAsked doc at rows book used ≡ ok row next → count ≡ length (row .fields) → Prints out₀ to₀ (images spaced (take i (row .fields))) out to)
 
 abbrev μ-loop : tie.MeasureT-loop
 μ-loop doc at rows book used number count out₀ n to₀ i₀ out to i = count - i
 
+loop-holds : tie.Need-loop-holds Inv-loop μ-loop
+loop-holds c =
+    let head = c .before .before in
+    (refl, omega arith, λ row next e count. says (sym (images-none spaced)) (nothing (head .numbered .last .0) (head .numbered .result)))
+
+loop-again : tie.Need-loop-again Inv-loop μ-loop
+loop-again c =
+    let one = c .before .before in
+    let l = one .before .before .before .loop in
+    let a = one .before .before .before .before .before .before .before .before .before .before .before .before .args in (
+      one .field-word .kept .1 .1 .1 .1 .1 .1 .0 ∙ l .inv .0,
+      omega arith,
+      λ row next e count.
+          let (f, rest, is, more) = one-more spaced (row .fields) (l .i) (omega arith) in
+          says (sym more)
+          (then (l .inv .2 row next e count)
+          (one .field-word .ensures f next (nth-field (now (a .doc)) (a .at) (a .rows) (now (a .book)) (a .used) (l .i) row next f rest e is))),
+    )
+
+returns : tie.Need-returns Inv-loop μ-loop
+returns c =
+    let last = c .before .before in
+    let l = last .before .before .before .loop in
+    let head = last .before .before .before .before .before .before in
+    let a = head .before .before .before .before .before .before .args in
+    λ row next e number count.
+    let all : l .i ≡ length (row .fields) = omega arith in
+    then (says (ap (λ (x : ℕ). numbered (114 ∷ 111 ∷ 119 ∷ 32 ∷ []) (a .at) x) number) (head .numbered .ensures))
+    (then (says (ap (λ (i : ℕ). images spaced (take i (row .fields))) all ∙ ap (images spaced) (take-length (row .fields))) (l .inv .2 row next e count)) (last .octet .ensures))
+
 pub row-line-spec : {M : Type 1} → statement M
 row-line-spec =
     tie.close
-    (tie.spec Inv-loop μ-loop (λ c. search needs) (λ c κs. search needs) (λ c. search needs) (λ c. search needs) (λ c κs. search needs) (λ c. search needs)
-    (λ c. search needs) (λ c. search needs) (λ c κs. search needs) (λ c. search needs) (λ c. search needs))
+    (tie.spec Inv-loop μ-loop (λ c. search needs) (λ c κs. search needs) loop-holds (λ c. search needs) (λ c κs. search needs) (λ c. search needs)
+    (λ c. search needs) loop-again (λ c κs. search needs) (λ c. search needs) returns)
