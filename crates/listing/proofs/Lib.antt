@@ -1,2 +1,3 @@
 pub mod Further
 pub mod Words
+pub mod Stepping

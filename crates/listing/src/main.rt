@@ -7,10 +7,13 @@ ghost use lib.ListN.{length};
 ghost use Rattle.octets.specs.Reading.{ok};
 ghost use Rattle.layouts.specs.Layout.{Layout};
 ghost use Rattle.rows.specs.Row.{Field, Row};
+ghost use Rattle.elements.specs.Element.{Stepped};
+ghost use Rattle.elements.specs.Steps.{stepAt};
+ghost use Rattle.elements.specs.Answers.{metOf, isLastMet};
 ghost use Rattle.questions.specs.Questions.{rowAsked, fieldAsked, layoutAsked, partOf};
 ghost use Rattle.questions.specs.Answers.{octetsOf};
 ghost use Rattle.printing.specs.Text.{Prints};
-ghost use Rattle.listing.specs.Lines.{Puts, Timed, headerText, numbered, stringText, octetsText, wordText, fieldText, layoutText, rowText, endText, refusalText};
+ghost use Rattle.listing.specs.Lines.{Puts, Timed, headerText, numbered, stringText, octetsText, wordText, fieldText, layoutText, rowText, endText, refusalText, ElementText};
 use elements::Met;
 use elements::Stepping;
 use kinds::Form;
@@ -174,7 +177,9 @@ fn element_line<'d, 'b, 'o>(
     met: Met,
     out: &'o mut [u8],
     n: usize,
-) -> usize {
+) -> usize
+    ensures { λ r. ⌜ ((st : Stepped) (next : ℕ) → stepAt (now (doc .entry)) at rows (now (book .entry)) used ≡ ok st next → metOf (st .element) ≡ met → Puts (ElementText at (st .element)) (now (out .entry)) n (now (out .exit)) r) ⌝ }
+{
     match met {
         Met::Layout(number, count) => layout_line(doc, at, rows, book, used, number, count, out, n),
         Met::Row(number, stated, count) => row_line(
@@ -192,7 +197,10 @@ fn element_line<'d, 'b, 'o>(
     }
 }
 
-fn is_end(met: Met) -> bool {
+// Whether an element is the end.
+fn is_end(met: Met) -> bool
+    ensures { λ r. ⌜ r ≡ isLastMet met ⌝ }
+{
     match met {
         Met::Layout(number, count) => false,
         Met::Row(number, stated, count) => false,
