@@ -1,3 +1,4 @@
-pub mod Further
 pub mod Words
 pub mod Stepping
+pub mod Passed
+pub mod Heads

@@ -1,6 +1,6 @@
 // The listing: a document on standard input, a line for its header and for each element.
 
-ghost use Prim.Native.Nat.{ℕ};
+ghost use Prim.Native.Nat.{ℕ, _≤_};
 ghost use mathlib.Core.Path.{_≡_};
 ghost use mathlib.Core.List.{[], _∷_};
 ghost use lib.ListN.{length};
@@ -13,7 +13,7 @@ ghost use Rattle.elements.specs.Answers.{metOf, isLastMet};
 ghost use Rattle.questions.specs.Questions.{rowAsked, fieldAsked, layoutAsked, partOf};
 ghost use Rattle.questions.specs.Answers.{octetsOf};
 ghost use Rattle.printing.specs.Text.{Prints};
-ghost use Rattle.listing.specs.Lines.{Puts, Timed, headerText, numbered, stringText, octetsText, wordText, fieldText, layoutText, rowText, endText, refusalText, ElementText};
+ghost use Rattle.listing.specs.Lines.{Puts, Timed, headerText, numbered, stringText, octetsText, wordText, fieldText, layoutText, rowText, endText, refusalText, ElementText, LinesFrom, Listing};
 use elements::Met;
 use elements::Stepping;
 use kinds::Form;
@@ -217,7 +217,10 @@ fn refused_line(out: &mut [u8], n: usize, number: u32, place: usize) -> usize
 }
 
 // The lines of the elements from a place on, up to the end or a refusal.
-fn element_lines<'d, 'o>(doc: &'d [u8], at: usize, out: &'o mut [u8], n: usize) -> usize {
+fn element_lines<'d, 'o>(doc: &'d [u8], at: usize, out: &'o mut [u8], n: usize) -> usize
+    requires { ⌜ (at ≤ length (now doc)) × (length (now doc) ≤ 1048576) ⌝ }
+    ensures { λ r. ⌜ Puts (LinesFrom (now (doc .entry)) at 0 []) (now (out .entry)) n (now (out .exit)) r ⌝ }
+{
     let mut book = [0u8; 32768];
     let mut pos = at;
     let mut rows: usize = 0;
@@ -244,7 +247,9 @@ fn element_lines<'d, 'o>(doc: &'d [u8], at: usize, out: &'o mut [u8], n: usize) 
 }
 
 // The lines of a document.
-fn lines<'d, 'o>(doc: &'d [u8], out: &'o mut [u8]) -> usize {
+fn lines<'d, 'o>(doc: &'d [u8], out: &'o mut [u8]) -> usize
+    ensures { λ r. ⌜ Puts (Listing (now (doc .entry))) (now (out .entry)) 0 (now (out .exit)) r ⌝ }
+{
     let headed = reading::header(doc);
     match headed {
         Headed::Refused(number, place) => refused_line(out, 0, number, place),

@@ -1,0 +1,72 @@
+-- `listing::lines` meets its contract: the listing of the document. Assumes nothing.
+use borrow.Author.Needs.{needs}
+use mathlib.Core.Path.{_≡_, sym, ap, _∙_, subst}
+use mathlib.Core.List.{List, [], _++_}
+use Prim.Native.Nat.{ℕ, _≤_}
+use lib.ListN.{length}
+use denote.Ref.{now}
+use Rattle.octets.specs.Reading.{ok}
+use Rattle.octets.proofs.Spans.{each-octet}
+use Rattle.headers.specs.Header.{Header, headerAt}
+use Rattle.reading.specs.Answers.{headOf}
+use Rattle.reading.specs.declared.Head.{Head}
+use Rattle.printing.proofs.Puts.{then}
+use Rattle.listing.specs.Lines.{Timed, headerText, refusalText, LinesFrom, unheaded, headed}
+use Rattle.listing.proofs.Heads.{headed-as, unheaded-as, header-place}
+use Rattle.listing.proofs.lines.Statement.{statement}
+use Rattle.listing.proofs.lines.Tie as tie
+
+returns : tie.Need-returns
+returns c =
+    let line = c .before .before in
+    let no = line .before .before .before .headed .given in
+    let v = line .before .before .before .before .before in
+    let s = now (v .before .before .before .args .doc) in
+    record {
+      text = refusalText (no .0 .0) (no .0 .1 .0);
+      right = unheaded _ _ (unheaded-as (headerAt s) _ _ (sym (v .header .ensures) ∙ no .1));
+      prints = line .refused-line .ensures;
+    }
+
+-- The header is accepted.
+abbrev Told : Type 0
+Told = tie.After-known-told2
+
+module _ (k : Told) where
+  abbrev by : tie.After-header
+  by = k .before .before .before
+
+  abbrev doc : List ℕ
+  doc = now (by .before .before .before .args .doc)
+
+  abbrev head : Head
+  head = k .before .headed2 .given .0 .0
+
+  told : (h : Header) × (next : ℕ) × (headerAt doc ≡ ok h next) × (headOf h next ≡ head)
+  told = headed-as (headerAt doc) head (sym (by .header .ensures) ∙ k .before .headed2 .given .1)
+
+  place : (head .next ≤ length doc) × (length doc ≤ 1048576)
+  place =
+      subst (λ (x : Head). (x .next ≤ length doc) × (length doc ≤ 1048576)) (told .3)
+      (header-place doc (each-octet doc (by .before .before .shared-slice-known .given)) (told .0) (told .1) (told .2))
+
+returns-2 : tie.Need-returns-2
+returns-2 c =
+    let rest = c .before .before in
+    let line = rest .before .before .before .before in
+    let k = line .before .before in
+    let first = line .header-line .ensures in
+    let from = rest .element-lines .ensures in
+    let (h, next, is, same) = told k in
+    record {
+      text = first .text ++ from .text;
+      right = headed h next is (subst (λ (x : Head). Timed (x .start) headerText (first .text)) (sym same) (first .right))
+          (subst (λ (x : Head). LinesFrom (doc k) (x .next) 0 [] (from .text)) (sym same) (from .right));
+      prints = then (first .prints) (from .prints);
+    }
+
+pub lines-spec : {M : Type 1} → statement M
+lines-spec =
+    tie.close
+    (tie.spec (λ c κs. search needs) (λ c. search needs) (λ c κs. search needs) (λ c. search needs) (λ c κs. search needs)
+    (λ c κs. place (c .before .before .before .before .before)) (λ c. search needs) returns (λ c. search needs) returns-2)
