@@ -2,3 +2,4 @@ pub mod Words
 pub mod Stepping
 pub mod Passed
 pub mod Heads
+pub mod Once

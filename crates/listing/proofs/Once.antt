@@ -1,0 +1,67 @@
+-- A document has one listing: the definition leaves no choice.
+use Prim.Native.Nat.{ℕ}
+use mathlib.Core.Path.{_≡_, refl, sym, ap, _∙_, subst}
+use mathlib.Core.List.{List, [], _++_}
+use mathlib.Core.Bool.{Bool, true, false}
+use native.Mathlib.Omega.{arith}
+use Rattle.octets.specs.Reading.{Read, ok, no}
+use Rattle.octets.proofs.Inverse.{no-ok, ok-value, ok-place}
+use Rattle.layouts.specs.Book.{Book}
+use Rattle.headers.specs.Header.{Header, headerAt}
+use Rattle.elements.specs.Element.{Element, Stepped, elementAt}
+use Rattle.elements.specs.Steps.{isLast}
+use Rattle.dates.proofs.Once.{one-time}
+use Rattle.listing.specs.Lines.{Timed, timed, headerText, refusalText, ElementText, of-layout, of-row, of-end, LinesFrom, refused, last, more, Listing, unheaded, headed}
+
+one-timed : {bits : ℕ} {line : List ℕ → List ℕ} {a b : List ℕ} → Timed bits line a → Timed bits line b → a ≡ b
+one-timed {line = line} (timed p) (timed q) = ap line (one-time p q)
+
+one-element : {at : ℕ} {e : Element} {a b : List ℕ} → ElementText at e a → ElementText at e b → a ≡ b
+one-element (of-layout l) (of-layout _) = refl
+one-element (of-row r) (of-row _) = refl
+one-element (of-end n t p) (of-end _ _ q) = one-timed p q
+
+one-refusal : {A : Type 0} (r : Read A) (n p m q : ℕ) → r ≡ no n p → r ≡ no m q → refusalText n p ≡ refusalText m q
+one-refusal r n p m q e f =
+    let a : n ≡ m = cc in
+    let b : p ≡ q = cc in
+    rw (a, b) refl
+
+-- An element is the last or not.
+never : (x y : Stepped) → x ≡ y → isLast (x .element) ≡ true → isLast (y .element) ≡ false → ⊥
+never x y same t f =
+    let both : true ≡ false = sym t ∙ (ap (λ (z : Stepped). isLast (z .element)) same ∙ f) in
+    let z : _≡_ {A = ℕ} 0 1 = cc in
+    omega arith
+
+same-element : {at : ℕ} (x y : Stepped) {a b : List ℕ} → x ≡ y → ElementText at (x .element) a → ElementText at (y .element) b → a ≡ b
+same-element {at} x y {b = b} same p q = one-element p (subst (λ (z : Stepped). ElementText at (z .element) b) (sym same) q)
+
+module _ (s : List ℕ) where
+  pub one-lines : {at rows : ℕ} {book : Book} {a b : List ℕ} → LinesFrom s at rows book a → LinesFrom s at rows book b → a ≡ b
+  one-lines {at} {rows} {book} (refused n p e) (refused m q f) = one-refusal (elementAt s at rows book) n p m q e f
+  one-lines (refused n p e) (last st next f t x) = absurd (no-ok e f)
+  one-lines (refused n p e) (more st next f t x l) = absurd (no-ok e f)
+  one-lines (last st next f t x) (refused n p e) = absurd (no-ok e f)
+  one-lines (last st next f t x) (last su mext g u y) = same-element st su (ok-value f g) x y
+  one-lines (last st next f t x) (more su mext g u y l) = absurd (never st su (ok-value f g) t u)
+  one-lines (more st next f t x l) (refused n p e) = absurd (no-ok e f)
+  one-lines (more st next f t x l) (last su mext g u y) = absurd (never su st (ok-value g f) u t)
+  one-lines (more {text = a} {rest} st next f t x l) (more {text = b} {rest = others} su mext g u y m) =
+      let same : su ≡ st = ok-value g f in
+      let place : mext ≡ next = ok-place g f in
+      let here : a ≡ b = same-element st su (sym same) x y in
+      let there : rest ≡ others = one-lines l
+      (subst (λ (z : Stepped). LinesFrom s next (z .rows) (z .book) others) same (subst (λ (k : ℕ). LinesFrom s k (su .rows) (su .book) others) place m)) in
+      cc
+
+  pub one-listing : {a b : List ℕ} → Listing s a → Listing s b → a ≡ b
+  one-listing (unheaded n p e) (unheaded m q f) = one-refusal (headerAt s) n p m q e f
+  one-listing (unheaded n p e) (headed h next f x l) = absurd (no-ok e f)
+  one-listing (headed h next f x l) (unheaded n p e) = absurd (no-ok e f)
+  one-listing (headed {first = a} {rest} h next f x l) (headed {first = b} {rest = others} g mext e y m) =
+      let same : g ≡ h = ok-value e f in
+      let place : mext ≡ next = ok-place e f in
+      let here : a ≡ b = one-timed x (subst (λ (z : Header). Timed (z .start) headerText b) same y) in
+      let there : rest ≡ others = one-lines l (subst (λ (k : ℕ). LinesFrom s k 0 [] others) place m) in
+      cc
