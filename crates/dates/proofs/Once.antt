@@ -1,13 +1,13 @@
 -- A time has one text. Of the years, and of the months of a year, only one has a given day.
 use mathlib.Core.Path.{_≡_, refl, sym, ap, _∙_}
-use mathlib.Core.List.{List, _∷_, _++_}
+use mathlib.Core.List.{List, _++_}
 use mathlib.Core.Bool.{Bool, true, false}
 use Prim.Native.Nat.{ℕ, zero, suc, _+_, _/_, _%_, _≤_, _<_}
 use native.Mathlib.Omega.{arith}
 use lib.Dec.{ltb}
 use borrow.Author.Tests.{ltb-true, ltb-false}
 use Rattle.dates.specs.declared.Date.{Date}
-use Rattle.dates.specs.Calendar.{yearDays, monthDays, yearsDays, monthsDays, MonthOf, DateOf}
+use Rattle.dates.specs.Calendar.{yearDays, monthDays, yearsDays, monthsDays, DateOf}
 use Rattle.dates.specs.Times.{dayText, clockText, TimeText, dated, outside}
 
 -- Spans one behind another: a place lies in one of them.

@@ -13,7 +13,6 @@ use Rattle.headers.specs.Header.{Header, headerFrom, headerAt}
 use Rattle.headers.proofs.Headers.{header-inverse}
 use Rattle.reading.specs.Answers.{headOf, headTells}
 use Rattle.reading.specs.declared.Head.{Head}
-use Rattle.reading.specs.declared.Headed.{Headed}
 use Rattle.reading.specs.declared.Headed.the-variants.{Is, Refused}
 
 pub headed-as : (r : Read Header) (head : Head) → headTells r ≡ Is head → (h : Header) × (next : ℕ) × (r ≡ ok h next) × (headOf h next ≡ head)

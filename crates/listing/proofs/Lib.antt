@@ -3,3 +3,4 @@ pub mod Stepping
 pub mod Passed
 pub mod Heads
 pub mod Once
+pub mod Specimen

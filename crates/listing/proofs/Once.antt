@@ -1,10 +1,10 @@
 -- A document has one listing: the definition leaves no choice.
 use Prim.Native.Nat.{ℕ}
 use mathlib.Core.Path.{_≡_, refl, sym, ap, _∙_, subst}
-use mathlib.Core.List.{List, [], _++_}
-use mathlib.Core.Bool.{Bool, true, false}
+use mathlib.Core.List.{List, []}
+use mathlib.Core.Bool.{true, false}
 use native.Mathlib.Omega.{arith}
-use Rattle.octets.specs.Reading.{Read, ok, no}
+use Rattle.octets.specs.Reading.{Read, no}
 use Rattle.octets.proofs.Inverse.{no-ok, ok-value, ok-place}
 use Rattle.layouts.specs.Book.{Book}
 use Rattle.headers.specs.Header.{Header, headerAt}

@@ -1,7 +1,7 @@
 -- A run over the elements on the way: the lines of those passed are printed, and with the lines from here on they are the lines from the start.
-use Prim.Native.Nat.{ℕ, _+_, _≤_, _<_}
+use Prim.Native.Nat.{ℕ, _+_, _≤_}
 use mathlib.Core.Path.{_≡_, refl, sym, ap, _∙_, subst}
-use mathlib.Core.List.{List, [], _∷_, _++_, append-assoc, append-nil}
+use mathlib.Core.List.{List, [], _++_, append-assoc, append-nil}
 use mathlib.Core.Bool.{true, false}
 use mathlib.Core.Logic.{⊎-elim}
 use native.Mathlib.Omega.{arith}
@@ -9,7 +9,7 @@ use lib.ListN.{length, take, drop}
 use lib.Seq.{take-at}
 use Rattle.octets.specs.Reading.{ok, no}
 use Rattle.octets.specs.Writing.{Each, Octet}
-use Rattle.layouts.specs.Layout.{Layout, layoutImage}
+use Rattle.layouts.specs.Layout.{layoutImage}
 use Rattle.layouts.specs.Book.{Book, bookImage, bookOf, bookIn}
 use Rattle.layouts.proofs.Books.{Lent, image-snoc}
 use Rattle.layouts.proofs.Growing.{learnt}

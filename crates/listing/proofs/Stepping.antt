@@ -1,6 +1,6 @@
 -- An accepted step and what is asked about its element: an answer says which element it was, and the questions from the same inputs read that one.
-use Prim.Native.Nat.{ℕ, _+_}
-use mathlib.Core.Path.{_≡_, refl, sym, ap, _∙_, subst}
+use Prim.Native.Nat.{ℕ}
+use mathlib.Core.Path.{_≡_, refl}
 use mathlib.Core.List.{List}
 use mathlib.Core.Bool.{Bool}
 use native.Mathlib.Omega.{arith}
@@ -13,7 +13,6 @@ use Rattle.rows.specs.Row.{Row}
 use Rattle.elements.specs.Element.{Element, item, layout, row, finish, Stepped, elementAt}
 use Rattle.elements.specs.Steps.{lentBook, stepAt}
 use Rattle.elements.specs.Answers.{metOf}
-use Rattle.elements.specs.declared.Met.{Met}
 use Rattle.elements.specs.declared.Met.the-variants as met
 use Rattle.elements.proofs.Went.{Went, at-layout, at-row, at-finish, went}
 use Rattle.questions.specs.Questions.{kindAsked, bookAsked, rowAsked, layoutAsked}

@@ -1,5 +1,5 @@
 -- Words of a line: those that are printed as they are, and a row's fields one after another.
-use mathlib.Core.Path.{_≡_, refl, sym, ap, _∙_}
+use mathlib.Core.Path.{_≡_, refl, ap, _∙_}
 use mathlib.Core.List.{List, [], _∷_, _++_}
 use Prim.Native.Nat.{ℕ, suc, _+_, _<_}
 use native.Mathlib.Omega.{arith}
@@ -14,7 +14,6 @@ use Rattle.rows.specs.Row.{Field, Row}
 use Rattle.questions.specs.Questions.{rowAsked, fieldAsked, partOf}
 use Rattle.questions.specs.Answers.{valueOf, octetsOf, fieldTells}
 use Rattle.questions.specs.declared.Value.{Value}
-use Rattle.questions.specs.declared.Fielded.{Fielded}
 use Rattle.questions.specs.declared.Fielded.the-variants.{Is}
 use Rattle.questions.proofs.Asked.{nth-some}
 use Rattle.printing.specs.Text.{Prints, showing}

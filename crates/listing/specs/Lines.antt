@@ -1,4 +1,4 @@
--- The listing of a document: document 01's lines, as octets. "Fields" of a line are separated by one space, and each line ends in a new line, 10.
+-- The listing of a document, line by line, as octets. One space, 32, stands before every field of a line but the first word, and each line ends in 10.
 use Prim.Native.Nat.{ℕ}
 use mathlib.Core.Path.{_≡_}
 use mathlib.Core.List.{List, [], _∷_, _++_}
@@ -36,18 +36,18 @@ pub data Timed (bits : ℕ) (line : List ℕ → List ℕ) : List ℕ → Type 0
 abbrev pub headerText : List ℕ → List ℕ
 headerText time = (100 ∷ 111 ∷ 99 ∷ 117 ∷ 109 ∷ 101 ∷ 110 ∷ 116 ∷ 32 ∷ 52 ∷ 32 ∷ []) ++ (time ++ 10 ∷ [])
 
--- What an element is, its place and a layout's number, which is signed.
+-- A word that says what an element is, its place and a layout's number, which is signed.
 abbrev pub numbered : List ℕ → ℕ → ℕ → List ℕ
 numbered word at number = (word ++ decimal at) ++ 32 ∷ signed (kinds.signed 4 number)
 
--- A string follows "=", with escapes; hexBinary is "x" and the hex digits of its octets.
+-- A string: "=" and its octets, with escapes. HexBinary: "x" and the hex digits of its octets.
 abbrev pub stringText : List ℕ → List ℕ
 stringText xs = 61 ∷ showing Escaped xs
 
 abbrev pub octetsText : List ℕ → List ℕ
 octetsText xs = 120 ∷ showing Hex xs
 
--- A value by its type's form: octets, a string, or a number, and a boolean as 0 or 1.
+-- A value by its type's form: octets, a string, a number (float and double by their bits), and a boolean.
 abbrev pub wordText : Form → Value → List ℕ → List ℕ
 wordText form.Octets v xs = octetsText xs
 wordText form.Text v xs = stringText xs
@@ -71,7 +71,7 @@ rowText at r = numbered (114 ∷ 111 ∷ 119 ∷ 32 ∷ []) at (r .number) ++ (i
 abbrev pub endText : ℕ → ℕ → List ℕ → List ℕ
 endText at count time = ((101 ∷ 110 ∷ 100 ∷ 32 ∷ []) ++ decimal at) ++ ((32 ∷ decimal count) ++ (32 ∷ time ++ 10 ∷ []))
 
--- A refusal: number and place.
+-- "refused ", number and place, as the last line.
 abbrev pub refusalText : ℕ → ℕ → List ℕ
 refusalText n p = refusal n p ++ 10 ∷ []
 

@@ -1,6 +1,6 @@
 -- `listing::element_line` meets its contract, by the element that the answer tells. Assumes nothing.
 use borrow.Author.Needs.{needs}
-use mathlib.Core.Path.{_≡_, sym, _∙_, subst}
+use mathlib.Core.Path.{sym, _∙_, subst}
 use denote.Ref.{now}
 use Rattle.elements.specs.Element.{Element}
 use Rattle.listing.specs.Lines.{layoutText, rowText, ElementText, of-layout, of-row, of-end}

@@ -11,10 +11,9 @@ use denote.Ref.{now}
 use Rattle.octets.specs.Reading.{ok}
 use Rattle.octets.specs.Writing.{Each, Octet}
 use Rattle.octets.proofs.Spans.{each-octet, each-replicate}
-use Rattle.elements.specs.Element.{Element, Stepped}
+use Rattle.elements.specs.Element.{Stepped}
 use Rattle.elements.specs.Steps.{leaves, holding, stepAt, isLast}
-use Rattle.elements.specs.Answers.{tells, stepOf, metOf, isLastMet}
-use Rattle.elements.specs.declared.Met.{Met}
+use Rattle.elements.specs.Answers.{stepOf, isLastMet}
 use Rattle.elements.specs.declared.Step.{Step}
 use Rattle.elements.proofs.Going.{done, refusing, last-met}
 use Rattle.listing.specs.Lines.{Puts, ElementText}

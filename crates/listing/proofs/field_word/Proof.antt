@@ -8,8 +8,6 @@ use Rattle.rows.specs.Row.{Field}
 use Rattle.octets.specs.Reading.{Read}
 use Rattle.questions.specs.Questions.{fieldAsked}
 use Rattle.questions.specs.Answers.{fieldTells}
-use Rattle.questions.specs.declared.Fielded.{Fielded}
-use Rattle.questions.specs.declared.Fielded.the-variants.{Is, Refused}
 use Rattle.printing.proofs.Puts.{then, says}
 use Rattle.listing.proofs.Words.{asked-text}
 use Rattle.listing.proofs.field_word.Statement.{statement}
