@@ -2,8 +2,9 @@
  * Asks one of the checks about documents. Standard input is a run of the
  * probe's commands D (a length of 8 octets, big-endian, and a document of that
  * length) and w (check it); each w is answered by a line. The check asked is
- * named when this is compiled: reader_whole, ipdr_whole or by_steps. An
- * argument says how many times each check is done; only the last is answered.
+ * named when this is compiled: reader_whole, ipdr_whole, by_steps or by_runs.
+ * An argument says how many times each check is done; only the last is
+ * answered.
  */
 #include <inttypes.h>
 #include <stdbool.h>

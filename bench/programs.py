@@ -13,8 +13,8 @@ OUT = ROOT / "target" / "bench"
 ARCHIVE = ROOT / "target" / "staticlib" / "libcollector.a"
 
 # A check is a function of one form; beside answer.c its program needs these.
-READER, WHOLE, STEPS = "reader_whole", "ipdr_whole", "by_steps"
-PARTS = {READER: [HERE / "reader.c"], WHOLE: [ARCHIVE], STEPS: [HERE / "steps.c", ARCHIVE]}
+READER, WHOLE, STEPS, RUNS = "reader_whole", "ipdr_whole", "by_steps", "by_runs"
+PARTS = {READER: [HERE / "reader.c"], WHOLE: [ARCHIVE], STEPS: [HERE / "steps.c", ARCHIVE], RUNS: [HERE / "steps.c", ARCHIVE]}
 
 COMPILER = shlex.split(os.environ.get("CC", "clang"))
 WARNINGS = ["-std=c11", "-Wall", "-Wextra", "-Werror"]

@@ -194,6 +194,62 @@ static void step_refuses(const char *what, uint32_t at, uint32_t rows, uint32_t 
     check(what, is_refusal(answer, number, place) && words_are(out_before) && book_is_as_lent());
 }
 
+/* The items of a run, as many words as lent and a few that no call may touch. */
+static uint64_t items[IPDR_RUN_MOST + 4];
+
+static void lend_items(void)
+{
+    for (size_t i = 0; i < IPDR_RUN_MOST + 4; i++)
+        items[i] = 0x5555555555555555u;
+}
+
+static int items_are_as_lent_from(uint64_t count)
+{
+    for (size_t i = count; i < IPDR_RUN_MOST + 4; i++)
+        if (items[i] != 0x5555555555555555u)
+            return 0;
+    return 1;
+}
+
+/* Whether an item says what a step's words say. */
+static int item_is_step(uint64_t item, const uint64_t words[WORDS])
+{
+    return ipdr_item_kind(item) == words[IPDR_STEP_KIND] && ipdr_item_number(item) == words[IPDR_STEP_NUMBER] &&
+           (uint64_t)ipdr_item_stated(item) == words[IPDR_STEP_STATED] && ipdr_item_next(item) == words[IPDR_STEP_NEXT];
+}
+
+/* A run passes so many items, each as the step there reads it, and leaves book, places and counts as the steps do;
+ * the step behind a run that is not full is the end or refused. */
+static void run_is_steps(const char *what, uint32_t at, uint32_t rows, uint32_t used, uint64_t count)
+{
+    static uint8_t stepped[sizeof book];
+    uint64_t words[WORDS], n = 0;
+    lend_words();
+    lend_items();
+    memcpy(stepped, book, sizeof book);
+    int good = ipdr_run(made.at, made.len, at, rows, book, book_len, used, items, out) == 0;
+    while (good && n < count) {
+        good = ipdr_step(made.at, made.len, at, rows, stepped, book_len, used, words) == 0 && item_is_step(items[n], words);
+        at = (uint32_t)words[IPDR_STEP_NEXT];
+        rows = (uint32_t)words[IPDR_STEP_ROWS];
+        used = (uint32_t)words[IPDR_STEP_USED];
+        n++;
+    }
+    const uint64_t due[WORDS] = {count, at, rows, used, 0, 0, 0, 0};
+    good = good && words_are(due) && items_are_as_lent_from(count) && memcmp(book, stepped, sizeof book) == 0;
+    if (good && count < IPDR_RUN_MOST)
+        good = ipdr_step(made.at, made.len, at, rows, stepped, book_len, used, words) != 0 || words[IPDR_STEP_KIND] == IPDR_END;
+    check(what, good);
+}
+
+static void run_refuses(const char *what, uint32_t at, uint32_t rows, uint32_t used, uint32_t number)
+{
+    lend_words();
+    lend_items();
+    uint64_t answer = ipdr_run(made.at, made.len, at, rows, book, book_len, used, items, out);
+    check(what, is_refusal(answer, number, 0) && words_are(out_before) && items_are_as_lent_from(0) && book_is_as_lent());
+}
+
 static void lend_empty_book(void)
 {
     lend_book(specimen, 0);
@@ -481,6 +537,51 @@ static void try_limits(void)
     }
 }
 
+static void try_runs(void)
+{
+    begin(SPECIMEN_SIZE);
+    lend_empty_book();
+    run_is_steps("a run over the specimen", HEADER_END, 0, 0, 3);
+    lend_specimen_book();
+    run_is_steps("a run from its second row", SECOND_ROW, 1, LAYOUT_SIZE, 1);
+    run_is_steps("a run at its end", END_AT, 2, LAYOUT_SIZE, 0);
+    run_is_steps("a run inside an element", FIRST_ROW + 1, 0, LAYOUT_SIZE, 0);
+    run_is_steps("a run at the document's end", SPECIMEN_SIZE, 2, LAYOUT_SIZE, 0);
+    run_is_steps("a run past it", UINT32_MAX, 2, LAYOUT_SIZE, 0);
+    run_is_steps("a run that reaches the most rows", FIRST_ROW, IPDR_ROWS_MOST, LAYOUT_SIZE, 1);
+    lend_specimen_book();
+    run_refuses("a run told too many rows: 17", FIRST_ROW, IPDR_ROWS_MOST + 1, LAYOUT_SIZE, IPDR_LENT);
+    run_refuses("a run over a cut book: 17", FIRST_ROW, 0, LAYOUT_SIZE - 1, IPDR_LENT);
+    book_len = IPDR_BOOK_SIZE - 1;
+    run_refuses("a run over a short book: 17", FIRST_ROW, 0, LAYOUT_SIZE, IPDR_LENT);
+    book_len = IPDR_BOOK_SIZE;
+
+    lend_empty_book();
+    run_is_steps("a run over rows of no layout", FIRST_ROW, 0, 0, 0);
+    change(SECOND_ROW + 4, 8);
+    run_is_steps("a run that meets a row of no layout", HEADER_END, 0, 0, 2);
+    begin(SECOND_ROW - 1);
+    lend_empty_book();
+    run_is_steps("a run that is cut short", HEADER_END, 0, 0, 1);
+
+    /* More rows than a run passes, the layout once more among them. */
+    begin(FIRST_ROW);
+    for (uint32_t i = 0; i < 5000; i++) {
+        put(specimen + (i % 2 ? SECOND_ROW : FIRST_ROW), 17);
+        if (i == 3000)
+            put(specimen + HEADER_END, FIRST_ROW - HEADER_END);
+    }
+    put_end(5000);
+    lend_empty_book();
+    run_is_steps("a full run", HEADER_END, 0, 0, IPDR_RUN_MOST);
+    run_is_steps("the run behind it", (uint32_t)out[IPDR_RUN_NEXT], (uint32_t)out[IPDR_RUN_ROWS], (uint32_t)out[IPDR_RUN_USED], 5002 - IPDR_RUN_MOST);
+
+    begin(SPECIMEN_SIZE);
+    put_zeros(IPDR_DOCUMENT_MOST + 1 - SPECIMEN_SIZE);
+    lend_empty_book();
+    run_refuses("a run over a document of 1,048,577 octets: 2", HEADER_END, 0, 0, IPDR_TOO_LONG);
+}
+
 int main(void)
 {
     try_specimen();
@@ -490,6 +591,7 @@ int main(void)
     try_places();
     try_lent();
     try_limits();
+    try_runs();
     printf("%d passed, %d failed\n", passed, failed);
     return failed != 0;
 }
