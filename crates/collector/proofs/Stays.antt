@@ -21,7 +21,8 @@ use Rattle.rows.specs.Row.{valueIn, fieldsIn, filled, valuesAt, named, rowAt}
 use Rattle.elements.specs.Element.{finishAt, elementAt}
 use Rattle.elements.specs.Steps.{lentBook, stepAt, isLast, elementsFrom, reading, whole}
 use Rattle.octets.proofs.Ends.{number-room}
-use Rattle.reading.proofs.Entry.{header-long, whole-refused, step-long}
+use Rattle.elements.proofs.Before.{lent-long, step-refused}
+use Rattle.reading.proofs.Entry.{header-long, whole-refused}
 use Rattle.collector.specs.Calls.{Packs}
 
 -- A reading that passes no end: neither by the place behind it nor by that of its refusal, whose number is not 0.
@@ -272,7 +273,7 @@ module _ (s : List ℕ) where
 
   pub step-packs : (at rows : ℕ) (octets : List ℕ) (used : ℕ) → at < 4294967296 → Packs (stepAt s at rows octets used)
   step-packs at rows octets used small =
-      limited (stepAt s at rows octets used) (step-long s at rows octets used) λ h. go (leb at (length s)) refl h
+      limited (stepAt s at rows octets used) (λ h. step-refused s rows octets used at 2 0 (lent-long s rows octets used h)) λ h. go (leb at (length s)) refl h
     where
       go : (t : Bool) → leb at (length s) ≡ t → length s ≤ 1048576 → Packs (stepAt s at rows octets used)
       go true e h = packs (length s) (stepAt s at rows octets used) (omega arith) (step-stays s (length s) (le-refl (length s)) at rows octets used (leb-true at (length s) e))

@@ -1,5 +1,6 @@
 pub mod Elements
 pub mod Went
 pub mod Told
+pub mod Before
 pub mod Going
 pub mod Quickly

@@ -18,8 +18,8 @@ use Rattle.layouts.proofs.Walks.{lent-book}
 use Rattle.elements.specs.Element.{Stepped, elementAt}
 use Rattle.elements.specs.Steps.{holding, lentBook, stepAt, isLast}
 use Rattle.elements.proofs.Going.{Going, going-start, going-on, element-place, element-book, holding-book}
+use Rattle.elements.proofs.Before.{lent-is}
 use Rattle.elements.proofs.Went.{Went, at-layout, at-row, at-finish, went}
-use Rattle.questions.proofs.Asked.{lent-is}
 use Rattle.printing.specs.Text.{Prints}
 use Rattle.printing.proofs.Puts.{then, nothing}
 use Rattle.listing.specs.Lines.{Puts, refusalText, ElementText, LinesFrom, refused, last, more}

@@ -19,6 +19,7 @@ use Rattle.layouts.proofs.Checks.{good-book, bad-book}
 use Rattle.rows.specs.Row.{Row, rowAt}
 use Rattle.elements.specs.Element.{item, layout, row, Stepped, layoutElement, rowElement, elementAt}
 use Rattle.elements.specs.Steps.{lentBook, stepAt}
+use Rattle.elements.proofs.Before.{lent-is, lent-forth}
 use Rattle.elements.proofs.Told.{element-layout, element-row}
 use Rattle.questions.specs.Questions.{kindAsked, bookAsked, nth, rowOf, layoutOf, rowAsked, layoutAsked, attributeAsked}
 use Rattle.questions.specs.Answers.{refusalOf}
@@ -55,34 +56,6 @@ module _ {A : Type 0} where
     pub nth-some : {a : A} {rest : List A} → drop n xs ≡ a ∷ rest → nth n place xs next ≡ ok a next
     unfolding nth
     nth-some e = rw e refl
-
--- The document, the book and the rows passed.
-module _ (s : List ℕ) (rows : ℕ) (octets : List ℕ) (used : ℕ) where
-  pub lent-long : 1048576 < length s → lentBook s rows octets used ≡ no 2 0
-  unfolding lentBook
-  lent-long h = rw (lt-leb (length s) 1048576 h) refl
-
-  module _ (short : length s ≤ 1048576) where
-    pub lent-unbooked : isOk (bookOf octets used) ≡ false → lentBook s rows octets used ≡ no 17 0
-    unfolding lentBook
-    lent-unbooked e = rw (le-leb (length s) 1048576 short, bad-book octets used e) refl
-
-    pub lent-many : IsBook octets used → 1048576 < rows → lentBook s rows octets used ≡ no 17 0
-    unfolding lentBook
-    lent-many e h = rw (le-leb (length s) 1048576 short, e, lt-leb rows 1048576 h) refl
-
-    pub lent-is : IsBook octets used → rows ≤ 1048576 → lentBook s rows octets used ≡ ok (bookIn octets used) used
-    unfolding lentBook
-    lent-is e h = rw (le-leb (length s) 1048576 short, e, le-leb rows 1048576 h) refl
-
-  pub lent-forth : {book : Book} {end : ℕ} → Each Octet octets → lentBook s rows octets used ≡ ok book end
-      → (length s ≤ 1048576) × (rows ≤ 1048576) × IsBook octets used
-  unfolding lentBook
-  lent-forth o e =
-      let (t, e₁) = chosen (leb (length s) 1048576) _ 2 0 e in
-      after (bookOf octets used) _ e₁ λ book end e₂ e₃.
-      let (t₁, e₄) = chosen (leb rows 1048576) (λ _. ok book end) 17 0 e₃ in
-      (leb-true (length s) 1048576 t, leb-true rows 1048576 t₁, good-book octets used o (ap isOk e₂))
 
 -- The kind.
 module _ (wanted : ℕ) (s : List ℕ) (at : ℕ) where

@@ -1,20 +1,15 @@
--- The equations of the entry points: what is refused before the element, and what is read behind it.
+-- The equations of the entry points: the header of a document, and what the whole check answers behind it.
 use Prim.Native.Nat.{ℕ, _+_, _≤_, _<_}
 use mathlib.Core.Path.{_≡_, refl, sym, ap, _∙_}
 use mathlib.Core.List.{List, []}
-use mathlib.Core.Bool.{Bool, true, false}
 use native.Mathlib.Omega.{arith}
 use lib.ListN.{length}
-use lib.Dec.{leb}
 use borrow.Author.Tests.{le-leb, lt-leb}
 use Rattle.octets.specs.Reading.{Read, ok, no, _then_, choose, isOk, be, number}
 use Rattle.octets.proofs.Inverse.{ok-value}
 use Rattle.octets.proofs.Ends.{number-ok, number-room}
-use Rattle.layouts.specs.Book.{Book, bookOf, bookIn, IsBook}
-use Rattle.layouts.proofs.Checks.{bad-book}
 use Rattle.headers.specs.Header.{Header, headerFrom, headerAt}
-use Rattle.elements.specs.Element.{elementAt}
-use Rattle.elements.specs.Steps.{Placed, Reading, lentBook, stepAt, elementsFrom, reading, rowsOf, counted, whole}
+use Rattle.elements.specs.Steps.{Placed, Reading, elementsFrom, reading, rowsOf, counted, whole}
 
 -- The header of a document, too long or not.
 module _ (s : List ℕ) where
@@ -47,22 +42,3 @@ module _ (s : List ℕ) where
   number-is w at n next e =
       let h = number-room s at w (ap isOk e) in
       (h, ok-value (number-ok s at w h) e)
-
--- One step: 2, then 17, then the element over the book that is lent.
-module _ (s : List ℕ) (at rows : ℕ) (octets : List ℕ) (used : ℕ) where
-  pub step-long : 1048576 < length s → stepAt s at rows octets used ≡ no 2 0
-  unfolding stepAt lentBook
-  step-long h = rw (lt-leb (length s) 1048576 h) refl
-
-  module _ (short : length s ≤ 1048576) where
-    pub step-unbooked : isOk (bookOf octets used) ≡ false → stepAt s at rows octets used ≡ no 17 0
-    unfolding stepAt lentBook
-    step-unbooked e = rw (le-leb (length s) 1048576 short, bad-book octets used e) refl
-
-    pub step-many : IsBook octets used → 1048576 < rows → stepAt s at rows octets used ≡ no 17 0
-    unfolding stepAt lentBook
-    step-many e h = rw (le-leb (length s) 1048576 short, e, lt-leb rows 1048576 h) refl
-
-    pub step-is : IsBook octets used → rows ≤ 1048576 → stepAt s at rows octets used ≡ elementAt s at rows (bookIn octets used)
-    unfolding stepAt lentBook
-    step-is e h = rw (le-leb (length s) 1048576 short, e, le-leb rows 1048576 h) refl

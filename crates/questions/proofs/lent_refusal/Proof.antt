@@ -10,7 +10,7 @@ use Rattle.octets.proofs.Spans.{each-octet}
 use Rattle.layouts.specs.Book.{bookOf, IsBook}
 use Rattle.layouts.proofs.Checks.{good-book}
 use Rattle.questions.specs.Answers.{refusalOf}
-use Rattle.questions.proofs.Asked.{lent-long, lent-unbooked, lent-many, lent-is}
+use Rattle.elements.proofs.Before.{lent-long, lent-unbooked, lent-many, lent-is}
 use Rattle.questions.proofs.lent_refusal.Statement.{statement}
 use Rattle.questions.proofs.lent_refusal.Tie as tie
 

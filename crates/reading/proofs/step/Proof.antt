@@ -15,7 +15,7 @@ use Rattle.layouts.specs.Book.{bookOf, IsBook}
 use Rattle.layouts.proofs.Checks.{good-book}
 use Rattle.elements.specs.Steps.{leaves}
 use Rattle.elements.specs.Answers.{tells}
-use Rattle.reading.proofs.Entry.{step-long, step-unbooked, step-many, step-is}
+use Rattle.elements.proofs.Before.{lent-long, lent-unbooked, lent-many, step-refused, step-is}
 use Rattle.reading.proofs.step.Statement.{statement}
 use Rattle.reading.proofs.step.Tie as tie
 
@@ -42,7 +42,7 @@ module _ (k : Known) where
 returns : tie.Need-returns
 returns c =
     let k = c .before in
-    let e = step-long (doc k) (at k) (rows k) (lent k) (used k) (c .if1 .taken) in
+    let e = step-refused (doc k) (rows k) (lent k) (used k) (at k) 2 0 (lent-long (doc k) (rows k) (lent k) (used k) (c .if1 .taken)) in
     (sym (ap tells e), sym (ap (leaves (lent k)) e))
 
 -- What the check of the book says of it.
@@ -55,7 +55,7 @@ returns-2 : tie.Need-returns-2
 returns-2 c =
     let v = c .before in
     let k = v .before .before .before in
-    let e = step-unbooked (doc k) (at k) (rows k) (lent k) (used k) (omega arith) (checked v false (not-true _ (c .if2 .taken))) in
+    let e = step-refused (doc k) (rows k) (lent k) (used k) (at k) 17 0 (lent-unbooked (doc k) (rows k) (lent k) (used k) (omega arith) (checked v false (not-true _ (c .if2 .taken)))) in
     (sym (ap tells e), sym (ap (leaves (lent k)) e))
 
 is : (v : tie.After-is-book) → v .is-book .result ≡ true → IsBook (lent (v .before .before .before)) (used (v .before .before .before))
@@ -65,7 +65,7 @@ returns-3 : tie.Need-returns-3
 returns-3 c =
     let v = c .before .before in
     let k = v .before .before .before in
-    let e = step-many (doc k) (at k) (rows k) (lent k) (used k) (omega arith) (is v (not-false _ (c .before .if2 .left))) (c .if3 .taken) in
+    let e = step-refused (doc k) (rows k) (lent k) (used k) (at k) 17 0 (lent-many (doc k) (rows k) (lent k) (used k) (omega arith) (is v (not-false _ (c .before .if2 .left))) (c .if3 .taken)) in
     (sym (ap tells e), sym (ap (leaves (lent k)) e))
 
 element-requires : tie.Need-element-requires
@@ -78,7 +78,7 @@ returns-4 c =
     let m = c .before .before in
     let v = m .before .before .before .before in
     let k = v .before .before .before in
-    let e = step-is (doc k) (at k) (rows k) (lent k) (used k) (omega arith) (is v (not-false _ (m .before .before .before .if2 .left))) (m .before .before .if3 .left) in
+    let e = step-is (doc k) (rows k) (lent k) (used k) (at k) (omega arith) (is v (not-false _ (m .before .before .before .if2 .left))) (m .before .before .if3 .left) in
     (m .element .ensures .0 ∙ sym (ap tells e), m .element .ensures .1 ∙ sym (ap (leaves (lent k)) e))
 
 pub step-spec : {M : Type 1} → statement M

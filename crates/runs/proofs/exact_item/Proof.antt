@@ -22,10 +22,10 @@ use Rattle.elements.specs.Steps.{leaves, holding, stepAt}
 use Rattle.elements.specs.Answers.{stepOf, metOf}
 use Rattle.elements.specs.declared.Step.{Step}
 use Rattle.elements.specs.declared.Stepping.the-variants.{Done}
+use Rattle.elements.proofs.Before.{step-is}
 use Rattle.elements.proofs.Going.{done, refusing}
 use Rattle.elements.proofs.Quickly.{element-keeps}
 use Rattle.elements.proofs.Told.{holding-same}
-use Rattle.reading.proofs.Entry.{step-is}
 use Rattle.runs.specs.Runs.{layoutWord, rowWord, ofItem}
 use Rattle.runs.specs.Answers.{isItem}
 use Rattle.runs.proofs.Steps.{Taken, taken, held}
@@ -69,7 +69,7 @@ module _ (v : Answered) where
   lent-here = lent-book entry used lent (Start v .pre .3)
 
   step : stepAt doc at rows entry used ≡ elementAt doc at rows (bookIn entry used)
-  step = step-is doc at rows entry used (Start v .pre .1) (Start v .pre .3) (Start v .pre .2)
+  step = step-is doc rows entry used at (Start v .pre .1) (Start v .pre .3) (Start v .pre .2)
 
 -- The element that a step tells of.
 pub record Told (v : Answered) (x : Step) : Type 0 where

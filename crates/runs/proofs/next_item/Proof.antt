@@ -16,10 +16,10 @@ use Rattle.plans.specs.declared.Quick.{Quick}
 use Rattle.plans.specs.declared.Quick.the-variants as quick
 use Rattle.elements.specs.Element.{item, row, Stepped}
 use Rattle.elements.specs.Steps.{stepAt}
+use Rattle.elements.proofs.Before.{lent-many, step-refused, step-is}
 use Rattle.elements.proofs.Went.{row-step}
 use Rattle.elements.proofs.Told.{holding-same}
 use Rattle.rows.specs.Row.{Row}
-use Rattle.reading.proofs.Entry.{step-is, step-many}
 use Rattle.runs.specs.Answers.{isItem}
 use Rattle.runs.proofs.Steps.{taken}
 use Rattle.runs.proofs.Words.{row-says}
@@ -29,8 +29,10 @@ use Rattle.runs.proofs.next_item.Tie as tie
 returns : tie.Need-returns
 returns c =
     let start = c .before .before .before in
-    let a = start .args in
-    (ap isItem (step-many (now (a .doc)) (a .at) (a .rows) (now (a .book)) (a .used) (start .pre .1) (start .pre .2) (c .if1 .taken)), refl)
+    let a = start .args in (
+      ap isItem (step-refused (now (a .doc)) (a .rows) (now (a .book)) (a .used) (a .at) 17 0 (lent-many (now (a .doc)) (a .rows) (now (a .book)) (a .used) (start .pre .1) (start .pre .2) (c .if1 .taken))),
+      refl,
+    )
 
 -- The row that a plan has passed.
 abbrev Tried : Type 0
@@ -69,7 +71,7 @@ module _ (q : Tried) where
 
   reads : (next i : ℕ) (p : Passes doc at (bookIn entry used) (Start q .args .known) (quick.Row next i)) → stepAt doc at rows entry used ≡ ok (behind (p .2 .0)) next
   reads next i p =
-      step-is doc at rows entry used (Start q .pre .1) (Start q .pre .2) (q .before .before .before .if1 .left)
+      step-is doc rows entry used at (Start q .pre .1) (Start q .pre .2) (q .before .before .before .if1 .left)
       ∙ row-step doc at rows (bookIn entry used) (p .2 .0) next (p .1) (p .2 .1)
 
 word-at-requires : tie.Need-word-at-requires

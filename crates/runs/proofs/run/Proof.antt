@@ -18,7 +18,8 @@ use Rattle.runs.specs.Runs.{Passed, stopped, runFrom, laid}
 use Rattle.runs.specs.Answers.{wentOf, runTells}
 use Rattle.runs.specs.declared.Running.{Running}
 use Rattle.runs.specs.declared.Running.the-variants as running
-use Rattle.runs.proofs.Entry.{lent-long, lent-unbooked, lent-many, lent-is, lent-stops, past-stops}
+use Rattle.elements.proofs.Before.{lent-long, lent-unbooked, lent-many, lent-is}
+use Rattle.runs.proofs.Entry.{lent-stops, past-stops}
 use Rattle.runs.proofs.run.Statement.{statement}
 use Rattle.runs.proofs.run.Tie as tie
 
@@ -56,7 +57,7 @@ module _ (k : Known) where
   unmoved r e stop = (e, sym (ap (λ (p : Passed). p .octets) stop), sym (ap (λ (p : Passed). laid 0 (p .words) words) stop))
 
   refused : (n p : ℕ) → lentBook doc rows lent used ≡ no n p → Left (running.Refused n p)
-  refused n p e = unmoved (running.Refused n p) (sym (ap (λ (r : Read Book). runTells r whole) e)) (lent-stops doc rows lent used at 4096 n p e)
+  refused n p e = unmoved (running.Refused n p) (sym (ap (λ (r : Read Book). runTells r whole) e)) (lent-stops doc at rows lent used 4096 n p e)
 
 returns : tie.Need-returns
 returns c = let k = c .before in refused k 2 0 (lent-long (doc k) (rows k) (lent k) (used k) (c .if1 .taken))
@@ -88,7 +89,7 @@ returns-4 c =
     let k = v .before .before .before in
     let book = is v (not-false _ (c .before .before .if2 .left)) in
     let few : rows k ≤ 1048576 = c .before .if3 .left in
-    let stop = past-stops (doc k) (rows k) (lent k) (used k) (at k) 4096 (omega arith) book few (c .if4 .taken) in
+    let stop = past-stops (doc k) (at k) (rows k) (lent k) (used k) 4096 (omega arith) book few (c .if4 .taken) in
     unmoved k _
     (ap (λ (p : Passed). running.Went (wentOf p)) (sym stop) ∙ sym (ap (λ (r : Read Book). runTells r (whole k)) (lent-is (doc k) (rows k) (lent k) (used k) (omega arith) book few)))
     stop
