@@ -48,21 +48,24 @@ Overruns ns document = among 1 ns ≡ true
 Overruns ns (stated end p) = among 13 ns ≡ true
 
 module _ {ns : List ℕ} where
-  taken : {A : Type 0} (a : A) (next : ℕ) → Only ns (ok a next)
+  pub taken : {A : Type 0} (a : A) (next : ℕ) → Only ns (ok a next)
   taken a next = record { number = λ n p e. absurd (no-ok e refl) }
 
-  given : {A : Type 0} (n p : ℕ) → among n ns ≡ true → Only {A = A} ns (no n p)
+  pub given : {A : Type 0} (n p : ℕ) → among n ns ≡ true → Only {A = A} ns (no n p)
   given n p h = record { number = λ m q e. let same : n ≡ m = cc in subst (λ (x : ℕ). among x ns ≡ true) same h }
 
-  only-then : {A B : Type 0} (r : Read A) (f : A → ℕ → Read B) → Only ns r → ((a : A) (next : ℕ) → Only ns (f a next)) → Only ns (r then f)
-  only-then (ok a next) f h k = k a next
-  only-then (no n p) f h k = given n p (h .number n p refl)
+  pub only-with : {A B : Type 0} (r : Read A) (f : A → ℕ → Read B) → Only ns r → ((a : A) (next : ℕ) → r ≡ ok a next → Only ns (f a next)) → Only ns (r then f)
+  only-with (ok a next) f h k = k a next refl
+  only-with (no n p) f h k = given n p (h .number n p refl)
 
-  only-choose : {A : Type 0} (t : Bool) (x y : Unit {0} → Read A) → Only ns (x tt) → Only ns (y tt) → Only ns (choose t x y)
+  pub only-then : {A B : Type 0} (r : Read A) (f : A → ℕ → Read B) → Only ns r → ((a : A) (next : ℕ) → Only ns (f a next)) → Only ns (r then f)
+  only-then r f h k = only-with r f h λ a next _. k a next
+
+  pub only-choose : {A : Type 0} (t : Bool) (x y : Unit {0} → Read A) → Only ns (x tt) → Only ns (y tt) → Only ns (choose t x y)
   only-choose true x y h k = h
   only-choose false x y h k = k
 
-  only-run : {A : Type 0} (f : ℕ → Read A) → ((at : ℕ) → Only ns (f at)) → (k at : ℕ) → Only ns (run f k at)
+  pub only-run : {A : Type 0} (f : ℕ → Read A) → ((at : ℕ) → Only ns (f at)) → (k at : ℕ) → Only ns (run f k at)
   unfolding run
   only-run f h zero at = taken [] at
   only-run f h (suc k) at = only-then (f at) _ (h at) λ a next. only-then (run f k next) _ (only-run f h k next) λ rest end. taken (a ∷ rest) end
@@ -72,20 +75,20 @@ module _ {ns : List ℕ} where
   only-overrun (stated end p) at h = given 13 p h
 
   module _ (room : Room) (h : Overruns ns room) (s : List ℕ) (at : ℕ) where
-    only-number : (w : ℕ) → Only ns (numberIn room w s at)
+    pub only-number : (w : ℕ) → Only ns (numberIn room w s at)
     unfolding numberIn
     only-number w = only-choose (leb (at + w) (reach room s)) _ _ (taken _ _) (only-overrun room at h)
 
-    only-octets : Only ns (octetsIn room s at)
+    pub only-octets : Only ns (octetsIn room s at)
     unfolding octetsIn
     only-octets = only-then (numberIn room 4 s at) _ (only-number 4) λ n next. only-choose (leb (next + n) (reach room s)) _ _ (taken _ _) (only-overrun room at h)
 
-    only-text : Only ns (textIn room s at)
+    pub only-text : Only ns (textIn room s at)
     unfolding textIn
     only-text = only-octets
 
   module _ (one : among 1 ns ≡ true) (s : List ℕ) (at : ℕ) where
-    only-count : (most : ℕ) → among 4 ns ≡ true → Only ns (count most s at)
+    pub only-count : (most : ℕ) → among 4 ns ≡ true → Only ns (count most s at)
     unfolding count
     only-count most h = only-then (number 4 s at) _ (only-number document one s at 4) λ n next. only-choose (leb n most) _ _ (taken n next) (given 4 at h)
 
@@ -126,78 +129,92 @@ module _ (s : List ℕ) where
       only-then (exactly 0xffffffff 6 s i) _ (only-exactly refl s i 0xffffffff 6 refl) λ _ end. taken _ end)
       (given 2 0 refl)
 
+-- The parts of an element, and of what stands before it.
+module _ {ns : List ℕ} (one : among 1 ns ≡ true) (s : List ℕ) where
+  module _ (four : among 4 ns ≡ true) (eight : among 8 ns ≡ true) (nine : among 9 ns ≡ true) where
+    kind-only : (at : ℕ) → Only ns (kindAt s at)
+    unfolding kindAt
+    kind-only at =
+        only-then (number 4 s at) _ (only-number document one s at 4) λ t next.
+        only-choose (leb (2 ^ 31) t) _ _ (given 9 at nine)
+        (only-choose (ltb t 0x10000) _ _ (in-table t next (basicOf (t % 256))) (given 8 at eight))
+      where
+        in-table : (t next : ℕ) (o : Option Basic) → Only ns (known at t next o)
+        in-table t next (some b) = taken _ next
+        in-table t next none = given 8 at eight
+
+    attribute-only : (at : ℕ) → Only ns (attributeAt s at)
+    unfolding attributeAt
+    attribute-only at = only-then (text s at) _ (only-text document one s at) λ name next. only-then (kindAt s next) _ (kind-only next) λ kind end. taken _ end
+
+    pub layout-only : (at : ℕ) → Only ns (layoutAt s at)
+    unfolding layoutAt
+    layout-only at =
+        only-then (number 4 s at) _ (only-number document one s at 4) λ n a.
+        only-then (text s a) _ (only-text document one s a) λ name b.
+        only-then (count 64 s b) _ (only-count one s b 64 four) λ k c.
+        only-then (run (attributeAt s) k c) _ (only-run (attributeAt s) attribute-only k c) λ attributes end. taken _ end
+
+  module _ (thirteen : among 13 ns ≡ true) (fourteen : among 14 ns ≡ true) where
+    module _ (room : Room) (h : Overruns ns room) where
+      value-only : (f : Form) (at : ℕ) → Only ns (valueIn room f s at)
+      unfolding valueIn
+      value-only (form.Fixed w) at = only-then (numberIn room w s at) _ (only-number room h s at w) λ n next. taken _ next
+      value-only form.Truth at =
+          only-then (numberIn room 1 s at) _ (only-number room h s at 1) λ n next. only-choose (leb n 1) _ _ (taken _ next) (given 14 at fourteen)
+      value-only form.Octets at = only-then (octetsIn room s at) _ (only-octets room h s at) λ xs next. taken _ next
+      value-only form.Text at = only-then (textIn room s at) _ (only-text room h s at) λ xs next. taken _ next
+
+      fields-only : (attributes : List Attribute) (at : ℕ) → Only ns (fieldsIn room attributes s at)
+      unfolding fieldsIn
+      fields-only [] at = taken [] at
+      fields-only (a ∷ others) at =
+          only-then (valueIn room (formOf (a .kind .basic)) s at) _ (value-only (formOf (a .kind .basic)) at) λ v next.
+          only-then (fieldsIn room others s next) _ (fields-only others next) λ rest end. taken _ end
+
+    values-only : (attributes : List Attribute) (length-at size : ℕ) → Only ns (valuesAt attributes s length-at size)
+    unfolding valuesAt
+    values-only attributes length-at size =
+        only-choose (eqb size 0xffffffff) _ _ (fields-only document one attributes (length-at + 4))
+        (only-choose (leb (length-at + 4 + size) (length s)) _ _
+        (only-then (fieldsIn (stated (length-at + 4 + size) length-at) attributes s (length-at + 4)) _
+        (fields-only (stated (length-at + 4 + size) length-at) thirteen attributes (length-at + 4)) λ fields end.
+        only-choose (eqb end (length-at + 4 + size)) _ _ (taken fields end) (given 13 length-at thirteen))
+        (given 1 length-at one))
+
+    pub row-only : among 12 ns ≡ true → (book : Book) (at : ℕ) → Only ns (rowAt book s at)
+    unfolding rowAt
+    row-only twelve book at = only-then (number 4 s at) _ (only-number document one s at 4) λ n length-at. go n length-at (find n book)
+      where
+        go : (n length-at : ℕ) (o : Option Layout) → Only ns (named s at n length-at o)
+        go n length-at none = given 12 at twelve
+        go n length-at (some l) =
+            only-then (number 4 s length-at) _ (only-number document one s length-at 4) λ size _.
+            only-then (valuesAt (l .attributes) s length-at size) _ (values-only (l .attributes) length-at size) λ fields end. taken _ end
+
+pub learn-only : {ns : List ℕ} → among 10 ns ≡ true → among 11 ns ≡ true → (book : Book) (l : Layout) (at : ℕ) → Only ns (learn book l at)
+unfolding learn
+learn-only {ns} ten eleven book l at = go (find (l .number) book)
+  where
+    go : (o : Option Layout) → Only ns (learnAt book l at o)
+    go (some m) = only-choose (same (layoutImage m) (layoutImage l)) _ _ (taken book at) (given 10 at ten)
+    go none = only-choose (ltb (length book) 64 && leb (length (bookImage book) + length (layoutImage l)) 32768) _ _ (taken _ at) (given 11 at eleven)
+
+pub lent-only : {ns : List ℕ} → among 2 ns ≡ true → among 17 ns ≡ true → (s : List ℕ) (rows : ℕ) (octets : List ℕ) (used : ℕ) → Only ns (lentBook s rows octets used)
+unfolding lentBook bookOf
+lent-only {ns} two seventeen s rows octets used =
+    only-choose (leb (length s) 1048576) _ _
+    (only-then (bookOf octets used) _
+    (only-choose (leb 32768 (length octets) && leb used 32768) _ _ (all-17 (layoutsAt 64 [] (take used octets) 0)) (given 17 0 seventeen)) λ book end.
+    only-choose (leb rows 1048576) _ _ (taken book end) (given 17 0 seventeen))
+    (given 2 0 two)
+  where
+    all-17 : {A : Type 0} (r : Read A) → Only ns (as17 r)
+    all-17 (ok a next) = taken a next
+    all-17 (no n p) = given 17 0 seventeen
+
 -- The elements.
 module _ (s : List ℕ) where
-  kind-only : (at : ℕ) → Only elementNumbers (kindAt s at)
-  unfolding kindAt
-  kind-only at =
-      only-then (number 4 s at) _ (only-number document refl s at 4) λ t next.
-      only-choose (leb (2 ^ 31) t) _ _ (given 9 at refl)
-      (only-choose (ltb t 0x10000) _ _ (in-table t next (basicOf (t % 256))) (given 8 at refl))
-    where
-      in-table : (t next : ℕ) (o : Option Basic) → Only elementNumbers (known at t next o)
-      in-table t next (some b) = taken _ next
-      in-table t next none = given 8 at refl
-
-  element-text : (at : ℕ) → Only elementNumbers (text s at)
-  element-text at = only-text document refl s at
-
-  attribute-only : (at : ℕ) → Only elementNumbers (attributeAt s at)
-  unfolding attributeAt
-  attribute-only at = only-then (text s at) _ (element-text at) λ name next. only-then (kindAt s next) _ (kind-only next) λ kind end. taken _ end
-
-  layout-only : (at : ℕ) → Only elementNumbers (layoutAt s at)
-  unfolding layoutAt
-  layout-only at =
-      only-then (number 4 s at) _ (only-number document refl s at 4) λ n a.
-      only-then (text s a) _ (element-text a) λ name b.
-      only-then (count 64 s b) _ (only-count refl s b 64 refl) λ k c.
-      only-then (run (attributeAt s) k c) _ (only-run (attributeAt s) attribute-only k c) λ attributes end. taken _ end
-
-  learn-only : (book : Book) (l : Layout) (at : ℕ) → Only elementNumbers (learn book l at)
-  unfolding learn
-  learn-only book l at = go (find (l .number) book)
-    where
-      go : (o : Option Layout) → Only elementNumbers (learnAt book l at o)
-      go (some m) = only-choose (same (layoutImage m) (layoutImage l)) _ _ (taken book at) (given 10 at refl)
-      go none = only-choose (ltb (length book) 64 && leb (length (bookImage book) + length (layoutImage l)) 32768) _ _ (taken _ at) (given 11 at refl)
-
-  module _ (room : Room) (h : Overruns elementNumbers room) where
-    value-only : (f : Form) (at : ℕ) → Only elementNumbers (valueIn room f s at)
-    unfolding valueIn
-    value-only (form.Fixed w) at = only-then (numberIn room w s at) _ (only-number room h s at w) λ n next. taken _ next
-    value-only form.Truth at =
-        only-then (numberIn room 1 s at) _ (only-number room h s at 1) λ n next. only-choose (leb n 1) _ _ (taken _ next) (given 14 at refl)
-    value-only form.Octets at = only-then (octetsIn room s at) _ (only-octets room h s at) λ xs next. taken _ next
-    value-only form.Text at = only-then (textIn room s at) _ (only-text room h s at) λ xs next. taken _ next
-
-    fields-only : (attributes : List Attribute) (at : ℕ) → Only elementNumbers (fieldsIn room attributes s at)
-    unfolding fieldsIn
-    fields-only [] at = taken [] at
-    fields-only (a ∷ others) at =
-        only-then (valueIn room (formOf (a .kind .basic)) s at) _ (value-only (formOf (a .kind .basic)) at) λ v next.
-        only-then (fieldsIn room others s next) _ (fields-only others next) λ rest end. taken _ end
-
-  values-only : (attributes : List Attribute) (length-at size : ℕ) → Only elementNumbers (valuesAt attributes s length-at size)
-  unfolding valuesAt
-  values-only attributes length-at size =
-      only-choose (eqb size 0xffffffff) _ _ (fields-only document refl attributes (length-at + 4))
-      (only-choose (leb (length-at + 4 + size) (length s)) _ _
-      (only-then (fieldsIn (stated (length-at + 4 + size) length-at) attributes s (length-at + 4)) _
-      (fields-only (stated (length-at + 4 + size) length-at) refl attributes (length-at + 4)) λ fields end.
-      only-choose (eqb end (length-at + 4 + size)) _ _ (taken fields end) (given 13 length-at refl))
-      (given 1 length-at refl))
-
-  row-only : (book : Book) (at : ℕ) → Only elementNumbers (rowAt book s at)
-  unfolding rowAt
-  row-only book at = only-then (number 4 s at) _ (only-number document refl s at 4) λ n length-at. go n length-at (find n book)
-    where
-      go : (n length-at : ℕ) (o : Option Layout) → Only elementNumbers (named s at n length-at o)
-      go n length-at none = given 12 at refl
-      go n length-at (some l) =
-          only-then (number 4 s length-at) _ (only-number document refl s length-at 4) λ size _.
-          only-then (valuesAt (l .attributes) s length-at size) _ (values-only (l .attributes) length-at size) λ fields end. taken _ end
-
   finish-only : (rows at : ℕ) → Only elementNumbers (finishAt rows s at)
   unfolding finishAt
   finish-only rows at =
@@ -212,8 +229,8 @@ module _ (s : List ℕ) where
   element-only at rows book =
       only-then (number 4 s at) _ (only-number document refl s at 4) λ kind next.
       only-choose (eqb kind 1) _ _
-      (only-then (layoutAt s next) _ (layout-only next) λ l end. only-then (learn book l next) _ (learn-only book l next) λ learnt _. taken _ end)
-      (only-choose (eqb kind 2) _ _ (only-then (rowAt book s next) _ (row-only book next) λ r end. taken _ end)
+      (only-then (layoutAt s next) _ (layout-only refl s refl refl refl next) λ l end. only-then (learn book l next) _ (learn-only refl refl book l next) λ learnt _. taken _ end)
+      (only-choose (eqb kind 2) _ _ (only-then (rowAt book s next) _ (row-only refl s refl refl refl book next) λ r end. taken _ end)
       (only-choose (eqb kind 3) _ _ (only-then (finishAt rows s next) _ (finish-only rows next) λ f end. taken _ end)
       (given 7 at refl)))
 
@@ -233,18 +250,7 @@ module _ (s : List ℕ) where
       only-then (elementsFrom (length s + 1) s next 0 []) _ (widen elementNumbers refl (elements-only (length s + 1) next 0 [])) λ elements end. taken _ end)
       λ r end. taken _ end
 
-  -- A step.
-  as17-only : {A : Type 0} (r : Read A) → Only stepNumbers (as17 r)
-  as17-only (ok a next) = taken a next
-  as17-only (no n p) = given 17 0 refl
-
   pub step-only : (at rows : ℕ) (octets : List ℕ) (used : ℕ) → Only stepNumbers (stepAt s at rows octets used)
-  unfolding stepAt lentBook bookOf
+  unfolding stepAt
   step-only at rows octets used =
-      only-then (lentBook s rows octets used) _
-      (only-choose (leb (length s) 1048576) _ _
-      (only-then (bookOf octets used) _
-      (only-choose (leb 32768 (length octets) && leb used 32768) _ _ (as17-only (layoutsAt 64 [] (take used octets) 0)) (given 17 0 refl)) λ book end.
-      only-choose (leb rows 1048576) _ _ (taken book end) (given 17 0 refl))
-      (given 2 0 refl))
-      λ book _. widen elementNumbers refl (element-only at rows book)
+      only-then (lentBook s rows octets used) _ (lent-only refl refl s rows octets used) λ book _. widen elementNumbers refl (element-only at rows book)

@@ -19,9 +19,8 @@ use Rattle.questions.specs.Questions.{kindAsked, bookAsked, firstOf, nth, rowOf
 use Rattle.questions.proofs.Asked.{kind-forth}
 use Rattle.strings.specs.Strings.{namespacesPlace, servicesPlace, namespaceAsked, serviceAsked}
 use Rattle.promises.specs.Refusals.{Only}
-use Rattle.promises.proofs.Numbers.{header-only}
+use Rattle.promises.proofs.Numbers.{taken, given, only-with, only-then, only-choose, only-number, header-only, layout-only, learn-only, row-only, lent-only}
 use Rattle.promises_questions.specs.Numbers.{fieldNumbers, layoutNumbers, attributeNumbers, listedNumbers}
-use Rattle.promises_questions.proofs.Parts.{taken, given, only-with, only-then, only-choose, only-number, layout-only, learn-only, row-only}
 
 -- One number more.
 also : {A : Type 0} {ns : List ℕ} (m : ℕ) {r : Read A} → Only ns r → Only (m ∷ ns) r
@@ -41,19 +40,6 @@ nth-only {A} {ns} h n place xs next = go (drop n xs)
 
 -- What stands before every question about an element.
 module _ {ns : List ℕ} (one : among 1 ns ≡ true) (two : among 2 ns ≡ true) (seven : among 7 ns ≡ true) (book17 : among 17 ns ≡ true) (kind19 : among 19 ns ≡ true) where
-  as17-only : {A : Type 0} (r : Read A) → Only ns (as17 r)
-  as17-only (ok a next) = taken a next
-  as17-only (no n p) = given 17 0 book17
-
-  lent-only : (s : List ℕ) (rows : ℕ) (octets : List ℕ) (used : ℕ) → Only ns (lentBook s rows octets used)
-  unfolding lentBook bookOf
-  lent-only s rows octets used =
-      only-choose (leb (length s) 1048576) _ _
-      (only-then (bookOf octets used) _
-      (only-choose (leb 32768 (length octets) && leb used 32768) _ _ (as17-only (layoutsAt 64 [] (take used octets) 0)) (given 17 0 book17)) λ book end.
-      only-choose (leb rows 1048576) _ _ (taken book end) (given 17 0 book17))
-      (given 2 0 two)
-
   kind-only : (wanted : ℕ) (s : List ℕ) (at : ℕ) → Only ns (kindAsked wanted s at)
   unfolding kindAsked
   kind-only wanted s at =
@@ -63,7 +49,7 @@ module _ {ns : List ℕ} (one : among 1 ns ≡ true) (two : among 2 ns ≡ true)
   book-only : (wanted : ℕ) (s : List ℕ) (at rows : ℕ) (octets : List ℕ) (used : ℕ) → Only ns (bookAsked wanted s at rows octets used)
   unfolding bookAsked
   book-only wanted s at rows octets used =
-      only-then (lentBook s rows octets used) _ (lent-only s rows octets used) λ book _.
+      only-then (lentBook s rows octets used) _ (lent-only two book17 s rows octets used) λ book _.
       only-then (kindAsked wanted s at) _ (kind-only wanted s at) λ _ next. taken book next
 
 module _ (s : List ℕ) (at rows : ℕ) (octets : List ℕ) (used : ℕ) where
@@ -81,7 +67,7 @@ module _ (s : List ℕ) (at rows : ℕ) (octets : List ℕ) (used : ℕ) where
       only-with (bookAsked 2 s at rows octets used) _ (book-only refl refl refl refl refl 2 s at rows octets used) λ book mid e.
       let (room, right) = kind-is 2 e in
       only-then (elementAt s at rows book) _
-      (rw (element-row s at rows book room right) (only-then (rowAt book s (at + 4)) _ (row-only s book (at + 4)) λ r end. taken _ end))
+      (rw (element-row s at rows book room right) (only-then (rowAt book s (at + 4)) _ (row-only refl s refl refl refl book (at + 4)) λ r end. taken _ end))
       λ st next. go (st .element) next
     where
       go : (el : Element) (next : ℕ) → Only fieldNumbers (rowOf at el next)
@@ -100,7 +86,7 @@ module _ (s : List ℕ) (at rows : ℕ) (octets : List ℕ) (used : ℕ) where
       let (room, right) = kind-is 1 e in
       only-then (elementAt s at rows book) _
       (rw (element-layout s at rows book room right)
-      (only-then (layoutAt s (at + 4)) _ (layout-only s (at + 4)) λ l end. only-then (learn book l (at + 4)) _ (learn-only s book l (at + 4)) λ learnt _. taken _ end))
+      (only-then (layoutAt s (at + 4)) _ (layout-only refl s refl refl refl (at + 4)) λ l end. only-then (learn book l (at + 4)) _ (learn-only refl refl book l (at + 4)) λ learnt _. taken _ end))
       λ st next. go (st .element) next
     where
       go : (el : Element) (next : ℕ) → Only layoutNumbers (layoutOf at el next)
