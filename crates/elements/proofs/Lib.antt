@@ -3,4 +3,4 @@ pub mod Went
 pub mod Told
 pub mod Going
 pub mod Quickly
-pub mod Stays
+pub mod Refusing

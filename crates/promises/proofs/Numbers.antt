@@ -11,7 +11,7 @@ use Rattle.octets.proofs.Inverse.{no-ok}
 use Rattle.layouts.specs.Answers.{among}
 use Rattle.headers.specs.Header.{headerAt}
 use Rattle.elements.specs.Steps.{stepAt, whole}
-use Rattle.elements.proofs.Stays.{Stays, header-stays, whole-stays, step-stays}
+use Rattle.elements.proofs.Refusing.{Stays, header-stays, whole-stays, step-stays}
 use Rattle.promises.specs.Refusals.{Only, headerNumbers, stepNumbers, wholeNumbers}
 
 pub taken : {A : Type 0} {ns : List ℕ} (a : A) (next : ℕ) → Only ns (ok a next)
@@ -32,8 +32,11 @@ module _ (s : List ℕ) where
   header-only = only (length s) (headerAt s) (header-stays (In headerNumbers) s (length s) (le-refl (length s)) refl (refl, refl, refl, refl, refl))
 
   pub whole-only : Only wholeNumbers (whole s)
-  whole-only = only (length s) (whole s) (whole-stays (In wholeNumbers) s (length s) (le-refl (length s)) refl (refl, refl, refl, refl, refl) (refl, refl, refl, refl, refl, refl, refl, refl, refl, refl, refl))
+  whole-only =
+      only (length s) (whole s)
+      (whole-stays (In wholeNumbers) s (length s) (le-refl (length s)) refl (refl, refl, refl, refl, refl) (refl, refl, refl, refl, refl, refl, refl, refl, refl, refl, refl))
 
   pub step-only : (at rows : ℕ) (octets : List ℕ) (used : ℕ) → Only stepNumbers (stepAt s at rows octets used)
   step-only at rows octets used =
-      only (at + length s) (stepAt s at rows octets used) (step-stays (In stepNumbers) s (at + length s) (omega arith) refl refl refl (refl, refl, refl, refl, refl, refl, refl, refl, refl, refl, refl) at rows octets used (omega arith))
+      only (at + length s) (stepAt s at rows octets used)
+      (step-stays (In stepNumbers) s (at + length s) (omega arith) refl refl refl (refl, refl, refl, refl, refl, refl, refl, refl, refl, refl, refl) at rows octets used (omega arith))

@@ -16,7 +16,7 @@ use Rattle.headers.specs.Header.{headerAt}
 use Rattle.rows.specs.Row.{rowAt}
 use Rattle.elements.specs.Element.{Element, item, layout, row, finish, elementAt}
 use Rattle.elements.specs.Steps.{lentBook}
-use Rattle.elements.proofs.Stays.{number-stays, layout-stays, learn-stays, row-stays}
+use Rattle.elements.proofs.Refusing.{number-stays, layout-stays, learn-stays, row-stays}
 use Rattle.elements.proofs.Told.{element-layout, element-row}
 use Rattle.questions.specs.Questions.{kindAsked, bookAsked, firstOf, nth, rowOf, layoutOf, rowAsked, fieldAsked, layoutAsked, attributeAsked}
 use Rattle.questions.proofs.Asked.{kind-forth}
@@ -95,7 +95,9 @@ module _ (s : List ℕ) (at rows : ℕ) (octets : List ℕ) (used : ℕ) where
       only-with (bookAsked 2 s at rows octets used) _ (book-only refl refl refl refl refl 2 s at rows octets used) λ book mid e.
       let (room, right) = kind-is 2 e in
       only-then (elementAt s at rows book) _
-      (rw (element-row s at rows book room right) (only-then (rowAt book s (at + 4)) _ (only (length s) (rowAt book s (at + 4)) (row-stays (In fieldNumbers) s (length s) (le-refl (length s)) refl refl refl refl book (at + 4) room)) λ r end. taken _ end))
+      (rw (element-row s at rows book room right)
+      (only-then (rowAt book s (at + 4)) _
+      (only (length s) (rowAt book s (at + 4)) (row-stays (In fieldNumbers) s (length s) (le-refl (length s)) refl refl refl refl book (at + 4) room)) λ r end. taken _ end))
       λ st next. go (st .element) next
     where
       go : (el : Element) (next : ℕ) → Only fieldNumbers (rowOf at el next)
@@ -114,7 +116,10 @@ module _ (s : List ℕ) (at rows : ℕ) (octets : List ℕ) (used : ℕ) where
       let (room, right) = kind-is 1 e in
       only-then (elementAt s at rows book) _
       (rw (element-layout s at rows book room right)
-      (only-then (layoutAt s (at + 4)) _ (only (length s) (layoutAt s (at + 4)) (layout-stays (In layoutNumbers) s (length s) (le-refl (length s)) refl refl refl refl (at + 4) room)) λ l end. only-then (learn book l (at + 4)) _ (only (length s) (learn book l (at + 4)) (learn-stays (In layoutNumbers) s (length s) (le-refl (length s)) refl refl refl book l (at + 4) room)) λ learnt _. taken _ end))
+      (only-then (layoutAt s (at + 4)) _
+      (only (length s) (layoutAt s (at + 4)) (layout-stays (In layoutNumbers) s (length s) (le-refl (length s)) refl refl refl refl (at + 4) room)) λ l end.
+      only-then (learn book l (at + 4)) _
+      (only (length s) (learn book l (at + 4)) (learn-stays (In layoutNumbers) s (length s) (le-refl (length s)) refl refl refl book l (at + 4) room)) λ learnt _. taken _ end))
       λ st next. go (st .element) next
     where
       go : (el : Element) (next : ℕ) → Only layoutNumbers (layoutOf at el next)

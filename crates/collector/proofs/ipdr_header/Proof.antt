@@ -7,7 +7,7 @@ use mathlib.Core.List.{List}
 use Rattle.headers.specs.Header.{headerAt}
 use Rattle.reading.specs.declared.Headed.{Headed}
 use Rattle.collector.specs.Calls.{answered, Packs, headLeaves}
-use Rattle.collector.proofs.Packing.{header-packs}
+use Rattle.collector.proofs.Stays.{header-packs}
 use Rattle.collector.proofs.Handed.{HeadTold, head-told}
 use Rattle.collector.proofs.ipdr_header.Statement.{statement}
 use Rattle.collector.proofs.ipdr_header.Tie as tie

@@ -10,7 +10,7 @@ use Rattle.elements.specs.Element.{Stepped}
 use Rattle.elements.specs.Steps.{stepAt}
 use Rattle.elements.specs.declared.Stepping.{Stepping}
 use Rattle.collector.specs.Calls.{answered, Packs, stepLeaves}
-use Rattle.collector.proofs.Packing.{step-packs}
+use Rattle.collector.proofs.Stays.{step-packs}
 use Rattle.collector.proofs.Handed.{StepTold, step-told}
 use Rattle.collector.proofs.ipdr_step.Statement.{statement}
 use Rattle.collector.proofs.ipdr_step.Tie as tie

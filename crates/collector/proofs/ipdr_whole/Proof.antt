@@ -7,7 +7,7 @@ use mathlib.Core.List.{List}
 use Rattle.elements.specs.Steps.{whole}
 use Rattle.reading.specs.declared.Checked.{Checked}
 use Rattle.collector.specs.Calls.{answered, Packs, countLeaves}
-use Rattle.collector.proofs.Packing.{whole-packs}
+use Rattle.collector.proofs.Stays.{whole-packs}
 use Rattle.collector.proofs.Handed.{CountTold, count-told}
 use Rattle.collector.proofs.ipdr_whole.Statement.{statement}
 use Rattle.collector.proofs.ipdr_whole.Tie as tie

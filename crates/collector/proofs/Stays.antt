@@ -11,7 +11,7 @@ use borrow.Author.Tests.{leb-true, leb-false}
 use Rattle.octets.specs.Reading.{Read, ok, no}
 use Rattle.headers.specs.Header.{headerAt}
 use Rattle.elements.specs.Steps.{stepAt, whole}
-use Rattle.elements.proofs.Stays.{Stays, OfHeader, OfElement, header-stays, whole-stays, step-stays}
+use Rattle.elements.proofs.Refusing.{Stays, OfHeader, OfElement, header-stays, whole-stays, step-stays}
 use Rattle.reading.proofs.Entry.{header-long, whole-refused, step-long}
 use Rattle.collector.specs.Calls.{Packs}
 
@@ -42,14 +42,16 @@ module _ (s : List ℕ) where
 
   pub whole-packs : Packs (whole s)
   whole-packs =
-      limited (whole s) (λ h. whole-refused s 2 0 (header-long s h)) λ h. packs (length s) (whole s) (omega arith) (whole-stays Positive s (length s) (le-refl (length s)) (lit< tt) of-header of-element)
+      limited (whole s) (λ h. whole-refused s 2 0 (header-long s h)) λ h.
+      packs (length s) (whole s) (omega arith) (whole-stays Positive s (length s) (le-refl (length s)) (lit< tt) of-header of-element)
 
   pub step-packs : (at rows : ℕ) (octets : List ℕ) (used : ℕ) → at < 4294967296 → Packs (stepAt s at rows octets used)
   step-packs at rows octets used small =
       limited (stepAt s at rows octets used) (step-long s at rows octets used) λ h. go (leb at (length s)) refl h
     where
       go : (t : Bool) → leb at (length s) ≡ t → length s ≤ 1048576 → Packs (stepAt s at rows octets used)
-      go true e h = packs (length s) (stepAt s at rows octets used) (omega arith) (step-stays Positive s (length s) (le-refl (length s)) (lit< tt) (lit< tt) (lit< tt) of-element at rows octets used (leb-true at (length s) e))
+      go true e h =
+          packs (length s) (stepAt s at rows octets used) (omega arith) (step-stays Positive s (length s) (le-refl (length s)) (lit< tt) (lit< tt) (lit< tt) of-element at rows octets used (leb-true at (length s) e))
       go false e h =
           let past = leb-false at (length s) e in
           packs at (stepAt s at rows octets used) small (step-stays Positive s at (omega arith) (lit< tt) (lit< tt) (lit< tt) of-element at rows octets used (le-refl at))

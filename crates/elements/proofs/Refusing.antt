@@ -1,4 +1,4 @@
--- Every refusal has a number of which what is assumed of its reading's numbers holds, and a place inside the document or, for a step, the place that it was told: by the parts of each reading. Assumes nothing.
+-- No reading passes an end that its document and its start do not pass, and what holds of the numbers that its parts refuse with holds of its own: by the parts of each reading. Assumes nothing.
 use Prim.Native.Nat.{ℕ, zero, suc, _+_, _^_, _%_, _≤_}
 use mathlib.Core.Path.{_≡_, refl, ap}
 use mathlib.Core.List.{List, [], _∷_}
@@ -40,11 +40,13 @@ OfElement P = P 4 × P 7 × P 8 × P 9 × P 10 × P 11 × P 12 × P 13 × P 14 �
 
 -- A document that such an end is not before.
 module _ (P : ℕ → Type 0) (s : List ℕ) (end : ℕ) (long : length s ≤ end) where
-  stays-on : {A B : Type 0} (r : Read A) (f : A → ℕ → Read B) → Stays P end r → ((a : A) (next : ℕ) → r ≡ ok a next → Stays P end (f a next)) → Stays P end (r then f)
+  stays-on : {A B : Type 0} (r : Read A) (f : A → ℕ → Read B) → Stays P end r
+      → ((a : A) (next : ℕ) → r ≡ ok a next → Stays P end (f a next)) → Stays P end (r then f)
   stays-on (ok a next) f h k = k a next refl
   stays-on (no n p) f h k = h
 
-  stays-then : {A B : Type 0} (r : Read A) (f : A → ℕ → Read B) → Stays P end r → ((a : A) (next : ℕ) → next ≤ end → Stays P end (f a next)) → Stays P end (r then f)
+  stays-then : {A B : Type 0} (r : Read A) (f : A → ℕ → Read B) → Stays P end r
+      → ((a : A) (next : ℕ) → next ≤ end → Stays P end (f a next)) → Stays P end (r then f)
   stays-then (ok a next) f h k = k a next h
   stays-then (no n p) f h k = h
 
@@ -217,7 +219,8 @@ module _ (P : ℕ → Type 0) (s : List ℕ) (end : ℕ) (long : length s ≤ en
           let (four, seven, eight, nine, ten, eleven, twelve, thirteen, fourteen, fifteen, sixteen) = all in
           stays-then (number 4 s at) _ (number-stays 4 at b) λ kind next c.
           stays-choose (eqb kind 1) _ _
-          (λ _. stays-then (layoutAt s next) _ (layout-stays four eight nine next c) λ l last d. stays-then (learn book l next) _ (learn-stays ten eleven book l next c) λ learnt _ _. d)
+          (λ _. stays-then (layoutAt s next) _ (layout-stays four eight nine next c) λ l last d.
+          stays-then (learn book l next) _ (learn-stays ten eleven book l next c) λ learnt _ _. d)
           (stays-choose (eqb kind 2) _ _ (λ _. stays-then (rowAt book s next) _ (row-stays thirteen fourteen twelve book next c) λ r last d. d)
           (stays-choose (eqb kind 3) _ _ (λ _. stays-then (finishAt rows s next) _ (finish-stays fifteen sixteen rows next c) λ f last d. d) (seven, b)))
 
