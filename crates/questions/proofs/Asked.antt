@@ -17,8 +17,8 @@ use Rattle.layouts.specs.Layout.{Layout, layoutAt}
 use Rattle.layouts.specs.Book.{Book, bookOf, bookIn, IsBook, learn}
 use Rattle.layouts.proofs.Checks.{good-book, bad-book}
 use Rattle.rows.specs.Row.{Row, rowAt}
-use Rattle.elements.specs.Element.{item, layout, row, Stepped, layoutElement, rowElement, elementAt}
-use Rattle.elements.specs.Steps.{lentBook, stepAt}
+use Rattle.elements.specs.Element.{item, layout, row, Stepped}
+use Rattle.elements.specs.Steps.{lentBook}
 use Rattle.elements.proofs.Told.{element-layout, element-row}
 use Rattle.questions.specs.Questions.{kindAsked, bookAsked, nth, rowOf, layoutOf, rowAsked, layoutAsked, attributeAsked}
 use Rattle.questions.specs.Answers.{refusalOf}

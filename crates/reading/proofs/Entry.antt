@@ -1,16 +1,15 @@
 -- The equations of the entry points: what is refused before the element, and what is read behind it.
 use Prim.Native.Nat.{ℕ, _+_, _≤_, _<_}
-use mathlib.Core.Path.{_≡_, refl, sym, ap, _∙_}
+use mathlib.Core.Path.{_≡_, refl, ap}
 use mathlib.Core.List.{List, []}
-use mathlib.Core.Bool.{Bool, true, false}
+use mathlib.Core.Bool.{false}
 use native.Mathlib.Omega.{arith}
 use lib.ListN.{length}
-use lib.Dec.{leb}
 use borrow.Author.Tests.{le-leb, lt-leb}
-use Rattle.octets.specs.Reading.{Read, ok, no, _then_, choose, isOk, be, number}
+use Rattle.octets.specs.Reading.{Read, ok, no, _then_, isOk, be, number}
 use Rattle.octets.proofs.Inverse.{ok-value}
 use Rattle.octets.proofs.Ends.{number-ok, number-room}
-use Rattle.layouts.specs.Book.{Book, bookOf, bookIn, IsBook}
+use Rattle.layouts.specs.Book.{bookOf, bookIn, IsBook}
 use Rattle.layouts.proofs.Checks.{bad-book}
 use Rattle.headers.specs.Header.{Header, headerFrom, headerAt}
 use Rattle.elements.specs.Element.{elementAt}
