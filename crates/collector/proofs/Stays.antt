@@ -1,257 +1,32 @@
--- Every refusal has a number that is not 0 and a place inside the document or, for a step, the place that it was told: by the parts of each reading. Assumes nothing.
-use Prim.Native.Nat.{ℕ, zero, suc, _+_, _^_, _%_, _≤_, _<_}
-use mathlib.Core.Path.{_≡_, refl, ap, sym, subst}
-use mathlib.Core.List.{List, [], _∷_}
-use mathlib.Core.Bool.{Bool, true, false, _&&_}
-use mathlib.Core.Option.{Option, some, none}
+-- Every refusal fits one number: its number is not 0, and its place is inside the document or, for a step, the place that it was told. Assumes nothing.
+use Prim.Native.Nat.{ℕ, _≤_, _<_}
+use mathlib.Core.Path.{_≡_, refl, sym, subst}
+use mathlib.Core.List.{List}
+use mathlib.Core.Bool.{Bool, true, false}
 use native.Mathlib.Omega.{arith}
 use native.Mathlib.Nat.{le-refl}
-use lib.ListN.{length, take}
-use lib.Dec.{leb, ltb, eqb, lit<}
+use lib.ListN.{length}
+use lib.Dec.{leb, lit<}
 use borrow.Author.Tests.{leb-true, leb-false}
-use Rattle.octets.specs.Reading.{Read, ok, no, _then_, choose, isOk, Room, document, stated, reach, overrun, numberIn, octetsIn, textIn, number, text, count, exactly, run, same}
-use Rattle.kinds.specs.declared.Basic.{Basic}
-use Rattle.kinds.specs.declared.Form.{Form}
-use Rattle.kinds.specs.declared.Form.the-variants as form
-use Rattle.kinds.specs.Kinds.{basicOf, formOf, known, kindAt}
-use Rattle.layouts.specs.Layout.{Attribute, Layout, attributeAt, layoutAt, layoutImage}
-use Rattle.layouts.specs.Book.{Book, find, bookImage, as17, layoutsAt, bookOf, learnAt, learn}
-use Rattle.headers.specs.Header.{namespaceAt, idAt, headerFrom, headerAt}
-use Rattle.rows.specs.Row.{valueIn, fieldsIn, filled, valuesAt, named, rowAt}
-use Rattle.elements.specs.Element.{finishAt, elementAt}
-use Rattle.elements.specs.Steps.{lentBook, stepAt, isLast, elementsFrom, reading, whole}
-use Rattle.octets.proofs.Ends.{number-room}
+use Rattle.octets.specs.Reading.{Read, ok, no, _then_}
+use Rattle.layouts.specs.Book.{Book}
+use Rattle.headers.specs.Header.{headerAt}
+use Rattle.elements.specs.Steps.{lentBook, stepAt, whole}
+use Rattle.elements.proofs.Refusing.{Stays, OfHeader, OfElement, header-stays, whole-stays, lent-stays, step-stays}
 use Rattle.elements.proofs.Before.{lent-long, step-refused}
 use Rattle.reading.proofs.Entry.{header-long, whole-refused}
 use Rattle.collector.specs.Calls.{Packs}
 
--- A reading that passes no end: neither by the place behind it nor by that of its refusal, whose number is not 0.
-abbrev Stays : {A : Type 0} → ℕ → Read A → Type 0
-Stays end (ok a next) = next ≤ end
-Stays end (no n p) = (0 < n) × (p ≤ end)
+abbrev Positive : ℕ → Type 0
+Positive n = 0 < n
 
--- A room that a document has: its end and the place of its refusal are inside.
-abbrev Inside : ℕ → Room → Type 0
-Inside end document = Unit {0}
-Inside end (stated to p) = (to ≤ end) × (p ≤ end)
+of-header : OfHeader Positive
+of-header = (lit< tt, lit< tt, lit< tt, lit< tt, lit< tt)
 
--- A document that such an end is not before.
-module _ (s : List ℕ) (end : ℕ) (long : length s ≤ end) where
-  stays-on : {A B : Type 0} (r : Read A) (f : A → ℕ → Read B) → Stays end r → ((a : A) (next : ℕ) → r ≡ ok a next → Stays end (f a next)) → Stays end (r then f)
-  stays-on (ok a next) f h k = k a next refl
-  stays-on (no n p) f h k = h
+of-element : OfElement Positive
+of-element = (lit< tt, lit< tt, lit< tt, lit< tt, lit< tt, lit< tt, lit< tt, lit< tt, lit< tt, lit< tt, lit< tt)
 
-  stays-then : {A B : Type 0} (r : Read A) (f : A → ℕ → Read B) → Stays end r → ((a : A) (next : ℕ) → next ≤ end → Stays end (f a next)) → Stays end (r then f)
-  stays-then (ok a next) f h k = k a next h
-  stays-then (no n p) f h k = h
-
-  stays-choose : {A : Type 0} (t : Bool) (x y : Unit {0} → Read A) → (t ≡ true → Stays end (x tt)) → Stays end (y tt) → Stays end (choose t x y)
-  stays-choose true x y h k = h refl
-  stays-choose false x y h k = k
-
-  stays-run : {A : Type 0} (f : ℕ → Read A) → ((at : ℕ) → at ≤ end → Stays end (f at)) → (k at : ℕ) → at ≤ end → Stays end (run f k at)
-  unfolding run
-  stays-run f h zero at b = b
-  stays-run f h (suc k) at b = stays-then (f at) _ (h at b) λ a next c. stays-then (run f k next) _ (stays-run f h k next c) λ rest last d. d
-
-  reach-inside : (room : Room) → Inside end room → reach room s ≤ end
-  reach-inside document h = long
-  reach-inside (stated to p) h = h .0
-
-  stays-over : (A : Type 0) (room : Room) → Inside end room → (at : ℕ) → at ≤ end → Stays end (overrun {A = A} room at)
-  stays-over A document h at b = (lit< tt, b)
-  stays-over A (stated to p) h at b = (lit< tt, h .1)
-
-  module _ (room : Room) (inside : Inside end room) where
-    within : (next : ℕ) → leb next (reach room s) ≡ true → next ≤ end
-    within next t = let h = reach-inside room inside in let g = leb-true next (reach room s) t in omega arith
-
-    stays-number : (w at : ℕ) → at ≤ end → Stays end (numberIn room w s at)
-    unfolding numberIn
-    stays-number w at b = stays-choose (leb (at + w) (reach room s)) _ _ (λ t. within (at + w) t) (stays-over _ room inside at b)
-
-    stays-octets : (at : ℕ) → at ≤ end → Stays end (octetsIn room s at)
-    unfolding octetsIn
-    stays-octets at b =
-        stays-then (numberIn room 4 s at) _ (stays-number 4 at b) λ n next c.
-        stays-choose (leb (next + n) (reach room s)) _ _ (λ t. within (next + n) t) (stays-over _ room inside at b)
-
-    stays-text : (at : ℕ) → at ≤ end → Stays end (textIn room s at)
-    unfolding textIn
-    stays-text at b = stays-octets at b
-
-    stays-value : (f : Form) (at : ℕ) → at ≤ end → Stays end (valueIn room f s at)
-    unfolding valueIn
-    stays-value (form.Fixed w) at b = stays-then (numberIn room w s at) _ (stays-number w at b) λ n next c. c
-    stays-value form.Truth at b =
-        stays-then (numberIn room 1 s at) _ (stays-number 1 at b) λ n next c. stays-choose (leb n 1) _ _ (λ _. c) (lit< tt, b)
-    stays-value form.Octets at b = stays-then (octetsIn room s at) _ (stays-octets at b) λ xs next c. c
-    stays-value form.Text at b = stays-then (textIn room s at) _ (stays-text at b) λ xs next c. c
-
-    stays-fields : (attributes : List Attribute) (at : ℕ) → at ≤ end → Stays end (fieldsIn room attributes s at)
-    unfolding fieldsIn
-    stays-fields [] at b = b
-    stays-fields (a ∷ others) at b =
-        stays-then (valueIn room (formOf (a .kind .basic)) s at) _ (stays-value (formOf (a .kind .basic)) at b) λ v next c.
-        stays-then (fieldsIn room others s next) _ (stays-fields others next c) λ rest last d. d
-
-  -- The fields that only the document's end bounds.
-  number-stays : (w at : ℕ) → at ≤ end → Stays end (number w s at)
-  number-stays = stays-number document tt
-
-  text-stays : (at : ℕ) → at ≤ end → Stays end (text s at)
-  text-stays = stays-text document tt
-
-  count-stays : (most at : ℕ) → at ≤ end → Stays end (count most s at)
-  unfolding count
-  count-stays most at b = stays-then (number 4 s at) _ (number-stays 4 at b) λ n next c. stays-choose (leb n most) _ _ (λ _. c) (lit< tt, b)
-
-  exactly-stays : (n refusal at : ℕ) → 0 < refusal → at ≤ end → Stays end (exactly n refusal s at)
-  unfolding exactly
-  exactly-stays n refusal at h b = stays-then (number 4 s at) _ (number-stays 4 at b) λ m next c. stays-choose (eqb m n) _ _ (λ _. c) (h, b)
-
-  -- The header.
-  namespace-stays : (at : ℕ) → at ≤ end → Stays end (namespaceAt s at)
-  unfolding namespaceAt
-  namespace-stays at b = stays-then (text s at) _ (text-stays at b) λ uri next c. stays-then (text s next) _ (text-stays next c) λ short last d. d
-
-  id-stays : (at : ℕ) → at ≤ end → Stays end (idAt s at)
-  unfolding idAt
-  id-stays at b =
-      stays-then (exactly 16 5 s at) _ (exactly-stays 16 5 at (lit< tt) b) λ _ next c.
-      stays-choose (leb (next + 16) (length s)) _ _ (λ t. let h = leb-true (next + 16) (length s) t in omega arith) (lit< tt, b)
-
-  fields-stay : (at : ℕ) → at ≤ end → Stays end (headerFrom s at)
-  unfolding headerFrom
-  fields-stay at b =
-      stays-then (exactly 4 3 s at) _ (exactly-stays 4 3 at (lit< tt) b) λ _ a b₁.
-      stays-then (text s a) _ (text-stays a b₁) λ recorder b b₂.
-      stays-then (number 8 s b) _ (number-stays 8 b b₂) λ start c b₃.
-      stays-then (text s c) _ (text-stays c b₃) λ default d b₄.
-      stays-then (count 16 s d) _ (count-stays 16 d b₄) λ k e b₅.
-      stays-then (run (namespaceAt s) k e) _ (stays-run (namespaceAt s) namespace-stays k e b₅) λ others f b₆.
-      stays-then (count 16 s f) _ (count-stays 16 f b₆) λ m g b₇.
-      stays-then (run (text s) m g) _ (stays-run (text s) text-stays m g b₇) λ services h b₈.
-      stays-then (idAt s h) _ (id-stays h b₈) λ id i b₉.
-      stays-then (exactly 0xffffffff 6 s i) _ (exactly-stays 0xffffffff 6 i (lit< tt) b₉) λ _ last b₁₀. b₁₀
-
-  -- A layout.
-  kind-stays : (at : ℕ) → at ≤ end → Stays end (kindAt s at)
-  unfolding kindAt
-  kind-stays at b =
-      stays-then (number 4 s at) _ (number-stays 4 at b) λ t next c.
-      stays-choose (leb (2 ^ 31) t) _ _ (λ _. (lit< tt, b))
-      (stays-choose (ltb t 0x10000) _ _ (λ _. in-table t next c (basicOf (t % 256))) (lit< tt, b))
-    where
-      in-table : (t next : ℕ) → next ≤ end → (o : Option Basic) → Stays end (known at t next o)
-      in-table t next c (some k) = c
-      in-table t next c none = (lit< tt, b)
-
-  attribute-stays : (at : ℕ) → at ≤ end → Stays end (attributeAt s at)
-  unfolding attributeAt
-  attribute-stays at b = stays-then (text s at) _ (text-stays at b) λ name next c. stays-then (kindAt s next) _ (kind-stays next c) λ kind last d. d
-
-  layout-stays : (at : ℕ) → at ≤ end → Stays end (layoutAt s at)
-  unfolding layoutAt
-  layout-stays at b =
-      stays-then (number 4 s at) _ (number-stays 4 at b) λ n a b₁.
-      stays-then (text s a) _ (text-stays a b₁) λ name b b₂.
-      stays-then (count 64 s b) _ (count-stays 64 b b₂) λ k c b₃.
-      stays-then (run (attributeAt s) k c) _ (stays-run (attributeAt s) attribute-stays k c b₃) λ attributes last d. d
-
-  learn-stays : (book : Book) (l : Layout) (at : ℕ) → at ≤ end → Stays end (learn book l at)
-  unfolding learn
-  learn-stays book l at b = go (find (l .number) book)
-    where
-      go : (o : Option Layout) → Stays end (learnAt book l at o)
-      go (some m) = stays-choose (same (layoutImage m) (layoutImage l)) _ _ (λ _. b) (lit< tt, b)
-      go none = stays-choose (ltb (length book) 64 && leb (length (bookImage book) + length (layoutImage l)) 32768) _ _ (λ _. b) (lit< tt, b)
-
-  -- A row.
-  values-stays : (attributes : List Attribute) (length-at size : ℕ) → length-at + 4 ≤ end → Stays end (valuesAt attributes s length-at size)
-  unfolding valuesAt
-  values-stays attributes length-at size b =
-      stays-choose (eqb size 0xffffffff) _ _ (λ _. stays-fields document tt attributes (length-at + 4) b)
-      (stays-choose (leb to (length s)) _ _ (λ t. filled-stays (leb-true to (length s) t)) (lit< tt, before))
-    where
-      to : ℕ
-      to = length-at + 4 + size
-
-      before : length-at ≤ end
-      before = omega arith
-
-      filled-stays : to ≤ length s → Stays end (filled attributes s length-at to)
-      filled-stays h =
-          stays-then (fieldsIn (stated to length-at) attributes s (length-at + 4)) _ (stays-fields (stated to length-at) (omega arith, before) attributes (length-at + 4) b) λ fields last c.
-          stays-choose (eqb last to) _ _ (λ _. c) (lit< tt, before)
-
-  row-stays : (book : Book) (at : ℕ) → at ≤ end → Stays end (rowAt book s at)
-  unfolding rowAt
-  row-stays book at b = stays-then (number 4 s at) _ (number-stays 4 at b) λ n length-at c. go n length-at c (find n book)
-    where
-      go : (n length-at : ℕ) → length-at ≤ end → (o : Option Layout) → Stays end (named s at n length-at o)
-      go n length-at c none = (lit< tt, b)
-      go n length-at c (some l) =
-          stays-on (number 4 s length-at) _ (number-stays 4 length-at c) λ size next e.
-          stays-then (valuesAt (l .attributes) s length-at size) _ (values-stays (l .attributes) length-at size (let h = number-room s length-at 4 (ap isOk e) in omega arith)) λ fields last d. d
-
-  finish-stays : (rows at : ℕ) → at ≤ end → Stays end (finishAt rows s at)
-  unfolding finishAt
-  finish-stays rows at b =
-      stays-then (number 4 s at) _ (number-stays 4 at b) λ n next c.
-      stays-choose (eqb n rows) _ _
-      (λ _. stays-then (number 8 s next) _ (number-stays 8 next c) λ time last d. stays-choose (eqb last (length s)) _ _ (λ _. d) (lit< tt, d))
-      (lit< tt, b)
-
-  -- Elements.
-  element-stays : (at rows : ℕ) (book : Book) → at ≤ end → Stays end (elementAt s at rows book)
-  unfolding elementAt
-  element-stays at rows book b =
-      stays-then (number 4 s at) _ (number-stays 4 at b) λ kind next c.
-      stays-choose (eqb kind 1) _ _
-      (λ _. stays-then (layoutAt s next) _ (layout-stays next c) λ l last d. stays-then (learn book l next) _ (learn-stays book l next c) λ learnt _ _. d)
-      (stays-choose (eqb kind 2) _ _ (λ _. stays-then (rowAt book s next) _ (row-stays book next c) λ r last d. d)
-      (stays-choose (eqb kind 3) _ _ (λ _. stays-then (finishAt rows s next) _ (finish-stays rows next c) λ f last d. d) (lit< tt, b)))
-
-  elements-stay : (k at rows : ℕ) (book : Book) → at ≤ end → Stays end (elementsFrom k s at rows book)
-  unfolding elementsFrom
-  elements-stay zero at rows book b = (lit< tt, b)
-  elements-stay (suc k) at rows book b =
-      stays-then (elementAt s at rows book) _ (element-stays at rows book b) λ st next c.
-      stays-choose (isLast (st .element)) _ _ (λ _. c)
-      (stays-then (elementsFrom k s next (st .rows) (st .book)) _ (elements-stay k next (st .rows) (st .book) c) λ rest last d. d)
-
-  header-stays : Stays end (headerAt s)
-  unfolding headerAt
-  header-stays = stays-choose (leb (length s) 1048576) _ _ (λ _. fields-stay 0 (omega arith)) (lit< tt, omega arith)
-
-  whole-stays : Stays end (whole s)
-  unfolding whole reading
-  whole-stays =
-      stays-then (reading s) _
-      (stays-then (headerAt s) _ header-stays λ h next b. stays-then (elementsFrom (length s + 1) s next 0 []) _ (elements-stay (length s + 1) next 0 [] b) λ elements last c. c)
-      λ r last c. c
-
-  step-stays : (at rows : ℕ) (octets : List ℕ) (used : ℕ) → at ≤ end → Stays end (stepAt s at rows octets used)
-  unfolding stepAt lentBook bookOf
-  step-stays at rows octets used b =
-      go (leb (length s) 1048576) (leb 32768 (length octets) && leb used 32768) (layoutsAt 64 [] (take used octets) 0) (leb rows 1048576)
-    where
-      start : 0 ≤ end
-      start = omega arith
-
-      go : (short lent : Bool) (r : Read Book) (few : Bool)
-          → Stays end
-          (choose short (λ _. choose lent (λ _. as17 r) (λ _. no 17 0) then λ book last. choose few (λ _. ok book last) (λ _. no 17 0)) (λ _. no 2 0)
-          then λ book _. elementAt s at rows book)
-      go false lent r few = (lit< tt, start)
-      go true false r few = (lit< tt, start)
-      go true true (no n p) few = (lit< tt, start)
-      go true true (ok book last) false = (lit< tt, start)
-      go true true (ok book last) true = element-stays at rows book b
-
--- A refusal that passes no such end fits one number.
-packs : {A : Type 0} (end : ℕ) (r : Read A) → end < 4294967296 → Stays end r → Packs r
+packs : {A : Type 0} (end : ℕ) (r : Read A) → end < 4294967296 → Stays Positive end r → Packs r
 packs end (ok a next) small h = tt
 packs end (no n p) small h = (h .0, omega arith)
 
@@ -265,31 +40,29 @@ module _ (s : List ℕ) where
       go false e = subst (Packs {A = A}) (sym (long (leb-false (length s) 1048576 e))) (lit< tt, lit< tt)
 
   pub header-packs : Packs (headerAt s)
-  header-packs = limited (headerAt s) (header-long s) λ h. packs (length s) (headerAt s) (omega arith) (header-stays s (length s) (le-refl (length s)))
+  header-packs = limited (headerAt s) (header-long s) λ h. packs (length s) (headerAt s) (omega arith) (header-stays Positive s (length s) (le-refl (length s)) (lit< tt) of-header)
 
   pub whole-packs : Packs (whole s)
   whole-packs =
-      limited (whole s) (λ h. whole-refused s 2 0 (header-long s h)) λ h. packs (length s) (whole s) (omega arith) (whole-stays s (length s) (le-refl (length s)))
+      limited (whole s) (λ h. whole-refused s 2 0 (header-long s h)) λ h.
+      packs (length s) (whole s) (omega arith) (whole-stays Positive s (length s) (le-refl (length s)) (lit< tt) of-header of-element)
 
   pub step-packs : (at rows : ℕ) (octets : List ℕ) (used : ℕ) → at < 4294967296 → Packs (stepAt s at rows octets used)
   step-packs at rows octets used small =
       limited (stepAt s at rows octets used) (λ h. step-refused s rows octets used at 2 0 (lent-long s rows octets used h)) λ h. go (leb at (length s)) refl h
     where
       go : (t : Bool) → leb at (length s) ≡ t → length s ≤ 1048576 → Packs (stepAt s at rows octets used)
-      go true e h = packs (length s) (stepAt s at rows octets used) (omega arith) (step-stays s (length s) (le-refl (length s)) at rows octets used (leb-true at (length s) e))
+      go true e h =
+          packs (length s) (stepAt s at rows octets used) (omega arith) (step-stays Positive s (length s) (le-refl (length s)) (lit< tt) (lit< tt) (lit< tt) of-element at rows octets used (leb-true at (length s) e))
       go false e h =
           let past = leb-false at (length s) e in
-          packs at (stepAt s at rows octets used) small (step-stays s at (omega arith) at rows octets used (le-refl at))
+          packs at (stepAt s at rows octets used) small (step-stays Positive s at (omega arith) (lit< tt) (lit< tt) (lit< tt) of-element at rows octets used (le-refl at))
 
   pub lent-packs : (rows : ℕ) (octets : List ℕ) (used : ℕ) → Packs (lentBook s rows octets used)
-  unfolding lentBook bookOf
   lent-packs rows octets used =
-      go (leb (length s) 1048576) (leb 32768 (length octets) && leb used 32768) (layoutsAt 64 [] (take used octets) 0) (leb rows 1048576)
+      limited (lentBook s rows octets used) (lent-long s rows octets used) λ h.
+      first (lentBook s rows octets used) (packs (length s) (lentBook s rows octets used then λ (book : Book) (mid : ℕ). ok book 0) (omega arith) (lent-stays Positive s (length s) (le-refl (length s)) (lit< tt) (lit< tt) (lit< tt) rows octets used (λ book _. ok book 0) λ book _. omega arith))
     where
-      go : (short lent : Bool) (r : Read Book) (few : Bool)
-          → Packs (choose short (λ _. choose lent (λ _. as17 r) (λ _. no 17 0) then λ book last. choose few (λ _. ok book last) (λ _. no 17 0)) (λ _. no 2 0))
-      go false lent r few = (lit< tt, lit< tt)
-      go true false r few = (lit< tt, lit< tt)
-      go true true (no n p) few = (lit< tt, lit< tt)
-      go true true (ok book last) false = (lit< tt, lit< tt)
-      go true true (ok book last) true = tt
+      first : (r : Read Book) → Packs (r then λ book _. ok book 0) → Packs r
+      first (ok book end) h = tt
+      first (no n p) h = h

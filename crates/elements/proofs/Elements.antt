@@ -8,7 +8,7 @@ use native.Mathlib.Omega.{arith}
 use lib.ListN.{length}
 use lib.Dec.{leb, ltb, eqb, lit<}
 use borrow.Author.Tests.{eqb-true, eq-eqb}
-use Rattle.octets.specs.Reading.{Read, ok, no, _then_, choose, number, same}
+use Rattle.octets.specs.Reading.{ok, no, _then_, choose, number, same}
 use Rattle.octets.specs.Writing.{word, images, Each, Octet}
 use Rattle.layouts.specs.Layout.{Layout, layoutAt, layoutImage, GoodLayout}
 use Rattle.layouts.specs.Book.{Book, bookImage, find, learnAt, learn}
@@ -17,7 +17,7 @@ use Rattle.elements.specs.Element.{Item, layout, row, Element, item, fin
 use Rattle.elements.specs.Steps.{Placed, isLast, elementsFrom}
 use Rattle.elements.specs.Document.{itemImage, rowCount, GoodItems, placedFrom}
 use Rattle.octets.proofs.Spans.{Spans, join, middle, word-octets, each-append}
-use Rattle.octets.proofs.Inverse.{Inverse, after, settle, chosen, either}
+use Rattle.octets.proofs.Inverse.{after, settle, chosen, either}
 use Rattle.octets.proofs.Fields.{number-whole}
 use Rattle.layouts.proofs.Layouts.{layout-inverse}
 use Rattle.rows.proofs.Rows.{GoodRow, row-inverse}

@@ -1,28 +1,27 @@
 -- A run of elements on the way: the book behind an accepted element is good again, and what is counted from the start is what is counted from here.
 use Prim.Native.Nat.{ℕ, zero, suc, _+_, _-_, _≤_, _<_}
-use mathlib.Core.Path.{_≡_, refl, sym, ap, _∙_, subst}
+use mathlib.Core.Path.{_≡_, refl, sym, ap, _∙_}
 use mathlib.Core.List.{List, [], _∷_, _++_}
-use mathlib.Core.Bool.{Bool, true, false}
+use mathlib.Core.Bool.{true, false}
 use native.Mathlib.Omega.{arith}
-use lib.ListN.{length, take, drop, length-append, length-drop}
-use lib.Seq.{take-append-seam}
-use Rattle.octets.specs.Reading.{Read, ok, no, _then_, choose}
-use Rattle.octets.specs.Writing.{word, images, Each, Octet}
+use lib.ListN.{length, drop, length-append, length-drop}
+use Rattle.octets.specs.Reading.{Read, ok, no, _then_}
+use Rattle.octets.specs.Writing.{word, Each, Octet}
 use Rattle.octets.proofs.Spans.{Spans, length-word, each-append, each-drop}
-use Rattle.layouts.specs.Layout.{Layout, layoutImage, GoodLayout}
-use Rattle.layouts.specs.Book.{Book, bookImage, bookOf, bookIn, IsBook, learn}
+use Rattle.layouts.specs.Layout.{layoutImage, GoodLayout}
+use Rattle.layouts.specs.Book.{Book, bookImage, bookOf, bookIn, IsBook}
 use Rattle.layouts.proofs.Layouts.{layout-octets}
-use Rattle.layouts.proofs.Books.{GoodBook, Lent, book-back, image-nil, image-cons}
+use Rattle.layouts.proofs.Books.{GoodBook, octets-book, image-nil, image-cons}
 use Rattle.layouts.proofs.Walks.{lent-book}
 use Rattle.layouts.proofs.Lends.{empty-book}
 use Rattle.layouts.proofs.Growing.{grown}
 use Rattle.rows.specs.Row.{rowImage}
 use Rattle.elements.specs.Element.{Element, item, layout, row, finish, Stepped, elementAt}
-use Rattle.elements.specs.Steps.{holding, leaves, Placed, isLast, elementsFrom, asRow, rowsOf, counted}
+use Rattle.elements.specs.Steps.{holding, Placed, isLast, elementsFrom, asRow, rowsOf, counted}
 use Rattle.elements.specs.Answers.{metOf, isLastMet, stepOf, tells}
 use Rattle.elements.specs.declared.Step.{Step}
 use Rattle.elements.specs.declared.Stepping.the-variants.{Done, Refused}
-use Rattle.elements.proofs.Elements.{Came, a-layout, a-row, an-end, element-forth, endImage}
+use Rattle.elements.proofs.Elements.{Came, a-layout, a-row, an-end, element-forth}
 use Rattle.elements.proofs.Went.{step-rows}
 
 -- What an answer says of the reading.
@@ -70,11 +69,11 @@ module _ (book : Book) (octets : List ℕ) (good : GoodBook book) (long : 32768 
   holding-octets : Each Octet octets → Each Octet (holding book octets)
   holding-octets o = each-append (bookImage book) (drop (length (bookImage book)) octets) (image-octets book (good .good)) (each-drop Octet (length (bookImage book)) octets o)
 
-  holding-length : length (holding book octets) ≡ length octets
+  pub holding-length : length (holding book octets) ≡ length octets
   holding-length = rw (length-append (bookImage book) (drop (length (bookImage book)) octets), length-drop (length (bookImage book)) octets) (omega (arith, good .small))
 
-  holding-of : bookOf (holding book octets) (length (bookImage book)) ≡ ok book (length (bookImage book))
-  holding-of = book-back book (holding book octets) good (omega (arith, holding-length)) (take-append-seam (bookImage book) (drop (length (bookImage book)) octets))
+  pub holding-of : bookOf (holding book octets) (length (bookImage book)) ≡ ok book (length (bookImage book))
+  holding-of = octets-book book (drop (length (bookImage book)) octets) good (omega (arith, holding-length))
 
   pub holding-book : IsBook (holding book octets) (length (bookImage book)) × (bookIn (holding book octets) (length (bookImage book)) ≡ book)
   unfolding bookIn

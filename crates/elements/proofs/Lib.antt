@@ -4,3 +4,4 @@ pub mod Told
 pub mod Before
 pub mod Going
 pub mod Quickly
+pub mod Refusing

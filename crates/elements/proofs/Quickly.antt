@@ -1,8 +1,7 @@
 -- A run that passes rows by plans: a row so passed is an element, the plans go with the book behind every element, and where the book grew a layout was read that it has.
 use Prim.Native.Nat.{ℕ, _+_, _≤_, _<_}
-use mathlib.Core.Path.{_≡_, refl, sym, ap, _∙_, subst}
+use mathlib.Core.Path.{_≡_, refl, sym, ap, subst}
 use mathlib.Core.List.{List}
-use mathlib.Core.Bool.{false}
 use mathlib.Core.Option.{some}
 use native.Mathlib.Omega.{arith}
 use lib.ListN.{length}
@@ -18,7 +17,6 @@ use Rattle.layouts.proofs.Growing.{Grown, grown}
 use Rattle.layouts.proofs.Walks.{lent-book}
 use Rattle.rows.specs.Row.{Row, rowAt}
 use Rattle.elements.specs.Element.{item, row, Stepped, elementAt}
-use Rattle.elements.specs.Steps.{holding}
 use Rattle.elements.proofs.Went.{Went, at-layout, at-row, at-finish, went, row-step}
 use Rattle.elements.proofs.Told.{holding-same}
 use Rattle.elements.proofs.Going.{Going, going-on, element-place}

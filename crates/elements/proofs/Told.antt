@@ -1,13 +1,13 @@
 -- The equations of one element that functions over a book cite: which branch is taken, what it answers, and what it leaves in the lent octets.
 use Prim.Native.Nat.{ℕ, _+_, _≤_, _<_}
-use mathlib.Core.Path.{_≡_, refl, sym, ap, _∙_}
-use mathlib.Core.List.{List, [], _∷_, _++_}
+use mathlib.Core.Path.{_≡_, refl, ap}
+use mathlib.Core.List.{List}
 use mathlib.Core.Bool.{Bool}
-use mathlib.Core.Option.{Option, some, none}
+use mathlib.Core.Option.{some, none}
 use native.Mathlib.Omega.{arith}
-use lib.ListN.{length, take, drop, take-append-drop}
+use lib.ListN.{length, take-append-drop}
 use borrow.Author.Tests.{eq-eqb, ne-eqb}
-use Rattle.octets.specs.Reading.{Read, ok, no, _then_, choose, ends, be, number}
+use Rattle.octets.specs.Reading.{Read, ok, no, _then_, ends, be, number}
 use Rattle.octets.specs.Writing.{Each, Octet}
 use Rattle.octets.proofs.Ends.{number-ok, number-no, refused}
 use Rattle.layouts.specs.Layout.{Layout, layoutAt}
@@ -16,11 +16,11 @@ use Rattle.layouts.proofs.Books.{Lent}
 use Rattle.layouts.proofs.Walks.{lent-book}
 use Rattle.rows.specs.Row.{Row, named, rowAt}
 use Rattle.rows.specs.Answers.{Shape, shape}
-use Rattle.elements.specs.Element.{Element, item, layout, row, finish, Stepped, finishAt, layoutElement, rowElement, endElement, elementAt}
+use Rattle.elements.specs.Element.{Element, item, layout, row, finish, finishAt, layoutElement, rowElement, endElement, elementAt}
 use Rattle.elements.specs.Steps.{holding, leaves}
 use Rattle.elements.specs.Answers.{tells}
 use Rattle.elements.specs.declared.Met.the-variants as met
-use Rattle.elements.specs.declared.Stepping.the-variants.{Done, Refused}
+use Rattle.elements.specs.declared.Stepping.the-variants.{Done}
 use Rattle.elements.proofs.Went.{named-number}
 
 -- The end, from its count on.

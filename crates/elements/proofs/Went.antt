@@ -7,7 +7,7 @@ use mathlib.Core.Option.{Option, some, none}
 use lib.ListN.{length}
 use lib.Dec.{eqb, ltb}
 use borrow.Author.Tests.{eqb-true}
-use Rattle.octets.specs.Reading.{Read, ok, no, _then_, choose, number}
+use Rattle.octets.specs.Reading.{ok, no, number}
 use Rattle.layouts.specs.Layout.{Layout, layoutAt}
 use Rattle.layouts.specs.Book.{Book, find, learn}
 use Rattle.rows.specs.Row.{Row, valuesAt, named, rowAt}

@@ -1,16 +1,16 @@
 -- The header: reading and image are inverse, a line for each field.
 use mathlib.Core.Path.{_≡_, refl, sym, ap, _∙_}
-use mathlib.Core.List.{List, [], _∷_, _++_, append-assoc, append-nil}
-use Prim.Native.Nat.{ℕ, _+_, _≤_}
+use mathlib.Core.List.{List, _++_, append-assoc, append-nil}
+use Prim.Native.Nat.{ℕ, _+_}
 use native.Mathlib.Omega.{arith}
 use native.Mathlib.Nat.{le-refl}
 use lib.ListN.{length}
 use lib.Dec.{leb, lit<}
 use borrow.Author.Tests.{leb-true, le-leb}
-use Rattle.octets.specs.Reading.{Read, ok, no, _then_, choose, part, exactly}
+use Rattle.octets.specs.Reading.{ok, part, exactly}
 use Rattle.octets.specs.Writing.{word, Each, Octet}
-use Rattle.headers.specs.Header.{Namespace, Header, namespaceAt, idAt, headerFrom, namespaceImage, headerImage, GoodNamespace, GoodHeader}
-use Rattle.octets.proofs.Spans.{Spans, join, middle, part-spans, part-is, spans-octets, word-octets, each-append}
+use Rattle.headers.specs.Header.{namespaceAt, idAt, headerFrom, namespaceImage, headerImage, GoodNamespace, GoodHeader}
+use Rattle.octets.proofs.Spans.{join, middle, part-spans, part-is, spans-octets, word-octets, each-append}
 use Rattle.octets.proofs.Inverse.{Inverse, Answer, Any, after, settle, chosen, done, seq, seqOn, several, finally}
 use Rattle.octets.proofs.Fields.{number-whole, text-whole, count-inverse, exactly-inverse}
 

@@ -11,7 +11,7 @@ use lib.ListN.{length}
 use lib.Dec.{leb, ltb, eqb, lit≤}
 use lib.Arith.{digits-div, digits-mod}
 use borrow.Author.Tests.{eqb-true, ltb-true, le-leb, lt-leb, lt-ltb, le-ltb, ne-eqb}
-use Rattle.octets.specs.Reading.{Read, ok, no, _then_, choose, be, number, isOk, ends}
+use Rattle.octets.specs.Reading.{ok, no, choose, be, number, isOk, ends}
 use Rattle.octets.specs.Writing.{word}
 use Rattle.octets.proofs.Spans.{word-octets}
 use Rattle.octets.proofs.Inverse.{Inverse, Answer, Any, after, settle, chosen, refused, ok-value}

@@ -1,13 +1,13 @@
 -- What stands in the octets of an accepted attribute or layout: its fields with their places, and its attributes by index.
 -- A reading that succeeds is taken apart field by field; attribute n stands behind the run of the first n.
 use Prim.Native.Nat.{ℕ, zero, suc, _+_, _≤_, _<_}
-use mathlib.Core.Path.{_≡_, refl, sym, ap, _∙_, subst}
+use mathlib.Core.Path.{_≡_, sym, ap, _∙_, subst}
 use mathlib.Core.List.{List}
 use mathlib.Core.Bool.{true}
 use lib.ListN.{length, drop}
 use native.Mathlib.Numerals.{add-one}
 use native.Mathlib.Omega.{arith}
-use Rattle.octets.specs.Reading.{Read, ok, no, ends, isOk, be, part, number, text, count, run}
+use Rattle.octets.specs.Reading.{Read, ok, ends, isOk, be, part, number, text, count, run}
 use Rattle.octets.proofs.Inverse.{after, ok-value, ok-place}
 use Rattle.octets.proofs.Ends.{number-ok, number-room, text-ok, text-room, count-ok, count-room, ends-ok, value-is, run-on, run-none, run-first}
 use Rattle.octets.proofs.Runs.{run-item, run-length}

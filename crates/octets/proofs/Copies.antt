@@ -6,7 +6,7 @@ use mathlib.Core.Bool.{Bool, true, false, _&&_}
 use native.Mathlib.Numerals.{add-one}
 use native.Mathlib.Omega.{arith}
 use lib.ListN.{length, take, drop, getD, set, length-drop, length-set}
-use lib.Seq.{drop-cons, take-suc, set-at, length-take-le, take-length, drop-length, take-all, drop-drop, getD-set-same, drop-set-lt}
+use lib.Seq.{drop-cons, take-suc, set-at, length-take-le, drop-length, take-all, drop-drop, getD-set-same, drop-set-lt}
 use lib.Dec.{eqb}
 use borrow.Author.Tests.{eq-eqb, ne-eqb, eqb-true, eqb-false}
 use Rattle.octets.specs.Reading.{be, part, same}

@@ -6,7 +6,7 @@ use mathlib.Core.List.{List}
 use mathlib.Core.Bool.{Bool, true, false}
 use lib.ListN.{length}
 use lib.Dec.{leb, eqb}
-use borrow.Author.Tests.{le-leb, lt-leb, leb-true, eq-eqb, ne-eqb, eqb-true}
+use borrow.Author.Tests.{le-leb, lt-leb, leb-true, eq-eqb, ne-eqb}
 use native.Mathlib.Omega.{arith}
 use Rattle.octets.specs.Reading.{Read, ok, no, _then_, choose, ends, isOk, be, part, Room, document, stated, reach, overrun, numberIn, octetsIn, textIn, number, text, count, exactly, run}
 use Rattle.octets.specs.Answers.{Within}

@@ -1,7 +1,7 @@
 -- The fields that every construct is made of: number, octets, string, count and fixed number each have a reading and an image that are inverse.
-use mathlib.Core.Path.{_≡_, refl, sym, ap, _∙_, subst}
-use mathlib.Core.List.{List, [], _∷_, _++_}
-use mathlib.Core.Bool.{Bool, true, false}
+use mathlib.Core.Path.{_≡_, sym, ap, _∙_}
+use mathlib.Core.List.{List, _++_}
+use mathlib.Core.Bool.{Bool, true}
 use Prim.Native.Nat.{ℕ, _+_, _-_, _^_, _≤_, _<_}
 use native.Mathlib.Omega.{arith}
 use native.Mathlib.Nat.{le-refl}
@@ -10,7 +10,7 @@ use lib.Dec.{leb, eqb}
 use borrow.Author.Tests.{leb-true, eqb-true, le-leb, eq-eqb}
 use Rattle.octets.specs.Reading.{Read, ok, no, _then_, choose, be, part, Room, document, stated, reach, overrun, numberIn, octetsIn, textIn, number, text, count, exactly}
 use Rattle.octets.specs.Writing.{word, textImage, Each, Octet, Text}
-use Rattle.octets.proofs.Spans.{Spans, join, middle, length-word, word-is, word-spans, word-octets, part-spans, part-is, spans-octets, each-append}
+use Rattle.octets.proofs.Spans.{join, middle, length-word, word-is, word-spans, word-octets, part-spans, part-is, spans-octets, each-append}
 use Rattle.octets.proofs.Inverse.{Inverse, Answer, Any, after, settle, chosen, reads-back, reads-forth}
 
 -- No reading succeeds where the room ends.

@@ -11,10 +11,10 @@ use lib.Dec.{ltb}
 use borrow.Author.Tests.{ltb-true, ltb-false}
 use Rattle.octets.specs.Reading.{ok, ends, be, document, stated, number}
 use Rattle.octets.proofs.Ends.{number-ok, ended}
-use Rattle.layouts.specs.Layout.{Attribute, Layout}
+use Rattle.layouts.specs.Layout.{Layout}
 use Rattle.layouts.specs.Book.{Book, find}
 use Rattle.layouts.proofs.Finding.{Within}
-use Rattle.rows.specs.Row.{Field, Row, valuesAt, named, rowAt}
+use Rattle.rows.specs.Row.{Field, Row, valuesAt, rowAt}
 use Rattle.rows.proofs.Lengths.{values-open, values-stated, filled-ok}
 use Rattle.plans.specs.Plan.{planOf, Begins, Entry, Planned}
 use Rattle.plans.specs.Answers.{Follows, Lasts}

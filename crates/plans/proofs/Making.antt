@@ -1,14 +1,13 @@
 -- A plan being made: the steps that stand, and those of the attributes that are left. A store behind what stands leaves it.
-use Prim.Native.Nat.{ℕ, zero, suc, _+_, _-_, _*_, _%_, _≤_, _<_}
+use Prim.Native.Nat.{ℕ, suc, _+_, _-_, _%_, _≤_, _<_}
 use mathlib.Core.Path.{_≡_, refl, sym, ap, _∙_, subst}
-use mathlib.Core.List.{List, [], _∷_, _++_, append-assoc, append-nil}
+use mathlib.Core.List.{List, [], _∷_, _++_, append-assoc}
 use native.Mathlib.Omega.{arith}
-use lib.ListN.{length, getD, set, take, drop, length-set, length-append}
+use lib.ListN.{length, set, take, drop, length-set, length-append}
 use lib.Seq.{take-take, take-add, take-set-le, drop-at, length-take-le, getD-set-same}
-use lib.Dec.{eqb}
 use borrow.Author.Tests.{eq-eqb, ne-eqb}
-use Rattle.octets.specs.Reading.{Read, ok, _then_, choose, part, run}
-use Rattle.octets.proofs.Spans.{Spans, join, one-spans, none-spans}
+use Rattle.octets.specs.Reading.{ok, part, run}
+use Rattle.octets.proofs.Spans.{Spans, join, one-spans}
 use Rattle.octets.proofs.Inverse.{after, ok-value, ok-place}
 use Rattle.kinds.specs.Kinds.{formOf}
 use Rattle.layouts.specs.Layout.{Attribute, attributeAt}

@@ -1,13 +1,12 @@
 -- Values passed by a plan: its first step is a sum of octets, and either the values end behind these or one more closes the step and the plan of the others follows.
 -- By induction on the attributes.
-use Prim.Native.Nat.{ℕ, zero, suc, _+_, _*_, _/_, _%_, _≤_, _<_}
+use Prim.Native.Nat.{ℕ, _+_, _*_, _/_, _%_, _≤_, _<_}
 use mathlib.Core.Path.{_≡_, refl, sym, ap, _∙_, subst}
-use mathlib.Core.List.{List, [], _∷_, _++_}
+use mathlib.Core.List.{List, [], _∷_}
 use native.Mathlib.Omega.{arith}
 use lib.ListN.{length, getD}
-use lib.Dec.{eqb}
 use borrow.Author.Tests.{eq-eqb, ne-eqb}
-use Rattle.octets.specs.Reading.{ok, ends, choose, be, Room, reach, part}
+use Rattle.octets.specs.Reading.{ok, ends, be, Room, reach}
 use Rattle.octets.proofs.Spans.{Spans, middle, one-is, part-spans, part-is}
 use Rattle.kinds.specs.declared.Form.{Form}
 use Rattle.kinds.specs.declared.Form.the-variants as form

@@ -19,25 +19,25 @@ use Rattle.promises.specs.Refusals.{refusalOf, refusalsOf, headerNumbers
 use Rattle.promises.proofs.Numbers.{header-only, step-only, whole-only}
 
 -- So many layouts of different numbers, as a book holds them, each behind some octets.
-abbrev layouts : List ℕ → ℕ → List ℕ
+abbrev pub layouts : List ℕ → ℕ → List ℕ
 layouts kind zero = []
 layouts kind (suc k) = kind ++ (0 ∷ 0 ∷ 0 ∷ (100 + k) ∷ 0 ∷ 0 ∷ 0 ∷ 0 ∷ 0 ∷ 0 ∷ 0 ∷ 0 ∷ layouts kind k)
 
 -- A document over the limit: not laid out.
-zeros : ℕ → List ℕ
+pub zeros : ℕ → List ℕ
 zeros n = replicate n 0
 
 long-zeros : (n : ℕ) → length (zeros n) ≡ n
 unfolding zeros
 long-zeros n = length-replicate n 0
 
-abbrev long : List ℕ
+abbrev pub long : List ℕ
 long = zeros 1048577
 
-too-long : 1048576 < length long
+pub too-long : 1048576 < length long
 too-long = subst (λ (n : ℕ). 1048576 < n) (sym (long-zeros 1048577)) (lit< tt)
 
-header-long : headerAt long ≡ no 2 0
+pub header-long : headerAt long ≡ no 2 0
 unfolding headerAt
 header-long = rw (lt-leb (length long) 1048576 too-long)
 

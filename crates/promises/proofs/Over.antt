@@ -7,7 +7,7 @@ use mathlib.Core.Bool.{Bool, true, false}
 use mathlib.Core.Logic.{_⊎_, inl, inr}
 use native.Mathlib.Omega.{arith}
 use native.Mathlib.Nat.{add-zero}
-use lib.ListN.{length, take, drop, length-append, length-drop, take-append-drop}
+use lib.ListN.{length, take, drop, length-append}
 use lib.Seq.{take-append-seam}
 use lib.Dec.{leb}
 use borrow.Author.Tests.{leb-true, le-leb}
@@ -25,6 +25,7 @@ use Rattle.layouts.proofs.Books.{GoodBook, Lent, image-nil, image-snoc, book-ba
 use Rattle.layouts.proofs.Growing.{Learnt, learnt, good-nil}
 use Rattle.elements.proofs.Went.{Went, at-layout, at-row, at-finish, went, step-rows}
 use Rattle.elements.proofs.Told.{holding-lent}
+use Rattle.elements.proofs.Going.{holding-length}
 use Rattle.promises.proofs.Run.{Spot, behind, placed, Steps, Ends, NoEnd, step-gains, step-moves, step-few}
 
 -- The book in lent octets that hold it.
@@ -37,7 +38,7 @@ carries-book octets used b h good =
 left-carries : (octets : List ℕ) (c : Book) → 32768 ≤ length octets → GoodBook c → Carries (holding c octets) (length (bookImage c)) c
 left-carries octets c room good =
     record {
-      room = rw (length-append, length-drop) (omega (arith, good .small));
+      room = omega (arith, holding-length c octets good room);
       size = refl;
       held = take-append-seam (bookImage c) (drop (length (bookImage c)) octets);
     }

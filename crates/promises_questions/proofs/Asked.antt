@@ -3,9 +3,11 @@ use Prim.Native.Nat.{ℕ, _+_, _≤_}
 use mathlib.Core.Path.{_≡_, refl}
 use mathlib.Core.List.{List, [], _∷_}
 use mathlib.Core.Bool.{Bool, true, false, _&&_}
+use native.Mathlib.Omega.{arith}
+use native.Mathlib.Nat.{le-refl}
 use lib.ListN.{length, take, drop}
 use lib.Dec.{leb, eqb}
-use Rattle.octets.specs.Reading.{Read, ok, no, _then_, choose, document, be, number}
+use Rattle.octets.specs.Reading.{Read, ok, no, _then_, choose, be, number}
 use Rattle.octets.proofs.Inverse.{after}
 use Rattle.layouts.specs.Layout.{layoutAt}
 use Rattle.layouts.specs.Book.{Book, as17, layoutsAt, bookOf, learn}
@@ -14,14 +16,14 @@ use Rattle.headers.specs.Header.{headerAt}
 use Rattle.rows.specs.Row.{rowAt}
 use Rattle.elements.specs.Element.{Element, item, layout, row, finish, elementAt}
 use Rattle.elements.specs.Steps.{lentBook}
+use Rattle.elements.proofs.Refusing.{number-stays, layout-stays, learn-stays, row-stays}
 use Rattle.elements.proofs.Told.{element-layout, element-row}
 use Rattle.questions.specs.Questions.{kindAsked, bookAsked, firstOf, nth, rowOf, layoutOf, rowAsked, fieldAsked, layoutAsked, attributeAsked}
 use Rattle.questions.proofs.Asked.{kind-forth}
 use Rattle.strings.specs.Strings.{namespacesPlace, servicesPlace, namespaceAsked, serviceAsked}
 use Rattle.promises.specs.Refusals.{Only}
-use Rattle.promises.proofs.Numbers.{header-only}
+use Rattle.promises.proofs.Numbers.{taken, given, In, only, header-only}
 use Rattle.promises_questions.specs.Numbers.{fieldNumbers, layoutNumbers, attributeNumbers, listedNumbers}
-use Rattle.promises_questions.proofs.Parts.{taken, given, only-with, only-then, only-choose, only-number, layout-only, learn-only, row-only}
 
 -- One number more.
 also : {A : Type 0} {ns : List ℕ} (m : ℕ) {r : Read A} → Only ns r → Only (m ∷ ns) r
@@ -30,6 +32,18 @@ also {ns = ns} m h = record { number = λ n p e. go n (eqb n m) (h .number n p e
     go : (n : ℕ) (t : Bool) → among n ns ≡ true → choose t (λ _. true) (λ _. among n ns) ≡ true
     go n true k = refl
     go n false k = k
+
+module _ {ns : List ℕ} where
+  only-with : {A B : Type 0} (r : Read A) (f : A → ℕ → Read B) → Only ns r → ((a : A) (next : ℕ) → r ≡ ok a next → Only ns (f a next)) → Only ns (r then f)
+  only-with (ok a next) f h k = k a next refl
+  only-with (no n p) f h k = given n p (h .number n p refl)
+
+  only-then : {A B : Type 0} (r : Read A) (f : A → ℕ → Read B) → Only ns r → ((a : A) (next : ℕ) → Only ns (f a next)) → Only ns (r then f)
+  only-then r f h k = only-with r f h λ a next _. k a next
+
+  only-choose : {A : Type 0} (t : Bool) (x y : Unit {0} → Read A) → Only ns (x tt) → Only ns (y tt) → Only ns (choose t x y)
+  only-choose true x y h k = h
+  only-choose false x y h k = k
 
 nth-only : {A : Type 0} {ns : List ℕ} → among 18 ns ≡ true → (n place : ℕ) (xs : List A) (next : ℕ) → Only ns (nth n place xs next)
 unfolding nth
@@ -57,7 +71,7 @@ module _ {ns : List ℕ} (one : among 1 ns ≡ true) (two : among 2 ns ≡ true)
   kind-only : (wanted : ℕ) (s : List ℕ) (at : ℕ) → Only ns (kindAsked wanted s at)
   unfolding kindAsked
   kind-only wanted s at =
-      only-then (number 4 s at) _ (only-number document one s at 4) λ kind next.
+      only-then (number 4 s at) _ (only (at + length s) (number 4 s at) (number-stays (In ns) s (at + length s) (omega arith) one 4 at (omega arith))) λ kind next.
       only-choose (eqb kind wanted) _ _ (taken kind next) (only-choose (leb 1 kind && leb kind 3) _ _ (given 19 at kind19) (given 7 at seven))
 
   book-only : (wanted : ℕ) (s : List ℕ) (at rows : ℕ) (octets : List ℕ) (used : ℕ) → Only ns (bookAsked wanted s at rows octets used)
@@ -81,7 +95,9 @@ module _ (s : List ℕ) (at rows : ℕ) (octets : List ℕ) (used : ℕ) where
       only-with (bookAsked 2 s at rows octets used) _ (book-only refl refl refl refl refl 2 s at rows octets used) λ book mid e.
       let (room, right) = kind-is 2 e in
       only-then (elementAt s at rows book) _
-      (rw (element-row s at rows book room right) (only-then (rowAt book s (at + 4)) _ (row-only s book (at + 4)) λ r end. taken _ end))
+      (rw (element-row s at rows book room right)
+      (only-then (rowAt book s (at + 4)) _
+      (only (length s) (rowAt book s (at + 4)) (row-stays (In fieldNumbers) s (length s) (le-refl (length s)) refl refl refl refl book (at + 4) room)) λ r end. taken _ end))
       λ st next. go (st .element) next
     where
       go : (el : Element) (next : ℕ) → Only fieldNumbers (rowOf at el next)
@@ -100,7 +116,10 @@ module _ (s : List ℕ) (at rows : ℕ) (octets : List ℕ) (used : ℕ) where
       let (room, right) = kind-is 1 e in
       only-then (elementAt s at rows book) _
       (rw (element-layout s at rows book room right)
-      (only-then (layoutAt s (at + 4)) _ (layout-only s (at + 4)) λ l end. only-then (learn book l (at + 4)) _ (learn-only s book l (at + 4)) λ learnt _. taken _ end))
+      (only-then (layoutAt s (at + 4)) _
+      (only (length s) (layoutAt s (at + 4)) (layout-stays (In layoutNumbers) s (length s) (le-refl (length s)) refl refl refl refl (at + 4) room)) λ l end.
+      only-then (learn book l (at + 4)) _
+      (only (length s) (learn book l (at + 4)) (learn-stays (In layoutNumbers) s (length s) (le-refl (length s)) refl refl refl book l (at + 4) room)) λ learnt _. taken _ end))
       λ st next. go (st .element) next
     where
       go : (el : Element) (next : ℕ) → Only layoutNumbers (layoutOf at el next)

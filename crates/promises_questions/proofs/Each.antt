@@ -1,9 +1,8 @@
 -- Every listed refusal number of a question is given, for an input that antt runs; but 2 takes a document too long to lay out, and is by its length. Assumes nothing.
-use Prim.Native.Nat.{ℕ, zero, suc, _+_, _<_}
-use mathlib.Core.Path.{_≡_, sym, ap, subst}
+use Prim.Native.Nat.{ℕ}
+use mathlib.Core.Path.{_≡_, ap}
 use mathlib.Core.List.{List, [], _∷_, _++_}
-use lib.ListN.{length, set, replicate, length-replicate}
-use lib.Dec.{lit<}
+use lib.ListN.{length, set}
 use borrow.Author.Tests.{lt-leb}
 use Rattle.octets.specs.Reading.{Read, no, be, part, numberIn, octetsIn, textIn, count, exactly, run}
 use Rattle.octets.specs.Writing.{word, textImage, images}
@@ -18,22 +17,9 @@ use Rattle.questions.specs.Questions.{kindAsked, bookAsked, nth, rowAsked, fiel
 use Rattle.strings.specs.Strings.{namespaceAsked, serviceAsked}
 use Rattle.promises.specs.Cases.{specimen, layoutBook, emptyBook}
 use Rattle.promises.specs.Refusals.{refusalOf, refusalsOf, Inputs}
+use Rattle.promises.proofs.Given.{layouts, long, too-long, header-long}
 use Rattle.promises_questions.specs.Numbers.{fieldNumbers, layoutNumbers, attributeNumbers, listedNumbers, Indexed, Listed, Numbers}
 use Rattle.promises_questions.proofs.Asked.{field-asked, layout-asked, attribute-asked, namespace-asked, service-asked}
-
--- A document over the limit: not laid out.
-zeros : ℕ → List ℕ
-zeros n = replicate n 0
-
-long-zeros : (n : ℕ) → length (zeros n) ≡ n
-unfolding zeros
-long-zeros n = length-replicate n 0
-
-abbrev long : List ℕ
-long = zeros 1048577
-
-too-long : 1048576 < length long
-too-long = subst (λ (n : ℕ). 1048576 < n) (sym (long-zeros 1048577)) (lit< tt)
 
 field-long : fieldAsked long 0 0 [] 0 0 ≡ no 2 0
 unfolding fieldAsked rowAsked bookAsked lentBook
@@ -47,10 +33,6 @@ attribute-long : attributeAsked long 0 0 [] 0 0 ≡ no 2 0
 unfolding attributeAsked
 attribute-long = rw layout-long
 
-header-long : headerAt long ≡ no 2 0
-unfolding headerAt
-header-long = rw (lt-leb (length long) 1048576 too-long)
-
 namespace-long : namespaceAsked long 0 ≡ no 2 0
 unfolding namespaceAsked
 namespace-long = rw header-long
@@ -58,11 +40,6 @@ namespace-long = rw header-long
 service-long : serviceAsked long 0 ≡ no 2 0
 unfolding serviceAsked
 service-long = rw header-long
-
--- So many layouts of different numbers, as a book holds them.
-abbrev layouts : ℕ → List ℕ
-layouts zero = []
-layouts (suc k) = 0 ∷ 0 ∷ 0 ∷ (100 + k) ∷ 0 ∷ 0 ∷ 0 ∷ 0 ∷ 0 ∷ 0 ∷ 0 ∷ 0 ∷ layouts k
 
 -- A document at a place, over an empty book, the book with the specimen's layout, or no book.
 abbrev bare : List ℕ → ℕ → Inputs
@@ -93,7 +70,7 @@ field-each = ap (λ (r : Read Field). 1 ∷ refusalOf r ∷ 7 ∷ 12 ∷ 13 ∷ 
 layoutInputs : List Inputs
 layoutInputs =
     bare specimen 137 ∷ unlent long 0 ∷ bare (set specimen 68 65) 52 ∷ bare specimen 0 ∷ bare (set specimen 77 0x20) 52 ∷ bare (set specimen 74 0x80) 52
-    ∷ booked (set specimen 64 0x42) 52 ∷ record { document = specimen; place = 52; rows = 0; octets = layouts 64 ++ emptyBook; used = 768 } ∷ unlent specimen 52
+    ∷ booked (set specimen 64 0x42) 52 ∷ record { document = specimen; place = 52; rows = 0; octets = layouts [] 64 ++ emptyBook; used = 768 } ∷ unlent specimen 52
     ∷ bare specimen 87 ∷ []
 
 abbrev layout : Inputs → Read Layout

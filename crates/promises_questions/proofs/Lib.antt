@@ -1,4 +1,3 @@
 pub mod Settles
-pub mod Parts
 pub mod Asked
 pub mod Each

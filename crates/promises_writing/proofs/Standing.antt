@@ -18,10 +18,10 @@ use Rattle.octets.proofs.Spans.{all-spans, length-word, be-word}
 use Rattle.octets.proofs.Inverse.{ok-value}
 use Rattle.octets.proofs.Copies.{same-refl}
 use Rattle.layouts.specs.Layout.{Layout, layoutImage, GoodLayout}
-use Rattle.layouts.specs.Book.{Book, find, bookImage, bookOf}
+use Rattle.layouts.specs.Book.{Book, find, bookImage}
 use Rattle.layouts.proofs.Layouts.{layout-inverse}
 use Rattle.layouts.proofs.Parts.{layout-number}
-use Rattle.layouts.proofs.Books.{GoodBook, image-snoc, octets-book}
+use Rattle.layouts.proofs.Books.{image-snoc}
 use Rattle.layouts.proofs.Growing.{Learnt}
 use Rattle.rows.specs.Row.{Row, fieldImage, lengthImage, rowImage}
 use Rattle.elements.specs.Element.{row}
@@ -56,12 +56,6 @@ standing lent done rest x =
 
 pub onto-length : (lent xs : List ℕ) → length xs ≤ length lent → length (onto lent xs) ≡ length lent
 onto-length lent xs h = simp (length-append, length-drop) (omega arith)
-
--- The book is read back from the lent octets.
-pub book-now : (lent : List ℕ) (b : Book) → 32768 ≤ length lent → GoodBook b → bookOf (onto lent (bookImage b)) (length (bookImage b)) ≡ ok b (length (bookImage b))
-book-now lent b long g =
-    let small = g .small in
-    octets-book b (drop (length (bookImage b)) lent) g (rw (onto-length lent (bookImage b) (omega arith)) long)
 
 pub behind : {d f : List ℕ} (xs : List ℕ) → d ≡ f → d ++ xs ≡ f ++ xs
 behind xs e = ap (λ (z : List ℕ). z ++ xs) e

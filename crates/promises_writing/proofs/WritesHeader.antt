@@ -13,13 +13,14 @@ use Rattle.octets.specs.Writing.{word, textImage, images}
 use Rattle.layouts.specs.Book.{Book, bookImage}
 use Rattle.layouts.proofs.Books.{GoodBook}
 use Rattle.headers.specs.Header.{Namespace, Header, namespaceImage, headerImage, GoodHeader}
+use Rattle.elements.proofs.Going.{holding-of}
 use Rattle.writing.specs.declared.Turn.{Turn}
 use Rattle.writing.specs.declared.Turn.the-variants as wants
 use Rattle.writing.specs.Writer.{Call, recorder, startTime, defaultNamespace, namespaceCount, uri, shortName, serviceCount, service, documentId, Written, room, rule, fine, unless, put, turnAt, does}
 use Rattle.writing.proofs.Bounds.{Bounds}
 use Rattle.promises_writing.specs.Promise.{each, namespaceCalls, serviceCalls, headerCalls, onto}
 use Rattle.promises_writing.proofs.Calls.{Passes, accepted, Runs, runs-both, runs-none, runs-one}
-use Rattle.promises_writing.proofs.Standing.{Spot, spot, stateAt, standing, onto-length, book-now, drop-on, put-leaves}
+use Rattle.promises_writing.proofs.Standing.{Spot, spot, stateAt, standing, onto-length, drop-on, put-leaves}
 
 -- What stands in a lent buffer whose first octets were written, all behind them as lent.
 abbrev pub stand : (buffer lent done : List ℕ) → Spot → Written
@@ -85,7 +86,7 @@ module _ (buffer lent : List ℕ) (long : 32768 ≤ length lent) where
             } in
             runs-one c (stand buffer lent done x)
             (rw (e, put-leaves lent done (drop (length done) buffer) x (x .turn) u fault xs j i refl, drop-on buffer done xs) at
-            (accepted (stateAt done x) (onto buffer done) (onto lent (bookImage (x .book))) (length (bookImage (x .book))) (book-now lent (x .book) long good) c [] (rw e p)));
+            (accepted (stateAt done x) (onto buffer done) (onto lent (bookImage (x .book))) (length (bookImage (x .book))) (holding-of (x .book) lent good long) c [] (rw e p)));
       }
 
   module _ (b : Book) (good : GoodBook b) where

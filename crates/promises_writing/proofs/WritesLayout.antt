@@ -21,12 +21,13 @@ use Rattle.layouts.proofs.Books.{GoodBook}
 use Rattle.layouts.proofs.Growing.{learnt}
 use Rattle.elements.specs.Element.{layout}
 use Rattle.elements.specs.Document.{itemImage}
+use Rattle.elements.proofs.Going.{holding-of}
 use Rattle.writing.specs.declared.Turn.{Turn}
 use Rattle.writing.specs.declared.Turn.the-variants as wants
 use Rattle.writing.specs.Writer.{Call, openLayout, typeName, attributeCount, attributeName, attributeType, rule, fine, unless, attributes, does}
 use Rattle.promises_writing.specs.Promise.{each, attributeCalls, itemCalls, onto}
 use Rattle.promises_writing.proofs.Calls.{Passes, accepted, runs-one}
-use Rattle.promises_writing.proofs.Standing.{Spot, spot, stateAt, book-now, drop-on, behind, so-far, takes-learnt, complete-leaves}
+use Rattle.promises_writing.proofs.Standing.{Spot, spot, stateAt, drop-on, behind, so-far, takes-learnt, complete-leaves}
 use Rattle.promises_writing.proofs.WritesHeader.{stand, room-same, Puts, puts-both, puts-as, Ready, ready-bounds, put-one}
 
 -- A good type is no fault.
@@ -65,7 +66,7 @@ module _ (buffer lent : List ℕ) (long : 32768 ≤ length lent) (b : Book) (goo
             } in
             runs-one c (stand buffer lent done x)
             (rw (e, complete-leaves lent done (drop (length done) buffer) x t fault xs (found .new) l next found refl, drop-on buffer done xs) at
-            (accepted (stateAt done x) (onto buffer done) (onto lent (bookImage b)) (length (bookImage b)) (book-now lent b long good) c (found .new) (rw e p)));
+            (accepted (stateAt done x) (onto buffer done) (onto lent (bookImage b)) (length (bookImage b)) (holding-of b lent good long) c (found .new) (rw e p)));
       }
 
   attributes-put : (rest : List Attribute) (a : Attribute) (done more : List ℕ) → done ≡ before ++ more → 8 ≤ length more → length rest < 64

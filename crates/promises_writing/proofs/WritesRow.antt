@@ -23,12 +23,13 @@ use Rattle.layouts.proofs.Finding.{each-find}
 use Rattle.rows.specs.Row.{Value, bits, held, Field, Row, valueImage, fieldImage, lengthImage, GoodValue, FieldsOf}
 use Rattle.elements.specs.Element.{row}
 use Rattle.elements.specs.Document.{itemImage}
+use Rattle.elements.proofs.Going.{holding-of}
 use Rattle.writing.specs.declared.Turn.the-variants as wants
 use Rattle.writing.specs.Writer.{openRow, value, closeRow, room, fine, unless, known, rowLayout, suits, isNext, does}
 use Rattle.writing.proofs.Values.{length-size}
 use Rattle.promises_writing.specs.Promise.{each, fieldCalls, itemCalls, onto}
 use Rattle.promises_writing.proofs.Calls.{Passes, accepted, Runs, runs-both, runs-one}
-use Rattle.promises_writing.proofs.Standing.{Spot, spot, stateAt, standing, book-now, row-layout, close-leaves}
+use Rattle.promises_writing.proofs.Standing.{Spot, spot, stateAt, standing, row-layout, close-leaves}
 use Rattle.promises_writing.proofs.WritesHeader.{stand, room-same, Puts, puts-none, puts-both, ready-bounds, put-one}
 
 good-suits : (f : Form) (v : Value) → GoodValue f v → suits f v ≡ true
@@ -108,7 +109,7 @@ module _ (buffer lent : List ℕ) (long : 32768 ≤ length lent) (b : Book) (goo
       let stands = leaves ∙ ap (λ (n : ℕ). standing lent (before ++ itemImage (row r)) (drop n buffer) (spot b wants.Element 0 0 (rows + 1))) place in
       runs-one closeRow (stand buffer lent whole at)
       (rw stands at
-      (accepted (stateAt whole at) (onto buffer whole) (onto lent (bookImage b)) (length (bookImage b)) (book-now lent b long good) closeRow [] p))
+      (accepted (stateAt whole at) (onto buffer whole) (onto lent (bookImage b)) (length (bookImage b)) (holding-of b lent good long) closeRow [] p))
 
   pub row-put : FieldsOf (l .attributes) (r .fields) → Puts buffer lent (itemCalls (row r)) (itemImage (row r)) before (spot b wants.Element 0 0 rows) (spot b wants.Element 0 0 (rows + 1))
   unfolding does top whole

@@ -15,13 +15,14 @@ use Rattle.layouts.specs.Book.{Book, bookImage, bookOf}
 use Rattle.layouts.proofs.Growing.{good-nil}
 use Rattle.elements.specs.Steps.{reading}
 use Rattle.elements.specs.Document.{Document, rowCount, image, readingOf}
+use Rattle.elements.proofs.Going.{holding-of}
 use Rattle.promises.proofs.Documents.{one-meaning}
 use Rattle.writing.specs.declared.Turn.{Turn}
 use Rattle.writing.specs.declared.Turn.the-variants as wants
 use Rattle.writing.specs.Writer.{Call, recorder, startTime, defaultNamespace, namespaceCount, uri, shortName, serviceCount, service, documentId, openLayout, typeName, attributeCount, attributeName, attributeType, openRow, value, closeRow, giveUp, finish, Written, call, runCalls}
 use Rattle.promises_writing.specs.Promise.{bookBehind, onto, begun, finished, Given, Told, nothing-told, tell, tellAll, told, Wrote}
 use Rattle.promises_writing.proofs.Calls.{passed-all}
-use Rattle.promises_writing.proofs.Standing.{Spot, spot, stateAt, standing, book-now}
+use Rattle.promises_writing.proofs.Standing.{Spot, spot, stateAt, standing}
 use Rattle.promises_writing.proofs.Writes.{writes, image-stands, reads}
 use Rattle.promises_writing.proofs.Shapes.{Ended, Shape, Stand, rest, lies, Inv}
 use Rattle.promises_writing.proofs.KeepsHeader.{Keeps, keep-recorder, keep-start, keep-default, keep-namespaces, keep-uri, keep-short, keep-services, keep-service, keep-id}
@@ -57,7 +58,7 @@ module _ (buffer lent : List ℕ) (long : 32768 ≤ length lent) where
   call-keeps so-far w c i g {v} {n} e =
       let now = i .stand in
       let b : Book = now .at .book in
-      let here = passed-all (stateAt (now .done) (now .at)) (now .done ++ rest now) (onto lent (bookImage b)) (length (bookImage b)) (book-now lent b long (now .good)) c
+      let here = passed-all (stateAt (now .done) (now .at)) (now .done ++ rest now) (onto lent (bookImage b)) (length (bookImage b)) (holding-of b lent (now .good) long) c
       (subst (λ (x : Written). call (x .state) (x .buffer) (x .book) (x .used) c ≡ ok v n) (i .is) e) in
       subst (Inv buffer lent (tell so-far c)) (sym (here .is)) (keep now c g (here .new) (here .passes))
 
@@ -155,7 +156,7 @@ pub book-again : (calls : List Call) → Each Given calls → (buffer book : Lis
 book-again calls g buffer book long w n e =
     let i = stands buffer book long calls g e in
     let b : Book = i .stand .at .book in
-    (b, subst (λ (x : Written). bookOf (x .book) (x .used) ≡ ok b (x .used)) (sym (i .is)) (book-now book b long (i .stand .good)))
+    (b, subst (λ (x : Written). bookOf (x .book) (x .used) ≡ ok b (x .used)) (sym (i .is)) (holding-of b book (i .stand .good) long))
 
 -- What a finished run has written is read back as the document that was told.
 pub reads-back : {calls : List Call} {buffer book : List ℕ} {w : Written} (h : Wrote calls buffer book w)

@@ -7,24 +7,22 @@ use native.Mathlib.Omega.{arith}
 use lib.ListN.{length, drop}
 use lib.Seq.{drop-nil}
 use lib.Dec.{leb, eqb}
-use borrow.Author.Tests.{le-leb, lt-leb, leb-true, eq-eqb, ne-eqb, eqb-true}
+use borrow.Author.Tests.{le-leb, lt-leb, eq-eqb, ne-eqb, eqb-true}
 use Rattle.octets.specs.Reading.{Read, ok, no, _then_, choose, ends, isOk, be, number}
 use Rattle.octets.specs.Writing.{Each, Octet}
-use Rattle.octets.proofs.Inverse.{after, chosen}
+use Rattle.octets.proofs.Inverse.{after}
 use Rattle.octets.proofs.Ends.{made, stop, ended, number-ok, number-no, number-room}
 use Rattle.octets.proofs.Inverse.{ok-value, ok-place}
 use Rattle.layouts.specs.Layout.{Layout, layoutAt}
-use Rattle.layouts.specs.Book.{Book, bookOf, bookIn, IsBook, learn}
-use Rattle.layouts.proofs.Checks.{good-book, bad-book}
+use Rattle.layouts.specs.Book.{Book, bookIn, IsBook, learn}
 use Rattle.rows.specs.Row.{Row, rowAt}
-use Rattle.elements.specs.Element.{item, layout, row, Stepped, layoutElement, rowElement, elementAt}
-use Rattle.elements.specs.Steps.{lentBook, stepAt}
+use Rattle.elements.specs.Element.{item, layout, row, Stepped}
+use Rattle.elements.specs.Steps.{lentBook}
 use Rattle.elements.proofs.Before.{lent-is, lent-forth}
 use Rattle.elements.proofs.Told.{element-layout, element-row}
 use Rattle.questions.specs.Questions.{kindAsked, bookAsked, nth, rowOf, layoutOf, rowAsked, layoutAsked, attributeAsked}
 use Rattle.questions.specs.Answers.{refusalOf}
 use Rattle.questions.specs.Places.{layoutOver}
-use Rattle.questions.specs.declared.Refusal.{Refusal}
 use Rattle.questions.specs.declared.Refusal.the-variants as refusal
 
 -- A refusal question that answers none has a value behind it; one that answers a refusal has none.

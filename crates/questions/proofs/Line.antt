@@ -11,13 +11,13 @@ use lib.ListN.{length, take, drop}
 use lib.Seq.{length-take-le}
 use lib.Dec.{leb, eqb}
 use borrow.Author.Tests.{leb-true}
-use Rattle.octets.specs.Reading.{Read, ok, no, _then_, ends, be, Room, document, stated, number, run}
+use Rattle.octets.specs.Reading.{Read, ok, no, ends, be, Room, document, stated, number, run}
 use Rattle.octets.specs.Writing.{Each, Octet, images}
 use Rattle.octets.proofs.Spans.{moved}
 use Rattle.octets.proofs.Inverse.{Answer, Any, after, either, chosen, settle, ok-value, ok-place}
 use Rattle.octets.proofs.Ends.{number-ok, number-no, number-room}
 use Rattle.kinds.specs.Kinds.{formOf}
-use Rattle.layouts.specs.Layout.{Attribute, Layout, layoutAt}
+use Rattle.layouts.specs.Layout.{Attribute, Layout}
 use Rattle.layouts.specs.Book.{Book, find}
 use Rattle.layouts.specs.Answers.{Nth}
 use Rattle.layouts.proofs.Walks.{lent-book}

@@ -7,14 +7,14 @@ use native.Mathlib.Omega.{arith}
 use lib.ListN.{length}
 use lib.Dec.{leb}
 use borrow.Author.Tests.{leb-true}
-use Rattle.octets.specs.Reading.{Read, ok, no, _then_, choose, isOk, be, part, Room, document, stated, reach, numberIn, octetsIn, textIn, text}
+use Rattle.octets.specs.Reading.{ok, be, part, stated, numberIn, octetsIn, textIn, text}
 use Rattle.octets.proofs.Inverse.{after, chosen, ok-value, ok-place}
-use Rattle.octets.proofs.Ends.{text-octets, octets-in, text-ok}
+use Rattle.octets.proofs.Ends.{text-ok}
 use Rattle.kinds.specs.declared.Basic.{Basic}
 use Rattle.kinds.specs.declared.Form.{Form}
 use Rattle.kinds.specs.declared.Form.the-variants as form
 use Rattle.kinds.specs.Kinds.{formOf}
-use Rattle.rows.specs.Row.{Value, bits, held, valueIn}
+use Rattle.rows.specs.Row.{Value, bits, valueIn}
 use Rattle.questions.specs.declared.Value as declared
 use Rattle.questions.specs.Answers.{bitsOf, octetsOf, numeral, valueOf}
 use Rattle.questions.specs.Places.{Stood, isHeld}

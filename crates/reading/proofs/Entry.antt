@@ -1,11 +1,11 @@
 -- The equations of the entry points: the header of a document, and what the whole check answers behind it.
 use Prim.Native.Nat.{ℕ, _+_, _≤_, _<_}
-use mathlib.Core.Path.{_≡_, refl, sym, ap, _∙_}
+use mathlib.Core.Path.{_≡_, refl, ap}
 use mathlib.Core.List.{List, []}
 use native.Mathlib.Omega.{arith}
 use lib.ListN.{length}
 use borrow.Author.Tests.{le-leb, lt-leb}
-use Rattle.octets.specs.Reading.{Read, ok, no, _then_, choose, isOk, be, number}
+use Rattle.octets.specs.Reading.{Read, ok, no, _then_, isOk, be, number}
 use Rattle.octets.proofs.Inverse.{ok-value}
 use Rattle.octets.proofs.Ends.{number-ok, number-room}
 use Rattle.headers.specs.Header.{Header, headerFrom, headerAt}

@@ -2,13 +2,11 @@
 use Prim.Native.Nat.{ℕ, suc, _+_, _≤_, _<_}
 use mathlib.Core.Path.{_≡_, refl, sym, ap, _∙_}
 use mathlib.Core.List.{List, [], _∷_}
-use mathlib.Core.Bool.{Bool, true, false}
 use mathlib.Core.Option.{some}
-use native.Mathlib.Omega.{arith}
 use lib.ListN.{length}
 use lib.Dec.{leb, ltb, eqb}
 use borrow.Author.Tests.{le-leb, lt-leb, eq-eqb, ne-eqb}
-use Rattle.octets.specs.Reading.{Read, ok, no, _then_, choose, ends, be, Room, document, stated, number}
+use Rattle.octets.specs.Reading.{ok, no, ends, be, Room, document, stated}
 use Rattle.octets.proofs.Inverse.{after, either, chosen}
 use Rattle.octets.proofs.Ends.{stop, ended, refused, number-ok, number-no}
 use Rattle.layouts.specs.Layout.{Attribute, Layout}

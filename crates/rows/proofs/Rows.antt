@@ -1,16 +1,16 @@
 -- Values, fields and rows: reading and image are inverse, a value by its form, fields one behind another, a row over the book that has its layout.
-use mathlib.Core.Path.{_≡_, refl, sym, ap, _∙_, subst}
+use mathlib.Core.Path.{_≡_, refl, sym, subst}
 use mathlib.Core.List.{List, [], _∷_, _++_}
 use mathlib.Core.Bool.{Bool, true, false}
 use mathlib.Core.Option.{Option, some, none}
-use Prim.Native.Nat.{ℕ, zero, suc, _+_, _^_, _≤_, _<_}
+use Prim.Native.Nat.{ℕ, _+_, _^_, _≤_, _<_}
 use native.Mathlib.Omega.{arith}
 use native.Mathlib.Nat.{le-refl}
 use lib.ListN.{length}
 use lib.Dec.{leb, ltb, eqb, lit<}
 use borrow.Author.Tests.{leb-true, eqb-true, eqb-false, le-leb, eq-eqb, ne-eqb, lt-ltb, le-ltb}
-use Rattle.octets.specs.Reading.{Read, ok, no, _then_, choose, Room, document, stated, reach, numberIn, octetsIn, textIn, number}
-use Rattle.octets.specs.Writing.{word, textImage, images, Each, Octet, Text}
+use Rattle.octets.specs.Reading.{ok, Room, document, stated, reach, numberIn, octetsIn, textIn, number}
+use Rattle.octets.specs.Writing.{word, images, Each, Octet, Text}
 use Rattle.kinds.specs.declared.Form.{Form}
 use Rattle.kinds.specs.declared.Form.the-variants as form
 use Rattle.kinds.specs.Kinds.{formOf}

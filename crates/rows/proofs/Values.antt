@@ -1,15 +1,13 @@
 -- The equations of values and of fields that functions answering places cite, in a room of any reach.
 -- A value by its form; fields go on behind their first, are refused where it is, and end where none is left.
-use Prim.Native.Nat.{ℕ, zero, suc, _+_, _-_, _≤_, _<_}
-use mathlib.Core.Path.{_≡_, refl, sym, ap, _∙_, subst}
+use Prim.Native.Nat.{ℕ, suc, _+_, _≤_, _<_}
+use mathlib.Core.Path.{_≡_, refl, sym, ap, _∙_}
 use mathlib.Core.List.{List, [], _∷_}
 use mathlib.Core.Bool.{true}
-use native.Mathlib.Omega.{arith}
-use lib.ListN.{length}
 use lib.Dec.{lit≤}
 use borrow.Author.Tests.{le-leb, lt-leb}
-use Rattle.octets.specs.Reading.{Read, ok, no, _then_, ends, isOk, be, Room, document, stated, reach, overrun, numberIn, octetsIn, textIn, text, run}
-use Rattle.octets.proofs.Inverse.{after, ok-value, ok-place}
+use Rattle.octets.specs.Reading.{Read, ok, no, ends, isOk, be, Room, document, stated, reach, overrun, octetsIn, textIn, text, run}
+use Rattle.octets.proofs.Inverse.{after}
 use Rattle.octets.proofs.Ends.{number-in, number-over, overrun-then, overrun-ends, text-octets, on, stop, made, value-is}
 use Rattle.kinds.specs.declared.Form.{Form}
 use Rattle.kinds.specs.declared.Form.the-variants as form

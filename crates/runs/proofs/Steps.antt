@@ -2,13 +2,12 @@
 use Prim.Native.Nat.{ℕ, _+_, _≤_, _<_}
 use mathlib.Core.Path.{_≡_, refl, sym, ap, _∙_}
 use mathlib.Core.List.{List}
-use mathlib.Core.Bool.{true}
 use native.Mathlib.Omega.{arith}
 use lib.ListN.{length, drop, length-append, length-drop}
 use lib.Seq.{take-append-seam}
 use lib.Dec.{leb}
 use borrow.Author.Tests.{leb-true}
-use Rattle.octets.specs.Reading.{Read, ok, isOk, number}
+use Rattle.octets.specs.Reading.{ok, isOk, number}
 use Rattle.octets.specs.Writing.{Each, Octet}
 use Rattle.octets.proofs.Inverse.{after, chosen, ok-value}
 use Rattle.octets.proofs.Ends.{number-room}

@@ -1,5 +1,5 @@
 -- Where the strings of an accepted header stand: item n of a list behind the items before it, and the places of both counts from the lengths of what stands before them.
-use Prim.Native.Nat.{ℕ, zero, suc, _+_, _*_, _≤_, _<_}
+use Prim.Native.Nat.{ℕ, zero, suc, _+_, _*_, _≤_}
 use mathlib.Core.Path.{_≡_, refl, sym, ap, _∙_, subst}
 use mathlib.Core.List.{List, [], _∷_}
 use mathlib.Core.Bool.{Bool, true, false}
@@ -22,8 +22,8 @@ use Rattle.headers.specs.Answers.{Located}
 use Rattle.headers.specs.declared.Places.{Places}
 use Rattle.headers.proofs.Headers.{namespace-inverse, header-inverse}
 use Rattle.headers.proofs.Parts.{namespaces-texts}
-use Rattle.questions.specs.Questions.{firstOf, nth, partOf}
-use Rattle.questions.specs.Places.{Standing, Stands}
+use Rattle.questions.specs.Questions.{firstOf, nth}
+use Rattle.questions.specs.Places.{Stands}
 use Rattle.strings.specs.Strings.{namespacesPlace, servicesPlace, namespaceAsked, serviceAsked}
 use Rattle.strings.specs.Heads.{Head, listedAt}
 

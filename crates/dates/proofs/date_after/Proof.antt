@@ -5,7 +5,6 @@ use native.Mathlib.Omega.{arith}
 use mathlib.Core.Path.{_≡_, sym, ap, _∙_, subst}
 use Prim.Native.Nat.{ℕ, _+_, _≤_, _<_}
 use Rattle.dates.specs.Calendar.{yearDays, yearsDays, MonthOf}
-use Rattle.dates.specs.declared.Date.{Date}
 use Rattle.dates.proofs.Years.{years-more, year-long}
 use Rattle.dates.proofs.date_after.Statement.{statement}
 use Rattle.dates.proofs.date_after.Tie as tie

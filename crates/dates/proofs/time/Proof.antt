@@ -4,8 +4,8 @@ use native.Mathlib.Omega.{arith}
 use mathlib.Core.Path.{ap, _∙_}
 use mir.Syntax.{w64}
 use mir.Facts.{toZ-ofZ}
-use mathlib.Core.List.{List, _∷_, _++_}
-use Prim.Native.Nat.{ℕ, _+_, _%_}
+use mathlib.Core.List.{_∷_, _++_}
+use Prim.Native.Nat.{_+_, _%_}
 use lib.IntN.{ℤ}
 use Rattle.kinds.specs.Kinds as kinds
 use Rattle.printing.specs.Text.{signed}

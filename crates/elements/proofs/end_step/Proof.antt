@@ -1,9 +1,8 @@
 -- `elements::end_step` meets its contract: each return by a law of the end. Assumes nothing.
 use borrow.Author.Needs.{needs}
 use native.Mathlib.Omega.{arith}
-use Prim.Native.Nat.{ℕ, _+_}
 use denote.Ref.{now}
-use mathlib.Core.Path.{_≡_, refl, sym, ap, _∙_}
+use mathlib.Core.Path.{sym, ap, _∙_}
 use Rattle.elements.specs.Answers.{tells}
 use Rattle.elements.proofs.Told.{end-cut, end-other, end-untimed, end-more, end-whole}
 use Rattle.elements.proofs.end_step.Statement.{statement}

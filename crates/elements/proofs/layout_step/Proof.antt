@@ -1,12 +1,11 @@
 -- `elements::layout_step` meets its contract: the layout is read to its last type, then learnt; each answer by a law of both. Assumes nothing.
 use borrow.Author.Needs.{needs}
-use native.Mathlib.Omega.{arith}
-use Prim.Native.Nat.{ℕ, _+_, _≤_}
+use Prim.Native.Nat.{ℕ}
 use denote.Ref.{now}
-use mathlib.Core.Path.{_≡_, refl, sym, ap, _∙_, subst}
+use mathlib.Core.Path.{_≡_, sym, ap, _∙_, subst}
 use mathlib.Core.List.{List, [], _∷_, _++_}
-use lib.ListN.{length, drop}
-use Rattle.octets.specs.Reading.{Read, ok, no, ends, isOk}
+use lib.ListN.{drop}
+use Rattle.octets.specs.Reading.{ok, ends, isOk}
 use Rattle.octets.specs.Answers.{says}
 use Rattle.octets.specs.Writing.{Each, Octet}
 use Rattle.octets.proofs.Spans.{each-octet}
@@ -16,7 +15,6 @@ use Rattle.layouts.specs.Book.{Book, bookImage, bookIn, learn}
 use Rattle.layouts.specs.Answers.{Learns}
 use Rattle.layouts.specs.declared.Learning.{Learning}
 use Rattle.layouts.proofs.Walks.{lent-book}
-use Rattle.elements.specs.Element.{layoutElement}
 use Rattle.elements.specs.Steps.{leaves}
 use Rattle.elements.specs.Answers.{tells}
 use Rattle.elements.specs.declared.Stepping.the-variants.{Done}

@@ -1,6 +1,5 @@
 -- `elements::layout_told` meets its contract: the number and the count of the layout that stands there. Assumes nothing.
 use borrow.Author.Needs.{needs}
-use mathlib.Core.Path.{sym}
 use Rattle.elements.proofs.layout_told.Statement.{statement}
 use Rattle.elements.proofs.layout_told.Tie as tie
 

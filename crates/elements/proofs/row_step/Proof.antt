@@ -1,16 +1,14 @@
 -- `elements::row_step` meets its contract: a row over the layout that was looked up, or 12. Assumes nothing.
 use borrow.Author.Needs.{needs}
 use native.Mathlib.Omega.{arith}
-use Prim.Native.Nat.{ℕ, _+_}
+use Prim.Native.Nat.{ℕ}
 use denote.Ref.{now}
-use mathlib.Core.Path.{_≡_, refl, sym, ap, _∙_, subst}
-use mathlib.Core.List.{List}
-use lib.ListN.{length}
-use Rattle.octets.specs.Reading.{Read, ok, be}
-use Rattle.layouts.specs.Book.{Book, bookImage}
+use mathlib.Core.Path.{_≡_, sym, ap, _∙_, subst}
+use Rattle.octets.specs.Reading.{be}
+use Rattle.layouts.specs.Book.{Book}
 use Rattle.layouts.specs.declared.Looked.{Looked}
-use Rattle.layouts.specs.Answers.{Image, Stands, Looks}
-use Rattle.rows.specs.Answers.{Shape, rowSays}
+use Rattle.layouts.specs.Answers.{Image, Looks}
+use Rattle.rows.specs.Answers.{rowSays}
 use Rattle.elements.specs.Answers.{tells}
 use Rattle.elements.proofs.Told.{row-cut, row-unknown, row-refused, row-told}
 use Rattle.elements.proofs.row_step.Statement.{statement}

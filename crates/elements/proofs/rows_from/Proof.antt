@@ -4,14 +4,14 @@ use borrow.Author.Needs.{needs}
 use native.Mathlib.Omega.{arith}
 use Prim.Native.Nat.{ℕ, _+_, _-_, _≤_, _<_}
 use denote.Ref.{now}
-use mathlib.Core.Path.{_≡_, refl, sym, ap, _∙_, subst}
-use mathlib.Core.List.{List, []}
+use mathlib.Core.Path.{_≡_, sym, ap, _∙_, subst}
+use mathlib.Core.List.{List}
 use mathlib.Core.Bool.{Bool, true, false}
 use lib.ListN.{length, replicate, length-replicate}
-use Rattle.octets.specs.Reading.{Read, ok, no, isOk}
+use Rattle.octets.specs.Reading.{ok, isOk}
 use Rattle.octets.specs.Writing.{Each, Octet}
 use Rattle.octets.proofs.Spans.{each-octet, each-replicate}
-use Rattle.layouts.specs.Book.{Book, bookImage, bookIn}
+use Rattle.layouts.specs.Book.{Book, bookIn}
 use Rattle.layouts.proofs.Books.{Lent}
 use Rattle.layouts.proofs.Lends.{empty-book}
 use Rattle.layouts.proofs.Walks.{lent-book}
@@ -20,8 +20,8 @@ use Rattle.plans.specs.Answers.{Passes}
 use Rattle.plans.specs.declared.Quick.{Quick}
 use Rattle.plans.proofs.Keeping.{planned-none, planned-within}
 use Rattle.elements.specs.Element.{Stepped, elementAt}
-use Rattle.elements.specs.Steps.{leaves, holding, isLast, elementsFrom, counted}
-use Rattle.elements.specs.Answers.{tells, stepOf, metOf, isLastMet}
+use Rattle.elements.specs.Steps.{leaves, holding, isLast}
+use Rattle.elements.specs.Answers.{stepOf, isLastMet}
 use Rattle.elements.specs.declared.Step.{Step}
 use Rattle.elements.specs.declared.Stepping.the-variants.{Done}
 use Rattle.elements.proofs.Going.{Going, going-start, going-refused, going-end, going-on, done, refusing, last-met, element-place, holding-book, element-book}

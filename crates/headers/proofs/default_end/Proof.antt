@@ -3,9 +3,8 @@ use borrow.Author.Needs.{needs}
 use native.Mathlib.Omega.{arith}
 use Prim.Native.Nat.{_+_}
 use denote.Ref.{now}
-use mathlib.Core.Path.{refl, sym, ap, _∙_}
+use mathlib.Core.Path.{refl}
 use lib.ListN.{length}
-use Rattle.octets.specs.Reading.{ends}
 use Rattle.octets.proofs.Ends.{number-ok, number-no, behind}
 use Rattle.headers.proofs.default_end.Statement.{statement}
 use Rattle.headers.proofs.default_end.Tie as tie

@@ -2,8 +2,7 @@
 use borrow.Author.Needs.{needs}
 use native.Mathlib.Omega.{arith}
 use denote.Ref.{now}
-use mathlib.Core.Path.{refl, sym, ap, _∙_}
-use Rattle.octets.specs.Reading.{ends}
+use mathlib.Core.Path.{refl, sym, _∙_}
 use Rattle.octets.proofs.Ends.{exactly-ok, exactly-no, exactly-other}
 use Rattle.headers.proofs.exactly_at.Statement.{statement}
 use Rattle.headers.proofs.exactly_at.Tie as tie

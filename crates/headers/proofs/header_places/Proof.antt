@@ -1,13 +1,12 @@
 -- `headers::header_places` meets its contract: each refusal is that of the first part refused, and the places are where the parts were read.
 -- Assumes nothing.
 use borrow.Author.Needs.{needs}
-use native.Mathlib.Omega.{arith}
-use Prim.Native.Nat.{ℕ, _+_, _*_, _≤_}
+use Prim.Native.Nat.{ℕ, _≤_}
 use denote.Ref.{now}
 use mathlib.Core.Path.{_≡_, sym, ap, _∙_}
 use mathlib.Core.List.{List}
 use lib.ListN.{length}
-use Rattle.octets.specs.Reading.{ok, _then_, ends, number, text, count, exactly, run}
+use Rattle.octets.specs.Reading.{ok, _then_, ends, text, exactly}
 use Rattle.octets.specs.Answers.{says}
 use Rattle.headers.specs.Header.{namespaceAt}
 use Rattle.headers.proofs.Parts.{Fronted, front, Listed, namespaces-listed, services-listed, refused-front, refused-default, refused-namespaces, refused-services, refused-close, accepted}

@@ -1,8 +1,7 @@
 -- `kinds::kind_of` meets its contract: each return by a law of `kindOf`. Assumes nothing.
 use borrow.Author.Needs.{needs}
 use native.Mathlib.Omega.{arith}
-use denote.Ref.{now}
-use mathlib.Core.Path.{_≡_, refl, sym, ap, _∙_}
+use mathlib.Core.Path.{sym}
 use Prim.Native.Nat.{_%_}
 use Rattle.kinds.proofs.Table.{kind-top, kind-wide, kind-none, kind-some, basic-low, basic-high}
 use Rattle.kinds.proofs.kind_of.Statement.{statement}

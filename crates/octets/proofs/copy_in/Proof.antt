@@ -1,8 +1,8 @@
 -- `octets::copy_in` meets its contract. The invariant: what was passed stands over the old content. Assumes nothing.
 use borrow.Author.Needs.{needs}
 use native.Mathlib.Omega.{arith}
-use Prim.Native.Nat.{ℕ, _+_, _-_, _≤_, _<_}
-use mathlib.Core.Path.{_≡_, refl, sym, _∙_, ap}
+use Prim.Native.Nat.{ℕ, _-_, _≤_}
+use mathlib.Core.Path.{_≡_, refl, _∙_, ap}
 use mathlib.Core.List.{List, _++_}
 use lib.ListN.{length, take, drop, set, getD, length-set}
 use lib.Seq.{take-length}

@@ -2,11 +2,10 @@
 -- The measure is the octets to come. Assumes nothing.
 use borrow.Author.Needs.{needs}
 use native.Mathlib.Omega.{arith}
-use Prim.Native.Nat.{ℕ, _+_, _-_, _/_, _%_, _≤_, _<_}
+use Prim.Native.Nat.{ℕ, _≤_}
 use mathlib.Core.Path.{_≡_, refl, sym, ap, _∙_}
-use mathlib.Core.List.{List, _++_}
+use mathlib.Core.List.{_++_}
 use lib.ListN.{length, drop, length-set}
-use denote.Ref.{now}
 use Rattle.octets.specs.Writing.{word}
 use Rattle.octets.proofs.Copies.{word-back}
 use Rattle.octets.proofs.put_number.Statement.{statement}

@@ -3,10 +3,8 @@ use borrow.Author.Needs.{needs}
 use native.Mathlib.Omega.{arith}
 use Prim.Native.Nat.{ℕ, _+_}
 use denote.Ref.{now}
-use mathlib.Core.Path.{_≡_, sym, ap, _∙_, subst}
-use Rattle.octets.specs.Reading.{ok, ends, Room, be}
-use Rattle.rows.specs.Row.{valueIn}
-use Rattle.plans.specs.Answers.{closing}
+use mathlib.Core.Path.{sym, ap, _∙_}
+use Rattle.octets.specs.Reading.{ok}
 use Rattle.plans.proofs.Walking.{close-octets, close-truth}
 use Rattle.plans.proofs.close_end.Statement.{statement}
 use Rattle.plans.proofs.close_end.Tie as tie

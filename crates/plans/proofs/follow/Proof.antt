@@ -2,11 +2,11 @@
 -- The measure is the steps to come. Assumes nothing.
 use borrow.Author.Needs.{needs}
 use native.Mathlib.Omega.{arith}
-use Prim.Native.Nat.{ℕ, _+_, _-_, _/_, _%_, _≤_, _<_}
+use Prim.Native.Nat.{_+_, _-_, _/_, _%_, _≤_, _<_}
 use denote.Ref.{now}
-use mathlib.Core.Path.{_≡_, sym, ap, _∙_, subst}
+use mathlib.Core.Path.{_≡_, subst}
 use mathlib.Core.List.{List}
-use lib.ListN.{length, getD}
+use lib.ListN.{getD}
 use Rattle.layouts.specs.Layout.{Attribute}
 use Rattle.plans.specs.Plan.{planOf, Begins}
 use Rattle.plans.specs.Answers.{Closes}

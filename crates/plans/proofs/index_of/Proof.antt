@@ -1,5 +1,4 @@
 -- `plans::index_of` meets its contract: each return is of an index whose number was compared. Assumes nothing.
-use borrow.Author.Needs.{needs}
 use native.Mathlib.Omega.{arith}
 use Prim.Native.Nat.{_-_, _≤_}
 use Rattle.plans.proofs.index_of.Statement.{statement}

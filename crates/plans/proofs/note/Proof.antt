@@ -1,10 +1,9 @@
 -- `plans::note` meets its contract: the plan of the layout's attributes is put behind the others, which stay. Assumes nothing.
 use borrow.Author.Needs.{needs}
 use native.Mathlib.Omega.{arith}
-use Prim.Native.Nat.{ℕ, _+_, _*_}
+use Prim.Native.Nat.{ℕ, _+_}
 use denote.Ref.{now}
-use mathlib.Core.Path.{_≡_, sym, _∙_, subst}
-use mathlib.Core.List.{List}
+use mathlib.Core.Path.{_≡_, sym, subst}
 use Rattle.octets.specs.Reading.{ok, run}
 use Rattle.octets.proofs.Ends.{value-is}
 use Rattle.layouts.specs.Layout.{Layout, attributeAt, layoutAt}

@@ -1,6 +1,5 @@
 -- `plans::put_plan` meets its contract. The invariant: the steps that stand, with those of the attributes that are left, are the plan.
 -- The measure is the attributes to come. Assumes nothing.
-use borrow.Author.Needs.{needs}
 use native.Mathlib.Omega.{arith}
 use Prim.Native.Nat.{ℕ, suc, _+_, _-_, _*_, _%_, _≤_, _<_}
 use denote.Ref.{now}
@@ -14,7 +13,7 @@ use Rattle.octets.proofs.Inverse.{ok-place}
 use Rattle.octets.proofs.Ends.{left-suc, none-left, sub-none}
 use Rattle.kinds.specs.Kinds.{formOf}
 use Rattle.layouts.specs.Layout.{Attribute, attributeAt}
-use Rattle.plans.specs.Plan.{mark, planOf, Begins}
+use Rattle.plans.specs.Plan.{mark}
 use Rattle.plans.proofs.Making.{Making, making-start, Next, making-next, making-last}
 use Rattle.plans.proofs.put_plan.Statement.{statement}
 use Rattle.plans.proofs.put_plan.Tie as tie

@@ -3,12 +3,11 @@ use borrow.Author.Needs.{needs}
 use native.Mathlib.Omega.{arith}
 use Prim.Native.Nat.{ℕ, _+_, _*_, _<_}
 use denote.Ref.{now}
-use mathlib.Core.Path.{_≡_, refl, sym, ap, _∙_, subst}
-use lib.ListN.{length, getD}
-use Rattle.octets.specs.Reading.{ok, be, number}
+use mathlib.Core.Path.{_≡_, sym, ap, _∙_, subst}
+use lib.ListN.{getD}
+use Rattle.octets.specs.Reading.{ok, be}
 use Rattle.octets.proofs.Ends.{number-ok}
-use Rattle.layouts.specs.Book.{Book, find}
-use Rattle.plans.specs.Plan.{Entry, Planned}
+use Rattle.layouts.specs.Book.{find}
 use Rattle.plans.specs.Answers.{Lasts}
 use Rattle.plans.specs.declared.Passed.{Passed}
 use Rattle.plans.proofs.Keeping.{row-passed}

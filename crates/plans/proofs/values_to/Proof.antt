@@ -4,7 +4,6 @@ use native.Mathlib.Omega.{arith}
 use Prim.Native.Nat.{_+_}
 use denote.Ref.{now}
 use mathlib.Core.Path.{_≡_, sym, _∙_, subst}
-use lib.ListN.{length}
 use Rattle.plans.specs.Answers.{Follows}
 use Rattle.plans.specs.declared.Passed.{Passed}
 use Rattle.plans.proofs.Keeping.{lasts-open, lasts-stated}

@@ -1,7 +1,7 @@
 -- `questions::attribute_kind` meets its contract: the type of the attribute where it stands in the document. Assumes nothing.
 use borrow.Author.Needs.{needs}
 use denote.Ref.{now}
-use mathlib.Core.Path.{_≡_, refl, sym, ap, _∙_, subst}
+use mathlib.Core.Path.{_≡_, sym, ap, _∙_, subst}
 use Rattle.octets.specs.Reading.{isOk}
 use Rattle.octets.specs.declared.Ended.{Ended}
 use Rattle.layouts.specs.Layout.{attributeAt}

@@ -2,12 +2,13 @@
 use borrow.Author.Needs.{needs}
 use Prim.Native.Nat.{ℕ}
 use denote.Ref.{now}
-use mathlib.Core.Path.{_≡_, refl, sym, ap, _∙_}
+use mathlib.Core.Path.{_≡_, sym, ap, _∙_}
 use Rattle.octets.specs.Reading.{Read, ok, ends}
 use Rattle.octets.proofs.Spans.{each-octet}
 use Rattle.layouts.specs.Book.{Book}
 use Rattle.elements.specs.Steps.{lentBook}
-use Rattle.questions.proofs.Asked.{unrefused, refused-as, lent-forth, asked-unlent, asked-kind}
+use Rattle.elements.proofs.Before.{lent-forth}
+use Rattle.questions.proofs.Asked.{unrefused, refused-as, asked-unlent, asked-kind}
 use Rattle.questions.proofs.book_asked.Statement.{statement}
 use Rattle.questions.proofs.book_asked.Tie as tie
 

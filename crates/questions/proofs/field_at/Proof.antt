@@ -1,12 +1,11 @@
 -- `questions::field_at` meets its contract: the row's refusal, 18 where it has no field n, else the places of the field's attribute and value. Assumes nothing.
 use borrow.Author.Needs.{needs}
 use native.Mathlib.Omega.{arith}
-use Prim.Native.Nat.{ℕ, _≤_, _<_}
+use Prim.Native.Nat.{ℕ}
 use denote.Ref.{now}
-use mathlib.Core.Path.{_≡_, refl, sym, ap, _∙_, subst}
+use mathlib.Core.Path.{_≡_, sym, subst}
 use mathlib.Core.List.{List}
 use lib.ListN.{length, take}
-use lib.Seq.{length-take-le}
 use Rattle.octets.specs.Reading.{Read}
 use Rattle.octets.proofs.Spans.{each-octet}
 use Rattle.rows.specs.Row.{Row}

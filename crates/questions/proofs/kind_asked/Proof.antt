@@ -2,7 +2,7 @@
 use borrow.Author.Needs.{needs}
 use native.Mathlib.Omega.{arith}
 use denote.Ref.{now}
-use mathlib.Core.Path.{_≡_, refl, sym, ap, _∙_}
+use mathlib.Core.Path.{sym, ap, _∙_}
 use Rattle.octets.specs.Reading.{ends}
 use Rattle.questions.proofs.Asked.{kind-cut, kind-right, kind-low, kind-high, kind-other}
 use Rattle.questions.proofs.kind_asked.Statement.{statement}

@@ -2,10 +2,8 @@
 use borrow.Author.Needs.{needs}
 use denote.Ref.{now}
 use mathlib.Core.Path.{_≡_, sym, ap, _∙_}
-use Rattle.octets.specs.Reading.{Read, ends}
 use Rattle.octets.specs.Answers.{says}
 use Rattle.octets.specs.declared.Ended.{Ended}
-use Rattle.layouts.specs.Layout.{Layout}
 use Rattle.questions.specs.Questions.{layoutAsked}
 use Rattle.questions.specs.Answers.{refusalOf}
 use Rattle.questions.proofs.Asked.{refusal-ends}

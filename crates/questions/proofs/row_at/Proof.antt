@@ -1,13 +1,13 @@
 -- `questions::row_at` meets its contract: what stands before the question, then the row over the book's used octets. Assumes nothing.
 use borrow.Author.Needs.{needs}
 use native.Mathlib.Omega.{arith}
-use Prim.Native.Nat.{ℕ, _+_}
+use Prim.Native.Nat.{ℕ}
 use denote.Ref.{now}
-use mathlib.Core.Path.{_≡_, refl, sym, ap, _∙_, subst}
+use mathlib.Core.Path.{_≡_, sym, ap, _∙_, subst}
 use mathlib.Core.List.{List}
 use lib.ListN.{length, take}
 use lib.Seq.{length-take-le}
-use Rattle.octets.specs.Reading.{Read, ends}
+use Rattle.octets.specs.Reading.{Read}
 use Rattle.octets.specs.Answers.{says}
 use Rattle.octets.proofs.Spans.{each-octet}
 use Rattle.octets.proofs.Ends.{refused}

@@ -1,11 +1,8 @@
 -- `questions::row_refusal` meets its contract: field n was found, or is refused. Assumes nothing.
 use borrow.Author.Needs.{needs}
-use Prim.Native.Nat.{ℕ}
 use denote.Ref.{now}
 use mathlib.Core.Path.{_≡_, sym, ap, subst}
 use lib.ListN.{take}
-use Rattle.octets.specs.Reading.{Read}
-use Rattle.rows.specs.Row.{Field}
 use Rattle.questions.specs.Questions.{fieldAsked}
 use Rattle.questions.specs.Answers.{refusalOf}
 use Rattle.questions.specs.Places.{Spots}

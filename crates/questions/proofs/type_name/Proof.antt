@@ -1,10 +1,8 @@
 -- `questions::type_name` meets its contract: the type name of the layout behind its kind. Assumes nothing.
 use borrow.Author.Needs.{needs}
 use native.Mathlib.Omega.{arith}
-use Prim.Native.Nat.{ℕ}
 use denote.Ref.{now}
-use mathlib.Core.Path.{_≡_, refl, sym, ap, _∙_}
-use mathlib.Core.List.{List}
+use mathlib.Core.Path.{_≡_, sym, ap, _∙_}
 use Rattle.octets.specs.Reading.{Read, ok, isOk}
 use Rattle.octets.specs.Answers.{says}
 use Rattle.octets.proofs.Spans.{each-octet}

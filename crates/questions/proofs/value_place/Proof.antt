@@ -6,11 +6,11 @@ use denote.Ref.{now}
 use mathlib.Core.Path.{_≡_, refl, sym, ap, _∙_, subst}
 use mathlib.Core.List.{List}
 use lib.ListN.{length, take}
-use Rattle.octets.specs.Reading.{Read, ok, ends, isOk, be, stated, run}
+use Rattle.octets.specs.Reading.{ok, ends, isOk, stated, run}
 use Rattle.octets.proofs.Inverse.{ok-value, no-ok}
-use Rattle.layouts.specs.Layout.{Attribute, Layout, attributeAt, layoutAt}
+use Rattle.layouts.specs.Layout.{Layout, attributeAt, layoutAt}
 use Rattle.layouts.proofs.Parts.{layout-fields}
-use Rattle.rows.specs.Row.{Field, fieldsIn}
+use Rattle.rows.specs.Row.{fieldsIn}
 use Rattle.rows.specs.Answers.{valued}
 use Rattle.rows.specs.declared.Valued.{Valued}
 use Rattle.questions.proofs.Line.{run-front, walk, nth-field}

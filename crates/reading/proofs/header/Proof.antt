@@ -1,18 +1,13 @@
 -- `reading::header` meets its contract: 2, the header's own refusal, or the numbers that stand at its places. Assumes nothing.
 use borrow.Author.Needs.{needs}
 use native.Mathlib.Omega.{arith}
-use Prim.Native.Nat.{ℕ, _+_, _≤_}
+use Prim.Native.Nat.{ℕ}
 use denote.Ref.{now}
-use mathlib.Core.Path.{_≡_, refl, sym, ap, _∙_, subst}
+use mathlib.Core.Path.{_≡_, sym, ap, _∙_, subst}
 use mathlib.Core.List.{List}
-use lib.ListN.{length}
-use Rattle.octets.specs.Reading.{ok, no, be}
-use Rattle.headers.specs.Header.{headerFrom, headerAt}
 use Rattle.headers.specs.Answers.{Accepted, Locates}
 use Rattle.headers.specs.declared.Placing.{Placing}
 use Rattle.reading.specs.Answers.{headTells}
-use Rattle.reading.specs.declared.Head.{Head}
-use Rattle.reading.specs.declared.Headed.the-variants.{Is}
 use Rattle.reading.proofs.Entry.{header-long, header-short, number-is}
 use Rattle.reading.proofs.header.Statement.{statement}
 use Rattle.reading.proofs.header.Tie as tie

@@ -2,12 +2,11 @@
 -- The measure is what is left. Assumes nothing.
 use borrow.Author.Needs.{needs}
 use native.Mathlib.Omega.{arith}
-use Prim.Native.Nat.{ℕ, suc, _+_, _-_, _≤_, _<_}
+use Prim.Native.Nat.{ℕ, _+_, _-_, _≤_}
 use denote.Ref.{now}
-use mathlib.Core.Path.{_≡_, refl, sym, ap, _∙_, subst}
+use mathlib.Core.Path.{_≡_, sym, ap, _∙_, subst}
 use mathlib.Core.List.{List}
 use mathlib.Core.Bool.{true}
-use lib.ListN.{length}
 use Rattle.octets.specs.Reading.{ok, ends, isOk, Room, reach, run}
 use Rattle.octets.proofs.Ends.{left-suc, none-left, sub-none}
 use Rattle.kinds.specs.declared.Form.{Form}

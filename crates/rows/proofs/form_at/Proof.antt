@@ -1,5 +1,4 @@
 -- `rows::form_at` meets its contract: the form of the type behind the name. Assumes nothing.
-use borrow.Author.Needs.{needs}
 use denote.Ref.{now}
 use Rattle.layouts.proofs.Parts.{attribute-fields, attribute-named}
 use Rattle.rows.proofs.Values.{attribute-kind}

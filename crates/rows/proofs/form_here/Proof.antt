@@ -1,12 +1,10 @@
 -- `rows::form_here` meets its contract: the type's low octet is that of the basic type. Assumes nothing.
 use borrow.Author.Needs.{needs}
-use native.Mathlib.Omega.{arith}
-use Prim.Native.Nat.{ℕ, _+_, _%_, _≤_}
+use Prim.Native.Nat.{ℕ, _%_, _≤_}
 use denote.Ref.{now}
-use mathlib.Core.Path.{_≡_, sym, ap, _∙_, subst}
-use Rattle.octets.specs.Reading.{ok, be}
+use mathlib.Core.Path.{sym, ap, _∙_, subst}
 use Rattle.octets.proofs.Ends.{value-is}
-use Rattle.kinds.specs.Kinds.{codeOf, formOf, kindAt}
+use Rattle.kinds.specs.Kinds.{formOf, kindAt}
 use Rattle.kinds.proofs.Table.{kind-is, kind-code, code-once}
 use Rattle.rows.specs.Answers.{Slim}
 use Rattle.rows.proofs.Values.{slim-form}

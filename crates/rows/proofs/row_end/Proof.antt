@@ -3,18 +3,16 @@ use borrow.Author.Needs.{needs}
 use native.Mathlib.Omega.{arith}
 use Prim.Native.Nat.{ℕ, _+_}
 use denote.Ref.{now}
-use mathlib.Core.Path.{_≡_, refl, sym, ap, _∙_, subst}
-use mathlib.Core.List.{List}
-use mathlib.Core.Bool.{Bool}
+use mathlib.Core.Path.{_≡_, sym, ap, _∙_, subst}
 use lib.ListN.{length}
 use lib.Dec.{ltb}
-use Rattle.octets.specs.Reading.{Read, ok, ends, isOk, be, run}
+use Rattle.octets.specs.Reading.{ok, ends, isOk, be, run}
 use Rattle.octets.specs.Answers.{says}
 use Rattle.octets.specs.declared.Ended.{Ended}
 use Rattle.layouts.specs.Layout.{Layout, attributeAt, layoutAt}
 use Rattle.layouts.proofs.Parts.{layout-fields}
 use Rattle.rows.specs.Row.{valuesAt}
-use Rattle.rows.specs.Answers.{Shape, shape}
+use Rattle.rows.specs.Answers.{shape}
 use Rattle.rows.proofs.Lengths.{row-cut, row-no, row-ok}
 use Rattle.rows.proofs.row_end.Statement.{statement}
 use Rattle.rows.proofs.row_end.Tie as tie

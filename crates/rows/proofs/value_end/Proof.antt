@@ -5,7 +5,7 @@ use denote.Ref.{now}
 use mathlib.Core.Path.{_≡_, sym, ap, _∙_, subst}
 use Prim.Native.Nat.{ℕ}
 use mathlib.Core.List.{List}
-use Rattle.octets.specs.Reading.{Read, Room, ends}
+use Rattle.octets.specs.Reading.{Room, ends}
 use Rattle.kinds.specs.declared.Form.{Form}
 use Rattle.rows.specs.Row.{valueIn}
 use Rattle.rows.specs.Answers.{Slim}

@@ -3,12 +3,12 @@ use borrow.Author.Needs.{needs}
 use native.Mathlib.Omega.{arith}
 use Prim.Native.Nat.{ℕ, _≤_, _<_}
 use denote.Ref.{now}
-use mathlib.Core.Path.{_≡_, refl, sym, ap, _∙_, subst}
+use mathlib.Core.Path.{_≡_, sym, ap, _∙_}
 use mathlib.Core.List.{List}
 use mathlib.Core.Bool.{Bool, true, false}
 use lib.ListN.{length, take}
 use lib.Seq.{length-take-le}
-use Rattle.octets.specs.Reading.{ok, no}
+use Rattle.octets.specs.Reading.{ok}
 use Rattle.octets.specs.Writing.{Each, Octet}
 use Rattle.octets.proofs.Spans.{each-octet}
 use Rattle.layouts.specs.Book.{Book, bookImage, bookIn}
@@ -17,9 +17,9 @@ use Rattle.layouts.proofs.Books.{Lent}
 use Rattle.layouts.proofs.Walks.{lent-book, book-image}
 use Rattle.plans.specs.Plan.{Planned}
 use Rattle.plans.proofs.Keeping.{planned-within}
-use Rattle.elements.specs.Element.{Element, item, layout, row, Stepped, elementAt}
+use Rattle.elements.specs.Element.{Element, layout, row, Stepped, elementAt}
 use Rattle.elements.specs.Steps.{leaves, holding, stepAt}
-use Rattle.elements.specs.Answers.{stepOf, metOf}
+use Rattle.elements.specs.Answers.{stepOf}
 use Rattle.elements.specs.declared.Step.{Step}
 use Rattle.elements.specs.declared.Stepping.the-variants.{Done}
 use Rattle.elements.proofs.Before.{step-is}
@@ -29,7 +29,7 @@ use Rattle.elements.proofs.Told.{holding-same}
 use Rattle.runs.specs.Runs.{layoutWord, rowWord, ofItem}
 use Rattle.runs.specs.Answers.{isItem}
 use Rattle.runs.proofs.Steps.{Taken, taken, held}
-use Rattle.runs.proofs.Mets.{met-layout, met-row, met-end, row-keeps, end-keeps}
+use Rattle.runs.proofs.Mets.{met-layout, met-row, met-end, end-keeps}
 use Rattle.runs.proofs.exact_item.Statement.{statement}
 use Rattle.runs.proofs.exact_item.Tie as tie
 
@@ -124,7 +124,7 @@ returns-2 c =
     let (n, u, is) = met-end (t .stepped .element) _ _ (ap (λ (y : Step). y .met) (t .is) ∙ c .before .met .given .1) in (
       ap isItem (steps v x t) ∙ ap (λ (y : Element). ofItem y (λ _. true) false) is,
       left v x t
-          ∙ (ap (λ (b : Book). holding b (entry v)) (end-keeps (doc v) (at v) (rows v) (bookIn (entry v) (used v)) (t .stepped) (t .next) (t .reads) n u is)
+          ∙ (ap (λ (b : Book). holding b (entry v)) (end-keeps (doc v) (at v) (rows v) (bookIn (entry v) (used v)) (t .stepped) (t .next) n u (t .reads) is)
           ∙ holding-same (entry v) (used v) (lent v) (Start v .pre .3)),
     )
 

@@ -1,13 +1,12 @@
 -- `runs::note_in` meets its contract. Assumes nothing.
 use borrow.Author.Needs.{needs}
 use native.Mathlib.Omega.{arith}
-use mathlib.Core.Path.{_≡_, sym, ap, _∙_, subst}
-use mathlib.Core.Option.{some}
+use mathlib.Core.Path.{_≡_, ap, _∙_, subst}
 use Prim.Native.Nat.{ℕ}
 use denote.Ref.{now}
 use Rattle.octets.specs.Reading.{isOk}
 use Rattle.layouts.specs.Book.{Book, find}
-use Rattle.layouts.specs.Answers.{Image, Stands, Looks}
+use Rattle.layouts.specs.Answers.{Image, Looks}
 use Rattle.layouts.specs.declared.Looked.{Looked}
 use Rattle.layouts.proofs.Finding.{find-number}
 use Rattle.runs.proofs.note_in.Statement.{statement}

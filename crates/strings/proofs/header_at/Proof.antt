@@ -4,10 +4,9 @@ use native.Mathlib.Omega.{arith}
 use Prim.Native.Nat.{ℕ, _≤_}
 use mathlib.Core.List.{List}
 use denote.Ref.{now}
-use mathlib.Core.Path.{_≡_, refl, sym, ap, _∙_, subst}
+use mathlib.Core.Path.{_≡_, refl, _∙_}
 use lib.ListN.{length}
 use borrow.Author.Tests.{le-leb, lt-leb}
-use Rattle.octets.specs.Reading.{ok, no}
 use Rattle.headers.specs.Header.{headerFrom, headerAt}
 use Rattle.headers.specs.Answers.{Locates}
 use Rattle.headers.specs.declared.Placing.{Placing}

@@ -1,9 +1,7 @@
 -- `strings::header_refusal` meets its contract, by what was found of the header. Assumes nothing.
 use borrow.Author.Needs.{needs}
-use Prim.Native.Nat.{ℕ}
-use mathlib.Core.List.{List}
 use denote.Ref.{now}
-use mathlib.Core.Path.{_≡_, refl, sym, ap, _∙_, subst}
+use mathlib.Core.Path.{_≡_, sym, ap, subst}
 use Rattle.headers.specs.declared.Placing.{Placing}
 use Rattle.questions.specs.Answers.{refusalOf}
 use Rattle.strings.specs.Heads.{Heads}

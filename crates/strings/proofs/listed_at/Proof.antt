@@ -4,7 +4,7 @@ use native.Mathlib.Omega.{arith}
 use native.Mathlib.Nat.{mul-le-mul}
 use Prim.Native.Nat.{ℕ, _*_, _≤_}
 use denote.Ref.{now}
-use mathlib.Core.Path.{_≡_, refl, sym, ap, _∙_, subst}
+use mathlib.Core.Path.{refl, subst}
 use borrow.Author.Tests.{le-leb, lt-leb}
 use Rattle.octets.specs.Reading.{be}
 use Rattle.strings.specs.Heads.{listedAt}

@@ -1,10 +1,7 @@
 -- `strings::namespace_refusal` meets its contract, by what was found of the item. Assumes nothing.
 use borrow.Author.Needs.{needs}
-use Prim.Native.Nat.{ℕ}
-use mathlib.Core.List.{List}
 use denote.Ref.{now}
-use mathlib.Core.Path.{_≡_, refl, sym, ap, _∙_, subst}
-use Rattle.octets.specs.Reading.{text}
+use mathlib.Core.Path.{_≡_, sym, ap, subst}
 use Rattle.octets.specs.declared.Ended.{Ended}
 use Rattle.headers.specs.Header.{namespaceAt}
 use Rattle.questions.specs.Answers.{refusalOf}

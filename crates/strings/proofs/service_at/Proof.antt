@@ -4,7 +4,7 @@ use native.Mathlib.Omega.{arith}
 use Prim.Native.Nat.{ℕ}
 use mathlib.Core.List.{List}
 use denote.Ref.{now}
-use mathlib.Core.Path.{_≡_, refl, sym, ap, _∙_, subst}
+use mathlib.Core.Path.{_≡_, subst}
 use Rattle.octets.proofs.Spans.{each-octet}
 use Rattle.headers.specs.declared.Placing.{Placing}
 use Rattle.strings.specs.Heads.{Head, Heads}

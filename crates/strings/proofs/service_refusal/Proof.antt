@@ -1,12 +1,9 @@
 -- `strings::service_refusal` meets its contract, by what was found of the item. Assumes nothing.
 use borrow.Author.Needs.{needs}
-use Prim.Native.Nat.{ℕ}
-use mathlib.Core.List.{List}
 use denote.Ref.{now}
-use mathlib.Core.Path.{_≡_, refl, sym, ap, _∙_, subst}
+use mathlib.Core.Path.{_≡_, sym, ap, subst}
 use Rattle.octets.specs.Reading.{text}
 use Rattle.octets.specs.declared.Ended.{Ended}
-use Rattle.headers.specs.Header.{namespaceAt}
 use Rattle.questions.specs.Answers.{refusalOf}
 use Rattle.questions.specs.Places.{Stands}
 use Rattle.strings.specs.Strings.{serviceAsked}

@@ -1,8 +1,7 @@
 -- `writing::give_number` meets its contract: the last of its eight octets are the number's. Assumes nothing.
 use borrow.Author.Needs.{needs}
-use Prim.Native.Nat.{_-_}
 use mathlib.Core.Path.{refl, _∙_}
-use mathlib.Core.List.{[], append-nil}
+use mathlib.Core.List.{append-nil}
 use denote.Ref.{now}
 use Rattle.writing.proofs.Values.{number-octets}
 use Rattle.writing.proofs.Tests.{same-put, gave}

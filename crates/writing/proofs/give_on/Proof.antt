@@ -1,6 +1,6 @@
 -- `writing::give_on` meets its contract: a law of what is left for each way out. Assumes nothing.
 use borrow.Author.Needs.{needs}
-use Prim.Native.Nat.{ℕ, _+_}
+use Prim.Native.Nat.{ℕ}
 use mathlib.Core.Path.{_≡_, refl, sym, ap, subst}
 use mathlib.Core.List.{List, _++_}
 use denote.Ref.{now}

@@ -1,8 +1,7 @@
 -- `writing::value_number` meets its contract: the last of its eight octets are its image. Assumes nothing.
 use borrow.Author.Needs.{needs}
-use Prim.Native.Nat.{_-_}
 use mathlib.Core.Path.{_∙_}
-use mathlib.Core.List.{[], append-nil}
+use mathlib.Core.List.{append-nil}
 use Rattle.kinds.specs.Kinds.{formOf}
 use Rattle.rows.specs.Row.{bits}
 use Rattle.writing.proofs.Values.{number-octets, number-image}

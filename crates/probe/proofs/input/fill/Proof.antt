@@ -1,7 +1,6 @@
 -- `probe::input::fill` is safe. The measure is what is still to be taken. Assumes nothing.
 use borrow.Author.Needs.{needs}
-use native.Mathlib.Omega.{arith}
-use mathlib.Core.Path.{_≡_, refl, _∙_}
+use mathlib.Core.Path.{_≡_, refl}
 use Prim.Native.Nat.{_-_, _≤_}
 use lib.ListN.{length}
 use Rattle.probe.proofs.input.fill.Statement.{statement}

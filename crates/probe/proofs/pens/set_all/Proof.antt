@@ -1,9 +1,8 @@
 -- `probe::pens::set_all` is safe. The measure is what is left. Assumes nothing.
 use borrow.Author.Needs.{needs}
-use native.Mathlib.Omega.{arith}
-use mathlib.Core.Path.{_≡_, refl, _∙_}
+use mathlib.Core.Path.{_≡_, refl}
 use Prim.Native.Nat.{_-_}
-use lib.ListN.{length, length-set}
+use lib.ListN.{length}
 use Rattle.probe.proofs.pens.set_all.Statement.{statement}
 use Rattle.probe.proofs.pens.set_all.Tie as tie
 
