@@ -1,10 +1,12 @@
--- That the statement of every public function of reading, questions and strings settles its answer, and a step's also what it leaves in the lent book: of all that the statement allows there is one, for every input.
+-- That the statement of every public function of reading, runs, questions and strings settles its answer, and a step's and a run's also what they leave in what is lent to them: of all that the statement allows there is one, for every input.
 use Prim.Native.Nat.{ℕ}
 use mathlib.Core.List.{List}
 use Rattle.headers.specs.Header.{headerAt}
-use Rattle.elements.specs.Steps.{stepAt, leaves, whole}
+use Rattle.elements.specs.Steps.{lentBook, stepAt, leaves, whole}
 use Rattle.elements.specs.Answers.{tells}
 use Rattle.reading.specs.Answers.{headTells, checkTells}
+use Rattle.runs.specs.Runs.{runFrom, laid}
+use Rattle.runs.specs.Answers.{runTells}
 use Rattle.questions.specs.Questions.{fieldAsked, layoutAsked, attributeAsked, partOf}
 use Rattle.questions.specs.Answers.{refusalOf, octetsOf, fieldTells, kindTells}
 use Rattle.strings.specs.Strings.{namespaceAsked, serviceAsked}
@@ -24,6 +26,14 @@ pub record ReadingSettled : Type 0 where
   pub step-book : (s : List ℕ) (at rows : ℕ) (octets : List ℕ) (used : ℕ) → Settled (leaves octets (stepAt s at rows octets used))
   -- The row count, or the refusal.
   pub whole : (s : List ℕ) → Settled (checkTells (whole s))
+
+-- A run of steps.
+pub record RunSettled (s : List ℕ) (at rows : ℕ) (octets : List ℕ) (used : ℕ) : Type 0 where
+  -- How many items were passed, and where it stands then.
+  pub run : Settled (runTells (lentBook s rows octets used) (runFrom 4096 s at rows octets used))
+  -- The lent book behind it, and the lent words.
+  pub run-book : Settled (runFrom 4096 s at rows octets used .octets)
+  pub run-words : (lent : List ℕ) → Settled (laid 0 (runFrom 4096 s at rows octets used .words) lent)
 
 -- The questions about field n of a row.
 pub record FieldSettled (s : List ℕ) (at rows : ℕ) (octets : List ℕ) (used n : ℕ) : Type 0 where
@@ -74,6 +84,8 @@ pub record HeaderSettled (s : List ℕ) : Type 0 where
 pub record Entries : Type 0 where
   -- Crate reading.
   pub reading : ReadingSettled
+  -- Crate runs.
+  pub runs : (s : List ℕ) (at rows : ℕ) (octets : List ℕ) (used : ℕ) → RunSettled s at rows octets used
   -- Crate questions.
   pub fields : (s : List ℕ) (at rows : ℕ) (octets : List ℕ) (used n : ℕ) → FieldSettled s at rows octets used n
   pub layouts : (s : List ℕ) (at rows : ℕ) (octets : List ℕ) (used : ℕ) → LayoutSettled s at rows octets used

@@ -3,3 +3,4 @@ mod Steps
 mod Mets
 mod Runs
 mod Entry
+mod Apart
