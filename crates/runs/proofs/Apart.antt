@@ -3,7 +3,6 @@ use Prim.Native.Nat.{ℕ, _/_, _%_, _<_}
 use mathlib.Core.Path.{_≡_}
 use mathlib.Core.Bool.{true, false}
 use native.Mathlib.Omega.{arith}
-
 use Rattle.runs.specs.Runs.{layoutWord, rowWord}
 
 -- What is read off a word.
