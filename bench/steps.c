@@ -4,15 +4,25 @@
 
 #include "ipdr.h"
 
+static uint8_t book[IPDR_BOOK_SIZE];
+
+/* The header, and the place behind it. */
+static uint64_t begin(const uint8_t *doc, size_t len, uint32_t *at)
+{
+    uint64_t out[8];
+    uint64_t refused = ipdr_header(doc, len, out);
+    if (!refused)
+        *at = (uint32_t)out[IPDR_HEADER_NEXT];
+    return refused;
+}
+
 uint64_t by_steps(const uint8_t *doc, size_t len, uint64_t *rows)
 {
-    static uint8_t book[IPDR_BOOK_SIZE];
     uint64_t out[8];
     uint32_t at, passed = 0, used = 0;
-    uint64_t refused = ipdr_header(doc, len, out);
+    uint64_t refused = begin(doc, len, &at);
     if (refused)
         return refused;
-    at = (uint32_t)out[IPDR_HEADER_NEXT];
     do {
         refused = ipdr_step(doc, len, at, passed, book, sizeof book, used, out);
         if (refused)
@@ -27,14 +37,12 @@ uint64_t by_steps(const uint8_t *doc, size_t len, uint64_t *rows)
 
 uint64_t by_runs(const uint8_t *doc, size_t len, uint64_t *rows)
 {
-    static uint8_t book[IPDR_BOOK_SIZE];
     static uint64_t items[IPDR_RUN_MOST];
     uint64_t out[8];
     uint32_t at, passed = 0, used = 0;
-    uint64_t refused = ipdr_header(doc, len, out);
+    uint64_t refused = begin(doc, len, &at);
     if (refused)
         return refused;
-    at = (uint32_t)out[IPDR_HEADER_NEXT];
     do {
         refused = ipdr_run(doc, len, at, passed, book, sizeof book, used, items, out);
         if (refused)

@@ -6,7 +6,7 @@ use mathlib.Core.List.{List, [], _∷_, _++_, append-assoc}
 use mathlib.Core.Bool.{Bool, true, false, _&&_}
 use mathlib.Core.Option.{some, none}
 use lib.ListN.{length, take, drop, length-append, length-drop}
-use lib.Seq.{length-take-le, take-append-seam}
+use lib.Seq.{length-take-le}
 use lib.Dec.{ltb}
 use borrow.Author.Tests.{le-ltb, le-leb, lt-leb}
 use native.Mathlib.Omega.{arith}
@@ -18,7 +18,7 @@ use Rattle.layouts.specs.Answers.{Learns}
 use Rattle.layouts.specs.declared.Learning.{Learning}
 use Rattle.layouts.specs.declared.Learning.the-variants.{Known, New, Refused}
 use Rattle.layouts.proofs.Layouts.{layout-forth}
-use Rattle.layouts.proofs.Books.{GoodBook, Lent, book-back, image-snoc}
+use Rattle.layouts.proofs.Books.{GoodBook, Lent, image-snoc}
 use Rattle.layouts.proofs.Growing.{grown}
 use Rattle.layouts.proofs.Walks.{lent-book}
 
@@ -70,11 +70,7 @@ pub empty-book : (octets : List ℕ) → 32768 ≤ length octets → IsBook octe
 unfolding bookIn bookOf layoutsAt
 empty-book octets h = (rw (le-leb 32768 (length octets) h) refl, rw (le-leb 32768 (length octets) h) refl)
 
--- Lent octets that are as they were hold the book that they held.
-pub kept-book : (entry exit : List ℕ) (used : ℕ) → exit ≡ entry → IsBook entry used → IsBook exit used × (bookIn exit used ≡ bookIn entry used)
-kept-book entry exit used x e = (rw x e, rw x refl)
-
--- What a lent book holds that learnt: learning a layout leaves the lent octets as many, and a new one makes them a good book with it behind the others.
+-- Learning a layout leaves the lent octets as many.
 module _ (entry exit : List ℕ) (used at : ℕ) (l : Layout) (o : Each Octet entry) (is : IsBook entry used) (g : GoodLayout l) where
   new-good : learn (bookIn entry used) l at ≡ ok (bookIn entry used ++ l ∷ []) at → GoodBook (bookIn entry used ++ l ∷ [])
   new-good e = grown (bookIn entry used) l at (bookIn entry used ++ l ∷ []) at (lent-book entry used o is .good) g e .good
@@ -85,12 +81,3 @@ module _ (entry exit : List ℕ) (used at : ℕ) (l : Layout) (o : Each Octet en
       ap length (h .2) ∙ rw (length-append (bookImage (bookIn entry used ++ l ∷ [])) (drop v entry), length-drop v entry)
       (omega (arith, h .1, new-good (h .0) .small, lent-book entry used o is .room))
   learns-length (Refused n) h = ap length (h .1)
-
-  pub new-book : (v : ℕ) → Learns entry exit (bookIn entry used) l at (New v) → IsBook exit v × (bookIn exit v ≡ bookIn entry used ++ l ∷ [])
-  unfolding bookIn
-  new-book v h =
-      let c : Book = bookIn entry used ++ l ∷ [] in
-      let room : 32768 ≤ length exit = omega (arith, learns-length (New v) h, lent-book entry used o is .room) in
-      let front : take (length (bookImage c)) exit ≡ bookImage c = ap (take (length (bookImage c))) (h .2) ∙ take-append-seam (bookImage c) (drop v entry) in
-      let back : bookOf exit v ≡ ok c v = rw (h .1) (book-back c exit (new-good (h .0)) room front) in
-      (rw back refl, rw back refl)

@@ -1,19 +1,22 @@
 -- The texts that programs print, as octets, and what it is to print one.
-use Prim.Native.Nat.{ℕ, zero, suc, _+_, _-_, _/_, _%_}
+use Prim.Native.Nat.{ℕ, zero, suc, _+_, _-_, _*_, _/_, _%_, _<_}
 use mathlib.Core.Path.{_≡_}
 use mathlib.Core.List.{List, [], _∷_, _++_}
 use mathlib.Core.Bool.{Bool, true, false, cond, _&&_, not}
-use lib.ListN.{take}
+use lib.ListN.{length, take}
 use lib.Dec.{leb, ltb, eqb}
 use lib.IntN.{ℤ, pos, negsuc}
 use Rattle.octets.specs.Writing.{word, images}
 use Rattle.printing.specs.declared.Show.{Show}
 use Rattle.printing.specs.declared.Show.the-variants.{Plain, Hex, Escaped}
 
--- What waited and the text behind it are what was written out and what waits now.
+-- What waited and the text behind it are what was written out and what waits now. Only a full buffer is written out, so what waits is settled; without a buffer all goes out.
 pub record Prints (before : List ℕ) (n : ℕ) (text after : List ℕ) (r : ℕ) : Type 0 where
   pub gone : List ℕ
   pub same : take n before ++ text ≡ gone ++ take r after
+  pub size : length after ≡ length before
+  pub times : ℕ
+  pub full : 0 < length before → length gone ≡ times * length before
 
 -- A digit: from 10 on a letter, of which the first is given.
 abbrev pub digit : ℕ → ℕ → ℕ

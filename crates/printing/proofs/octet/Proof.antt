@@ -14,12 +14,12 @@ returns c =
 returns-2 : tie.Need-returns-2
 returns-2 c =
     let a = c .before .before .before .before .before .before .before .args in
-    away (now (a .out)) (a .n) (a .x)
+    away (now (a .out)) (a .n) (a .x) (omega arith)
 
 returns-3 : tie.Need-returns-3
 returns-3 c =
     let a = c .before .before .before .before .before .args in
-    anew (now (a .out)) (a .n) (a .x) (omega arith)
+    anew (now (a .out)) (a .n) (a .x) (omega arith) (omega arith)
 
 pub octet-spec : {M : Type 1} → statement M
 octet-spec =
