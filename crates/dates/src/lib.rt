@@ -1,7 +1,7 @@
 // Times as text: seconds since 1970 as a date, or "@" and the number outside the years 1970 to 9999.
 
 ghost use mathlib.Core.Path.{_≡_};
-ghost use Prim.Native.Nat.{_+_, _≤_, _<_};
+ghost use Prim.Native.Nat.{_+_, _<_};
 ghost use Rattle.printing.specs.Text.{Prints};
 ghost use Rattle.dates.specs.Calendar.{leap, yearDays, monthDays, MonthOf, DateOf};
 ghost use Rattle.dates.specs.Times.{two, dayText, clockText, Stamps};

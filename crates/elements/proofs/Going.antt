@@ -1,6 +1,6 @@
 -- A run of elements on the way: the book behind an accepted element is good again, and what is counted from the start is what is counted from here.
 use Prim.Native.Nat.{ℕ, zero, suc, _+_, _-_, _≤_, _<_}
-use mathlib.Core.Path.{_≡_, refl, sym, ap, _∙_}
+use mathlib.Core.Path.{_≡_, refl, ap, _∙_}
 use mathlib.Core.List.{List, [], _∷_, _++_}
 use mathlib.Core.Bool.{true, false}
 use native.Mathlib.Omega.{arith}
@@ -12,9 +12,7 @@ use Rattle.layouts.specs.Layout.{layoutImage, GoodLayout}
 use Rattle.layouts.specs.Book.{Book, bookImage, bookOf, bookIn, IsBook}
 use Rattle.layouts.proofs.Layouts.{layout-octets}
 use Rattle.layouts.proofs.Books.{GoodBook, octets-book, image-nil, image-cons}
-use Rattle.layouts.proofs.Walks.{lent-book}
-use Rattle.layouts.proofs.Lends.{empty-book}
-use Rattle.layouts.proofs.Growing.{grown}
+use Rattle.layouts.proofs.Growing.{grown, good-nil}
 use Rattle.rows.specs.Row.{rowImage}
 use Rattle.elements.specs.Element.{Element, item, layout, row, finish, Stepped, elementAt}
 use Rattle.elements.specs.Steps.{holding, Placed, isLast, elementsFrom, asRow, rowsOf, counted}
@@ -66,7 +64,7 @@ image-octets [] g = rw image-nil tt
 image-octets (l ∷ rest) g = rw (image-cons l rest) (each-append (layoutImage l) (bookImage rest) (layout-octets l (g .0)) (image-octets rest (g .1)))
 
 module _ (book : Book) (octets : List ℕ) (good : GoodBook book) (long : 32768 ≤ length octets) where
-  holding-octets : Each Octet octets → Each Octet (holding book octets)
+  pub holding-octets : Each Octet octets → Each Octet (holding book octets)
   holding-octets o = each-append (bookImage book) (drop (length (bookImage book)) octets) (image-octets book (good .good)) (each-drop Octet (length (bookImage book)) octets o)
 
   pub holding-length : length (holding book octets) ≡ length octets
@@ -78,6 +76,12 @@ module _ (book : Book) (octets : List ℕ) (good : GoodBook book) (long : 32768 
   pub holding-book : IsBook (holding book octets) (length (bookImage book)) × (bookIn (holding book octets) (length (bookImage book)) ≡ book)
   unfolding bookIn
   holding-book = (rw holding-of refl, rw holding-of refl)
+
+-- An element is one row at most.
+pub few-rows : (x : Element) → asRow x ≤ 1
+few-rows (item (layout l)) = omega arith
+few-rows (item (row r)) = omega arith
+few-rows (finish n m) = omega arith
 
 -- What is counted, a step at a time.
 module _ (k : ℕ) (s : List ℕ) (at rows : ℕ) (book : Book) where
@@ -104,69 +108,46 @@ module _ (k : ℕ) (s : List ℕ) (at rows : ℕ) (book : Book) where
         go (ok rest end) = ap (λ (n : ℕ). ok n end) (sum (asRow (st .element)) (rowsOf rest) (step-rows s at rows book st next e))
         go (no n p) = refl
 
--- A run that began at a place and is now at another, over lent octets that hold the book of the elements passed.
-pub record Going (s : List ℕ) (at : ℕ) (octets : List ℕ) (pos rows used : ℕ) : Type 0 where
+-- A run that began at a place and is now at another, over the book of the elements passed.
+pub record Going (s : List ℕ) (at : ℕ) (book : Book) (pos rows : ℕ) : Type 0 where
   pub inside : pos ≤ length s
   pub behind : rows ≤ pos
-  pub size : length octets ≡ 32768
-  pub lent : Each Octet octets
-  pub is : IsBook octets used
+  pub good : GoodBook book
   pub fuel : ℕ
   pub enough : length s - pos < fuel
-  pub same : counted 0 (elementsFrom (length s + 1) s at 0 []) ≡ counted rows (elementsFrom fuel s pos rows (bookIn octets used))
+  pub same : counted 0 (elementsFrom (length s + 1) s at 0 []) ≡ counted rows (elementsFrom fuel s pos rows book)
 
-pub going-start : (s : List ℕ) (at : ℕ) (octets : List ℕ) → at ≤ length s → Each Octet octets → length octets ≡ 32768 → Going s at octets at 0 0
-going-start s at octets h o size =
-    let (is, none) = empty-book octets (omega arith) in
-    record {
-      inside = h;
-      behind = omega arith;
-      size = size;
-      lent = o;
-      is = is;
-      fuel = length s + 1;
-      enough = omega arith;
-      same = ap (λ (b : Book). counted 0 (elementsFrom (length s + 1) s at 0 b)) (sym none);
-    }
+pub going-start : (s : List ℕ) (at : ℕ) → at ≤ length s → Going s at [] at 0
+going-start s at h = record { inside = h; behind = omega arith; good = good-nil; fuel = length s + 1; enough = omega arith; same = refl }
 
-module _ (s : List ℕ) (short : length s ≤ 1048576) (at : ℕ) (octets : List ℕ) (pos rows used : ℕ) where
+module _ (s : List ℕ) (short : length s ≤ 1048576) (at : ℕ) (book : Book) (pos rows : ℕ) where
   -- The fuel is never out.
-  more-fuel : (g : Going s at octets pos rows used) → (k : ℕ) × (g .fuel ≡ suc k) × (length s - pos ≤ k)
+  more-fuel : (g : Going s at book pos rows) → (k : ℕ) × (g .fuel ≡ suc k) × (length s - pos ≤ k)
   more-fuel g = go (g .fuel) (g .enough)
     where
       go : (f : ℕ) → length s - pos < f → (k : ℕ) × (f ≡ suc k) × (length s - pos ≤ k)
       go zero h = absurd (omega arith)
       go (suc k) h = (k, refl, omega arith)
 
-  here : (g : Going s at octets pos rows used) → counted 0 (elementsFrom (length s + 1) s at 0 []) ≡ counted rows (elementsFrom (suc (more-fuel g .0)) s pos rows (bookIn octets used))
-  here g = g .same ∙ ap (λ (f : ℕ). counted rows (elementsFrom f s pos rows (bookIn octets used))) (more-fuel g .1)
+  here : (g : Going s at book pos rows) → counted 0 (elementsFrom (length s + 1) s at 0 []) ≡ counted rows (elementsFrom (suc (more-fuel g .0)) s pos rows book)
+  here g = g .same ∙ ap (λ (f : ℕ). counted rows (elementsFrom f s pos rows book)) (more-fuel g .1)
 
-  pub going-refused : Going s at octets pos rows used → (n p : ℕ) → elementAt s pos rows (bookIn octets used) ≡ no n p → counted 0 (elementsFrom (length s + 1) s at 0 []) ≡ no n p
-  going-refused g n p e = here g ∙ counted-no (more-fuel g .0) s pos rows (bookIn octets used) n p e
+  pub going-refused : Going s at book pos rows → (n p : ℕ) → elementAt s pos rows book ≡ no n p → counted 0 (elementsFrom (length s + 1) s at 0 []) ≡ no n p
+  going-refused g n p e = here g ∙ counted-no (more-fuel g .0) s pos rows book n p e
 
-  module _ (g : Going s at octets pos rows used) (st : Stepped) (next : ℕ) (e : elementAt s pos rows (bookIn octets used) ≡ ok st next) where
+  module _ (g : Going s at book pos rows) (st : Stepped) (next : ℕ) (e : elementAt s pos rows book ≡ ok st next) where
     pub going-end : isLast (st .element) ≡ true → counted 0 (elementsFrom (length s + 1) s at 0 []) ≡ ok (st .rows) next
-    going-end t = here g ∙ counted-last (more-fuel g .0) s pos rows (bookIn octets used) st next e t
+    going-end t = here g ∙ counted-last (more-fuel g .0) s pos rows book st next e t
 
-    pub going-on : Each Octet s → isLast (st .element) ≡ false → Going s at (holding (st .book) octets) next (st .rows) (length (bookImage (st .book)))
+    pub going-on : Each Octet s → isLast (st .element) ≡ false → Going s at (st .book) next (st .rows)
     going-on o t =
-        let l = lent-book octets used (g .lent) (g .is) in
-        let (far, near) = element-place s short o pos rows (bookIn octets used) (g .inside) st next e in
-        let good = element-book s short o pos rows (bookIn octets used) (g .inside) st next e (l .good) in
-        let (is, same) = holding-book (st .book) octets good (l .room) in
+        let (far, near) = element-place s short o pos rows book (g .inside) st next e in
         let few = few-rows (st .element) in
         record {
           inside = near;
-          behind = omega (arith, g .behind, step-rows s pos rows (bookIn octets used) st next e);
-          size = holding-length (st .book) octets good (l .room) ∙ g .size;
-          lent = holding-octets (st .book) octets good (l .room) (g .lent);
-          is = is;
+          behind = omega (arith, g .behind, step-rows s pos rows book st next e);
+          good = element-book s short o pos rows book (g .inside) st next e (g .good);
           fuel = more-fuel g .0;
           enough = omega (arith, more-fuel g .2, g .inside);
-          same = here g ∙ (counted-more (more-fuel g .0) s pos rows (bookIn octets used) st next e t ∙ ap (λ (b : Book). counted (st .rows) (elementsFrom (more-fuel g .0) s next (st .rows) b)) (sym same));
+          same = here g ∙ counted-more (more-fuel g .0) s pos rows book st next e t;
         }
-      where
-        few-rows : (x : Element) → asRow x ≤ 1
-        few-rows (item (layout l)) = omega arith
-        few-rows (item (row r)) = omega arith
-        few-rows (finish n m) = omega arith

@@ -1,68 +1,139 @@
--- A run that passes rows by plans: a row so passed is an element, the plans go with the book behind every element, and where the book grew a layout was read that it has.
+-- A run that keeps layouts by their places and passes rows by plans: a row so passed is an element, what is kept goes with the book behind every element, and where the book grew a layout was read.
 use Prim.Native.Nat.{ℕ, _+_, _≤_, _<_}
-use mathlib.Core.Path.{_≡_, refl, sym, ap, subst}
-use mathlib.Core.List.{List}
-use mathlib.Core.Option.{some}
+use mathlib.Core.Path.{_≡_, refl, sym, ap, _∙_, subst}
+use mathlib.Core.List.{List, [], _∷_, _++_}
+use mathlib.Core.Option.{some, none}
+use mathlib.Core.Bool.{false}
+use mathlib.Core.Logic.{inl, inr}
 use native.Mathlib.Omega.{arith}
-use lib.ListN.{length}
+use lib.ListN.{length, set, length-append}
 use Rattle.octets.specs.Reading.{ok, isOk, number}
 use Rattle.octets.specs.Writing.{Each, Octet}
 use Rattle.octets.proofs.Ends.{number-room}
-use Rattle.layouts.specs.Layout.{Layout, layoutAt}
-use Rattle.layouts.specs.Book.{Book, find, bookImage, bookIn, learn}
-use Rattle.layouts.proofs.Layouts.{layout-forth}
-use Rattle.layouts.proofs.Finding.{Within}
-use Rattle.layouts.proofs.Books.{GoodBook}
-use Rattle.layouts.proofs.Growing.{Grown, grown}
-use Rattle.layouts.proofs.Walks.{lent-book}
+use Rattle.layouts.specs.Layout.{Layout, layoutAt, layoutImage}
+use Rattle.layouts.specs.Book.{Book, find, bookImage}
+use Rattle.layouts.proofs.Layouts.{layout-forth, layout-long}
+use Rattle.layouts.proofs.Finding.{Within, find-here, find-behind}
+use Rattle.layouts.proofs.Books.{GoodBook, image-nil, image-snoc}
+use Rattle.layouts.proofs.Growing.{Learnt, learnt, grown}
 use Rattle.rows.specs.Row.{Row, rowAt}
+use Rattle.plans.specs.Plan.{Planned, Kept}
+use Rattle.plans.proofs.Keeping.{planned-none, planned-within, kept-none, kept-more}
 use Rattle.elements.specs.Element.{item, row, Stepped, elementAt}
+use Rattle.elements.specs.Steps.{isLast}
 use Rattle.elements.proofs.Went.{Went, at-layout, at-row, at-finish, went, row-step}
-use Rattle.elements.proofs.Told.{holding-same}
-use Rattle.elements.proofs.Going.{Going, going-on, element-place}
-
--- A row that a plan passed.
-module _ (s : List ℕ) (short : length s ≤ 1048576) (o : Each Octet s) (at : ℕ) (octets : List ℕ) (pos rows used : ℕ) (g : Going s at octets pos rows used)
-    (r : Row) (next : ℕ) (k : number 4 s pos ≡ ok 2 (pos + 4)) (e : rowAt (bookIn octets used) s (pos + 4) ≡ ok r next) where
-  passed : elementAt s pos rows (bookIn octets used) ≡ ok (record { element = item (row r); rows = rows + 1; book = bookIn octets used }) next
-  passed = row-step s pos rows (bookIn octets used) r next k e
-
-  pub going-row : Going s at octets next (rows + 1) used
-  going-row =
-      subst (λ (n : ℕ). Going s at octets next (rows + 1) n) (lent-book octets used (g .lent) (g .is) .size)
-      (subst (λ (b : List ℕ). Going s at b next (rows + 1) (length (bookImage (bookIn octets used)))) (holding-same octets used (g .lent) (g .is))
-      (going-on s short at octets pos rows used g _ next passed o refl))
-
-  pub row-further : pos + 4 ≤ next
-  row-further = element-place s short o pos rows (bookIn octets used) (g .inside) _ next passed .0
+use Rattle.elements.proofs.Going.{Going, going-start, going-on, element-place}
 
 -- What an element leaves of the book.
-module _ (s : List ℕ) (o : Each Octet s) (at rows : ℕ) (b : Book) (good : GoodBook b) (st : Stepped) (next : ℕ) (e : elementAt s at rows b ≡ ok st next) where
-  -- A layout that was read is learnt by a book that keeps what it had.
-  learnt : (l : Layout) (x : ℕ) → number 4 s at ≡ ok 1 (at + 4) → layoutAt s (at + 4) ≡ ok l next → learn b l (at + 4) ≡ ok (st .book) x → Grown b l (st .book)
-  learnt l x k f m = grown b l (at + 4) (st .book) x good (layout-forth s l (at + 4) next o (number-room s at 4 (ap isOk k)) f .0) m
-
-  pub element-keeps : Within b (st .book)
-  element-keeps = go (went s at rows b st next e)
-    where
-      go : Went s at rows b st next → Within b (st .book)
-      go (at-layout l x k f m _ _) = learnt l x k f m .keeps
-      go (at-row r k f _ _ same) = subst (Within b) (sym same) (λ n l h. h)
-      go (at-finish n t k f _ _ same) = subst (Within b) (sym same) (λ n l h. h)
-
-  -- The layout that a book grew by.
+module _ (s : List ℕ) (o : Each Octet s) (at rows : ℕ) (b : Book) (st : Stepped) (next : ℕ) (e : elementAt s at rows b ≡ ok st next) where
+  -- The layout that the book grew by.
   pub record New : Type 0 where
     pub layout : Layout
     pub reads : layoutAt s (at + 4) ≡ ok layout next
-    pub found : find (layout .number) (st .book) ≡ some layout
+    pub fresh : find (layout .number) b ≡ none
+    pub few : length b < 64
+    pub small : length (bookImage b) + length (layoutImage layout) ≤ 32768
+    pub is : st .book ≡ b ++ layout ∷ []
 
-  pub element-new : length (bookImage b) < length (bookImage (st .book)) → New
+  abbrev Grows : Type 0
+  Grows = length (bookImage b) < length (bookImage (st .book))
+
+  longer : (l : Layout) → st .book ≡ b ++ l ∷ [] → Grows
+  longer l q = let long = ap (λ (c : Book). length (bookImage c)) q ∙ (ap length (image-snoc b l) ∙ length-append (bookImage b) (layoutImage l)) in omega (arith, long, layout-long l)
+
+  pub element-new : Grows → New
   element-new more = go (went s at rows b st next e)
     where
       none : st .book ≡ b → New
       none same = absurd (let h = ap (λ (c : Book). length (bookImage c)) same in omega arith)
 
+      by : (l : Layout) → layoutAt s (at + 4) ≡ ok l next → Learnt b l (st .book) → New
+      by l f (inl h) = none (h .3)
+      by l f (inr h) = record { layout = l; reads = f; fresh = h .0; few = h .1; small = h .2; is = h .3 }
+
       go : Went s at rows b st next → New
-      go (at-layout l x k f m _ _) = record { layout = l; reads = f; found = learnt l x k f m .has }
+      go (at-layout l x k f m _ _) = by l f (learnt b l (at + 4) (st .book) x m)
       go (at-row r k f _ _ same) = none same
       go (at-finish n t k f _ _ same) = none same
+
+  pub element-old : (Grows → ⊥) → st .book ≡ b
+  element-old no-more = go (went s at rows b st next e)
+    where
+      by : (l : Layout) → Learnt b l (st .book) → st .book ≡ b
+      by l (inl h) = h .3
+      by l (inr h) = absurd (no-more (longer l (h .3)))
+
+      go : Went s at rows b st next → st .book ≡ b
+      go (at-layout l x k f m _ _) = by l (learnt b l (at + 4) (st .book) x m)
+      go (at-row r k f _ _ same) = same
+      go (at-finish n t k f _ _ same) = same
+
+  -- A good book keeps what it had.
+  pub element-keeps : GoodBook b → Within b (st .book)
+  element-keeps good = go (went s at rows b st next e)
+    where
+      go : Went s at rows b st next → Within b (st .book)
+      go (at-layout l x k f m _ _) = grown b l (at + 4) (st .book) x good (layout-forth s l (at + 4) next o (number-room s at 4 (ap isOk k)) f .0) m .keeps
+      go (at-row r k f _ _ same) = subst (Within b) (sym same) (λ n l h. h)
+      go (at-finish n t k f _ _ same) = subst (Within b) (sym same) (λ n l h. h)
+
+-- A run on its way: the book of the elements passed, its layouts kept by their places, and plans of them.
+pub record OnWay (s : List ℕ) (at : ℕ) (numbers places steps : List ℕ) (known pos rows used : ℕ) : Type 0 where
+  pub book : Book
+  pub going : Going s at book pos rows
+  pub planned : Planned numbers steps known book
+  pub kept : Kept s numbers places known book
+  pub size : length (bookImage book) ≡ used
+
+pub way-start : (s : List ℕ) (at : ℕ) (numbers places steps : List ℕ) → at ≤ length s → length numbers ≡ 64 → length places ≡ 64 → length steps ≡ 4160
+    → OnWay s at numbers places steps 0 at 0 0
+way-start s at numbers places steps h n p l =
+    record { book = []; going = going-start s at h; planned = planned-none numbers steps n l; kept = kept-none s numbers places n p; size = ap length image-nil }
+
+module _ (s : List ℕ) (short : length s ≤ 1048576) (o : Each Octet s) (at : ℕ) (numbers places steps : List ℕ) (known pos rows used : ℕ)
+    (w : OnWay s at numbers places steps known pos rows used) where
+  -- Behind a row that a plan passed.
+  module _ (r : Row) (next : ℕ) (k : number 4 s pos ≡ ok 2 (pos + 4)) (e : rowAt (w .book) s (pos + 4) ≡ ok r next) where
+    passed : elementAt s pos rows (w .book) ≡ ok (record { element = item (row r); rows = rows + 1; book = w .book }) next
+    passed = row-step s pos rows (w .book) r next k e
+
+    pub way-row : OnWay s at numbers places steps known next (rows + 1) used
+    way-row =
+        record { book = w .book; going = going-on s short at (w .book) pos rows (w .going) _ next passed o refl; planned = w .planned; kept = w .kept; size = w .size }
+
+    pub row-further : pos + 4 ≤ next
+    row-further = element-place s short o pos rows (w .book) (w .going .inside) _ next passed .0
+
+  -- Behind any other element but the end.
+  module _ (st : Stepped) (next : ℕ) (e : elementAt s pos rows (w .book) ≡ ok st next) (more : isLast (st .element) ≡ false) where
+    on : Going s at (st .book) next (st .rows)
+    on = going-on s short at (w .book) pos rows (w .going) st next e o more
+
+    pub planned-on : Planned numbers steps known (st .book)
+    planned-on = planned-within numbers steps known (w .book) (st .book) (element-keeps s o pos rows (w .book) st next e (w .going .good)) (w .planned)
+
+    pub way-old : (length (bookImage (w .book)) < length (bookImage (st .book)) → ⊥) → OnWay s at numbers places steps known next (st .rows) (length (bookImage (st .book)))
+    way-old no-more =
+        let same = element-old s o pos rows (w .book) st next e no-more in
+        record { book = st .book; going = on; planned = planned-on; kept = subst (Kept s numbers places known) (sym same) (w .kept); size = refl }
+
+    module _ (n : New s o pos rows (w .book) st next e) where
+      pub found-new : find (n .layout .number) (st .book) ≡ some (n .layout)
+      found-new =
+          ap (find (n .layout .number)) (n .is) ∙ (find-behind (n .layout .number) (w .book) (n .layout ∷ []) (n .fresh) ∙ find-here (n .layout .number) (n .layout) [] refl)
+
+      pub room-new : known < 64
+      room-new = omega (arith, n .few, w .kept .count)
+
+      pub way-new : (numbers₁ steps₁ : List ℕ) (known₁ : ℕ) → Planned numbers₁ steps₁ known₁ (st .book) → known₁ ≡ known + 1 → numbers₁ ≡ set numbers known (n .layout .number)
+          → OnWay s at numbers₁ (set places known (pos + 4)) steps₁ known₁ next (st .rows) (length (bookImage (st .book)))
+      way-new numbers₁ steps₁ known₁ planned count is =
+          record {
+            book = st .book;
+            going = on;
+            planned = planned;
+            kept =
+                rw (count, is, n .is)
+                (kept-more s numbers places known (pos + 4) next (w .book) (n .layout) (w .kept) room-new (n .reads) (n .fresh));
+            size = refl;
+          }

@@ -1,6 +1,6 @@
 -- The equations of one element that functions over a book cite: which branch is taken, what it answers, and what it leaves in the lent octets.
 use Prim.Native.Nat.{ℕ, _+_, _≤_, _<_}
-use mathlib.Core.Path.{_≡_, refl, ap}
+use mathlib.Core.Path.{_≡_, refl, ap, subst}
 use mathlib.Core.List.{List}
 use mathlib.Core.Bool.{Bool}
 use mathlib.Core.Option.{some, none}
@@ -12,13 +12,15 @@ use Rattle.octets.specs.Writing.{Each, Octet}
 use Rattle.octets.proofs.Ends.{number-ok, number-no, refused}
 use Rattle.layouts.specs.Layout.{Layout, layoutAt}
 use Rattle.layouts.specs.Book.{Book, find, bookImage, bookIn, IsBook, learn}
+use Rattle.layouts.specs.Answers.{Looks}
+use Rattle.layouts.specs.declared.Looked.{Looked}
 use Rattle.layouts.proofs.Books.{Lent}
 use Rattle.layouts.proofs.Walks.{lent-book}
 use Rattle.rows.specs.Row.{Row, named, rowAt}
 use Rattle.rows.specs.Answers.{Shape, shape}
 use Rattle.elements.specs.Element.{Element, item, layout, row, finish, finishAt, layoutElement, rowElement, endElement, elementAt}
 use Rattle.elements.specs.Steps.{holding, leaves}
-use Rattle.elements.specs.Answers.{tells}
+use Rattle.elements.specs.Answers.{tells, Over}
 use Rattle.elements.specs.declared.Met.the-variants as met
 use Rattle.elements.specs.declared.Stepping.the-variants.{Done}
 use Rattle.elements.proofs.Went.{named-number}
@@ -47,6 +49,11 @@ module _ (s : List ℕ) (at rows : ℕ) (book : Book) where
           → endElement s at rows book ≡ ok (record { element = finish (be 4 s at) (be 8 s (at + 4)); rows = rows; book = book }) (at + 4 + 8)
       unfolding finishAt
       end-whole f = rw (number-ok s at 4 h, eq-eqb (be 4 s at) rows e, number-ok s (at + 4) 8 (omega arith), eq-eqb (at + 4 + 8) (length s) f) refl
+
+-- What was looked up of the number that stands at a place.
+pub looked-at : (s : List ℕ) (at : ℕ) (in-s : List ℕ) (looked : Looked) (used : ℕ) (book : Book) → Over s at in-s looked used book → at + 4 ≤ length s
+    → (x : Looked) → looked ≡ x → Looks in-s (be 4 s at) book x
+looked-at s at in-s looked used book o h x e = subst (Looks in-s (be 4 s at) book) e (subst (λ (n : ℕ). Looks in-s n book looked) (o .is h) (o .looks))
 
 -- A row, from its layout's number on.
 module _ (s : List ℕ) (at rows : ℕ) (book : Book) where

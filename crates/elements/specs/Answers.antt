@@ -1,15 +1,16 @@
 -- What the answers about an element say.
-use Prim.Native.Nat.{ℕ, _≤_}
+use Prim.Native.Nat.{ℕ, _+_, _≤_}
 use mathlib.Core.Path.{_≡_}
 use mathlib.Core.List.{List}
 use mathlib.Core.Bool.{Bool, true, false}
 use lib.ListN.{length}
-use Rattle.octets.specs.Reading.{Read, ok, no, _then_}
+use Rattle.octets.specs.Reading.{Read, ok, no, be}
 use Rattle.layouts.specs.Layout.{Layout}
-use Rattle.layouts.specs.Book.{Book, bookImage, bookIn, IsBook}
+use Rattle.layouts.specs.Book.{Book, bookImage}
+use Rattle.layouts.specs.Answers.{Looks}
+use Rattle.layouts.specs.declared.Looked.{Looked}
 use Rattle.rows.specs.Row.{Row}
 use Rattle.elements.specs.Element as element
-use Rattle.elements.specs.Steps.{leaves}
 use Rattle.elements.specs.declared.Met.{Met}
 use Rattle.elements.specs.declared.Met.the-variants as met
 use Rattle.elements.specs.declared.Step.{Step}
@@ -41,3 +42,10 @@ tells (no n p) = Refused n p
 abbrev pub countSays : Counting → Read ℕ
 countSays (counting.Rows n end) = ok n end
 countSays (counting.Refused n p) = no n p
+
+-- A book that uses so many octets and whose layouts stand in s, and where the number that stands at a place of a document was looked up among them.
+pub record Over (doc : List ℕ) (at : ℕ) (s : List ℕ) (looked : Looked) (used : ℕ) (book : Book) : Type 0 where
+  pub number : ℕ
+  pub is : at + 4 ≤ length doc → number ≡ be 4 doc at
+  pub looks : Looks s number book looked
+  pub size : length (bookImage book) ≡ used

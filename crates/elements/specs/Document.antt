@@ -8,9 +8,9 @@ use Rattle.octets.specs.Reading.{ok}
 use Rattle.octets.specs.Writing.{word, images}
 use Rattle.layouts.specs.Layout.{Layout, layoutImage, GoodLayout}
 use Rattle.layouts.specs.Book.{Book, find, learn}
-use Rattle.rows.specs.Row.{Row, rowImage, FieldsOf}
+use Rattle.rows.specs.Row.{rowImage, FieldsOf}
 use Rattle.headers.specs.Header.{Header, headerImage, GoodHeader}
-use Rattle.elements.specs.Element.{Item, layout, row, Element, item, finish}
+use Rattle.elements.specs.Element.{Item, layout, row, item, finish}
 use Rattle.elements.specs.Steps.{Placed, Reading}
 
 -- What a document means: a header, layouts and rows in their order, and the bits of the end time. The end count is that of the rows.

@@ -1,7 +1,6 @@
 -- One element: a kind, then a layout, a row or the end.
 use Prim.Native.Nat.{ℕ, _+_}
 use mathlib.Core.List.{List}
-use mathlib.Core.Bool.{Bool, true, false}
 use lib.ListN.{length}
 use lib.Dec.{eqb}
 use Rattle.octets.specs.Reading.{Read, ok, no, _then_, choose, number}

@@ -7,7 +7,7 @@ use lib.Dec.{leb}
 use Rattle.octets.specs.Reading.{Read, ok, no, _then_, choose}
 use Rattle.layouts.specs.Book.{Book, bookImage, bookOf}
 use Rattle.headers.specs.Header.{Header, headerAt}
-use Rattle.elements.specs.Element.{Item, layout, row, Element, item, finish, Stepped, elementAt}
+use Rattle.elements.specs.Element.{layout, row, Element, item, finish, Stepped, elementAt}
 
 -- Lent octets with a book at their start; what is behind it is as it was.
 abbrev pub holding : Book → List ℕ → List ℕ

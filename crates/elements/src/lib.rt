@@ -5,13 +5,13 @@ ghost use mathlib.Core.Bool.{true};
 ghost use mathlib.Core.List.{[]};
 ghost use Prim.Native.Nat.{ℕ, _+_, _≤_};
 ghost use lib.ListN.{length};
-ghost use Rattle.octets.specs.Reading.{ok, isOk};
+ghost use Rattle.octets.specs.Reading.{ok, isOk, be};
 ghost use Rattle.layouts.specs.Layout.{Layout, layoutAt};
 ghost use Rattle.layouts.specs.Book.{Book, bookImage, IsBook, bookIn};
-ghost use Rattle.layouts.specs.Answers.{Image, Holds};
+ghost use Rattle.layouts.specs.Answers.{Stood};
 ghost use Rattle.elements.specs.Element.{item, layout, layoutElement, rowElement, endElement, elementAt};
 ghost use Rattle.elements.specs.Steps.{leaves, elementsFrom, counted};
-ghost use Rattle.elements.specs.Answers.{tells, stepOf, isLastMet, countSays};
+ghost use Rattle.elements.specs.Answers.{tells, stepOf, isLastMet, countSays, Over};
 use layouts::Learning;
 use layouts::Looked;
 use octets::Ended;
@@ -72,27 +72,32 @@ fn end_step(doc: &[u8], at: usize, rows: usize, used: usize) -> Stepping
     })
 }
 
-// A row from its layout's number on, over the used octets of a book.
-fn row_step<'d, 'b>(doc: &'d [u8], at: usize, rows: usize, book: &'b [u8]) -> Stepping
-    requires { ⌜ (at ≤ length (now doc)) × (length (now doc) ≤ 1048576) × (rows ≤ 1048576) × (length (now book) ≤ 32768) × Holds (now book) ⌝ }
-    ensures { λ r. ⌜ ((b : Book) → Image (now (book .entry)) b → r ≡ tells (rowElement (now (doc .entry)) at rows b)) ⌝ }
+// A row from its layout's number on, by where that number was looked up.
+fn row_step<'d, 's>(
+    doc: &'d [u8],
+    at: usize,
+    rows: usize,
+    s: &'s [u8],
+    looked: Looked,
+    used: usize,
+) -> Stepping
+    requires { ⌜ (at ≤ length (now doc)) × (length (now doc) ≤ 1048576) × (rows ≤ 1048576) × (length (now s) ≤ 1048576) × Stood (now s) looked ⌝ }
+    ensures { λ r. ⌜ ((b : Book) → Over (now (doc .entry)) at (now (s .entry)) looked used b → r ≡ tells (rowElement (now (doc .entry)) at rows b)) ⌝ }
 {
     if doc.len() < at + 4 {
         return Stepping::Refused(1, at);
     }
-    let number = octets::u32_at(doc, at);
-    let looked = layouts::look_in(book, number);
     match looked {
         Looked::Missing(k) => Stepping::Refused(12, at),
         Looked::There(place) => {
-            let row = rows::row_end(doc, at, book, place);
+            let row = rows::row_end(doc, at, s, place);
             match row {
                 Rowed::Refused(n, p) => Stepping::Refused(n, p),
                 Rowed::Row(stated, count, next) => Stepping::Done(Step {
-                    met: Met::Row(number, stated, count),
+                    met: Met::Row(octets::u32_at(doc, at), stated, count),
                     next,
                     rows: rows + 1,
-                    used: book.len(),
+                    used,
                 }),
             }
         }
@@ -115,23 +120,24 @@ fn layout_told(doc: &[u8], at: usize, next: usize, rows: usize, used: usize) -> 
     }
 }
 
-// A layout from its number on, learnt by the book.
-fn layout_step<'d, 'b>(
+// A layout from its number on, by where that number was looked up.
+fn layout_step<'d, 's>(
     doc: &'d [u8],
     at: usize,
     rows: usize,
-    book: &'b mut [u8],
+    s: &'s [u8],
+    looked: Looked,
     used: usize,
 ) -> Stepping
-    requires { ⌜ (at ≤ length (now doc)) × (length (now doc) ≤ 1048576) × IsBook (now book) used ⌝ }
-    ensures { λ r. ⌜ (r ≡ tells (layoutElement (now (doc .entry)) at rows (bookIn (now (book .entry)) used))) × (now (book .exit) ≡ leaves (now (book .entry)) (layoutElement (now (doc .entry)) at rows (bookIn (now (book .entry)) used))) ⌝ }
+    requires { ⌜ (at ≤ length (now doc)) × (length (now doc) ≤ 1048576) × (length (now s) ≤ 1048576) × (used ≤ 32768) × Stood (now s) looked ⌝ }
+    ensures { λ r. ⌜ ((b : Book) → Over (now (doc .entry)) at (now (s .entry)) looked used b → r ≡ tells (layoutElement (now (doc .entry)) at rows b)) ⌝ }
 {
     let end = layouts::layout_end(doc, at);
     match end {
         Ended::Refused(n, p) => Stepping::Refused(n, p),
         Ended::End(next) => {
-            let learnt = layouts::learn(doc, at, next, book, used);
-            match learnt {
+            let judged = layouts::judge_by(doc, at, next, s, looked, used);
+            match judged {
                 Learning::Refused(n) => Stepping::Refused(n, at),
                 Learning::Known => Stepping::Done(layout_told(doc, at, next, rows, used)),
                 Learning::New(more) => Stepping::Done(layout_told(doc, at, next, rows, more)),
@@ -140,7 +146,52 @@ fn layout_step<'d, 'b>(
     }
 }
 
-// One element at any place, over a book that is known to be good.
+// One element at any place, by where the number behind its kind was looked up among the layouts of a book, which stand in other octets.
+fn element_over<'d, 's>(
+    doc: &'d [u8],
+    at: usize,
+    rows: usize,
+    s: &'s [u8],
+    looked: Looked,
+    used: usize,
+) -> Stepping
+    requires { ⌜ (length (now doc) ≤ 1048576) × (rows ≤ 1048576) × (length (now s) ≤ 1048576) × (used ≤ 32768) × Stood (now s) looked ⌝ }
+    ensures { λ r. ⌜ ((b : Book) → Over (now (doc .entry)) (at + 4) (now (s .entry)) looked used b → r ≡ tells (elementAt (now (doc .entry)) at rows b)) ⌝ }
+{
+    if doc.len() < at {
+        return Stepping::Refused(1, at);
+    }
+    if doc.len() < at + 4 {
+        return Stepping::Refused(1, at);
+    }
+    let kind = octets::u32_at(doc, at);
+    if kind == 1 {
+        return layout_step(doc, at + 4, rows, s, looked, used);
+    }
+    if kind == 2 {
+        return row_step(doc, at + 4, rows, s, looked, used);
+    }
+    if kind == 3 {
+        return end_step(doc, at + 4, rows, used);
+    }
+    Stepping::Refused(7, at)
+}
+
+// The number behind the kind at a place; any where the document ends before it.
+fn number_behind(doc: &[u8], at: usize) -> u32
+    requires { ⌜ length (now doc) ≤ 1048576 ⌝ }
+    ensures { λ r. ⌜ (at + 4 + 4 ≤ length (now (doc .entry)) → r ≡ be 4 (now (doc .entry)) (at + 4)) ⌝ }
+{
+    if doc.len() < at {
+        return 0;
+    }
+    if doc.len() < at + 8 {
+        return 0;
+    }
+    octets::u32_at(doc, at + 4)
+}
+
+// One element at any place, over a book that is known to be good; a new layout's octets are put behind the used ones.
 pub fn element<'d, 'b>(
     doc: &'d [u8],
     at: usize,
@@ -151,23 +202,19 @@ pub fn element<'d, 'b>(
     requires { ⌜ (length (now doc) ≤ 1048576) × (rows ≤ 1048576) × IsBook (now book) used ⌝ }
     ensures { λ r. ⌜ (r ≡ tells (elementAt (now (doc .entry)) at rows (bookIn (now (book .entry)) used))) × (now (book .exit) ≡ leaves (now (book .entry)) (elementAt (now (doc .entry)) at rows (bookIn (now (book .entry)) used))) ⌝ }
 {
-    if doc.len() < at {
-        return Stepping::Refused(1, at);
+    let looked = layouts::look_in(&book[..used], number_behind(doc, at));
+    let one = element_over(doc, at, rows, &book[..used], looked, used);
+    match one {
+        Stepping::Refused(n, p) => Stepping::Refused(n, p),
+        Stepping::Done(step) => {
+            if used < step.used {
+                let start = at + 4;
+                let next = step.next;
+                let filled = octets::lay(book, used, &doc[start..next]);
+            }
+            Stepping::Done(step)
+        }
     }
-    if doc.len() < at + 4 {
-        return Stepping::Refused(1, at);
-    }
-    let kind = octets::u32_at(doc, at);
-    if kind == 1 {
-        return layout_step(doc, at + 4, rows, book, used);
-    }
-    if kind == 2 {
-        return row_step(doc, at + 4, rows, &book[..used]);
-    }
-    if kind == 3 {
-        return end_step(doc, at + 4, rows, used);
-    }
-    Stepping::Refused(7, at)
 }
 
 // Whether an element is the end.
@@ -181,13 +228,13 @@ fn is_end(met: Met) -> bool
     }
 }
 
-// The rows from a place to the end, over a book of its own that is empty there and never checked again.
+// The rows from a place to the end, from an empty book; its layouts are kept by their places in the document.
 pub fn rows_from(doc: &[u8], at: usize) -> Counting
     requires { ⌜ (at ≤ length (now doc)) × (length (now doc) ≤ 1048576) ⌝ }
     ensures { λ r. ⌜ countSays r ≡ counted 0 (elementsFrom (length (now (doc .entry)) + 1) (now (doc .entry)) at 0 []) ⌝ }
 {
-    let mut book = [0u8; 32768];
     let mut numbers = [0u32; 64];
+    let mut places = [0usize; 64];
     let mut steps = [0u16; 4160];
     let mut known: usize = 0;
     let mut last: usize = 0;
@@ -203,7 +250,8 @@ pub fn rows_from(doc: &[u8], at: usize) -> Counting
                 last = i;
             }
             Quick::Unsure => {
-                let one = element(doc, pos, rows, &mut book, used);
+                let looked = plans::look_up(&numbers, &places, known, number_behind(doc, pos));
+                let one = element_over(doc, pos, rows, doc, looked, used);
                 match one {
                     Stepping::Refused(n, p) => {
                         return Counting::Refused(n, p);
@@ -214,6 +262,7 @@ pub fn rows_from(doc: &[u8], at: usize) -> Counting
                             return Counting::Rows(step.rows, step.next);
                         }
                         if used < step.used {
+                            places[known] = pos + 4;
                             known = plans::note(doc, pos + 4, &mut numbers, &mut steps, known);
                         }
                         pos = step.next;

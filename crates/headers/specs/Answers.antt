@@ -3,7 +3,7 @@ use Prim.Native.Nat.{ℕ, _+_}
 use mathlib.Core.Path.{_≡_}
 use mathlib.Core.List.{List}
 use lib.ListN.{length}
-use Rattle.octets.specs.Reading.{ok, no, be, number, text, run}
+use Rattle.octets.specs.Reading.{ok, no, number, text, run}
 use Rattle.headers.specs.Header.{Header, namespaceAt, idAt, headerFrom}
 use Rattle.headers.specs.declared.Places.{Places}
 use Rattle.headers.specs.declared.Placing.{Placing}

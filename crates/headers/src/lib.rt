@@ -1,7 +1,7 @@
 // The header: its end or its refusal, and the places of its fields.
 
 ghost use mathlib.Core.Path.{_≡_};
-ghost use Prim.Native.Nat.{ℕ, _+_, _*_, _≤_};
+ghost use Prim.Native.Nat.{_+_, _*_, _≤_};
 ghost use lib.ListN.{length};
 ghost use Rattle.octets.specs.Reading.{ends, _then_, number, text, count, exactly, run};
 ghost use Rattle.octets.specs.Answers.{says, Within};

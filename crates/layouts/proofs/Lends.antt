@@ -14,13 +14,11 @@ use Rattle.octets.specs.Reading.{Read, ok, no, choose, part, same}
 use Rattle.octets.specs.Writing.{Each, Octet, over}
 use Rattle.layouts.specs.Layout.{Layout, layoutAt, layoutImage, GoodLayout}
 use Rattle.layouts.specs.Book.{Book, find, bookImage, bookOf, layoutsAt, bookIn, IsBook, learn}
-use Rattle.layouts.specs.Answers.{Learns}
-use Rattle.layouts.specs.declared.Learning.{Learning}
-use Rattle.layouts.specs.declared.Learning.the-variants.{Known, New, Refused}
+use Rattle.layouts.specs.Answers.{Looks, Stood}
+use Rattle.layouts.specs.declared.Looked.{Looked}
+use Rattle.layouts.specs.declared.Looked.the-variants.{There, Missing}
 use Rattle.layouts.proofs.Layouts.{layout-forth}
-use Rattle.layouts.proofs.Books.{GoodBook, Lent, image-snoc}
-use Rattle.layouts.proofs.Growing.{grown}
-use Rattle.layouts.proofs.Walks.{lent-book}
+use Rattle.layouts.proofs.Books.{Lent, image-snoc}
 
 -- A layout's octets where it stands.
 pub layout-part : (s : List ℕ) (at next : ℕ) (l : Layout) → Each Octet s → at ≤ length s → layoutAt s at ≡ ok l next
@@ -32,6 +30,11 @@ pub layout-length : (s : List ℕ) (at next : ℕ) (l : Layout) → Each Octet s
 layout-length s at next l o h e =
     let (g, le, inside, is) = layout-part s at next l o h e in
     ap length (sym is) ∙ length-take-le (next - at) (drop at s) (rw (length-drop at s) (omega arith))
+
+-- What was looked up stands where it was found.
+pub stood : (s : List ℕ) (n : ℕ) (book : Book) (x : Looked) → Looks s n book x → Stood s x
+stood s n book (There p) w = record { layout = w .layout; next = w .next; reads = w .reads }
+stood s n book (Missing k) w = tt
 
 -- What learning answers, by what was found.
 module _ (book : Book) (l : Layout) (at : ℕ) where
@@ -56,28 +59,15 @@ module _ (book : Book) (l : Layout) (at : ℕ) where
       never false = refl
 
 -- A new layout's octets right behind the used ones are the book's with it.
-pub put-learnt : (octets exit : List ℕ) (used at v : ℕ) (book : Book) (l : Layout) → Lent octets used book → learn book l at ≡ ok (book ++ l ∷ []) at
-    → v ≡ used + length (layoutImage l) → exit ≡ over octets used (layoutImage l) → Learns octets exit book l at (New v)
+pub put-learnt : (octets : List ℕ) (used : ℕ) (book : Book) (l : Layout) → Lent octets used book
+    → over octets used (layoutImage l) ≡ bookImage (book ++ l ∷ []) ++ drop (length (bookImage (book ++ l ∷ []))) octets
 unfolding over
-put-learnt octets exit used at v book l h e q x = (
-  e,
-  rw (image-snoc book l, length-append (bookImage book) (layoutImage l)) (omega (arith, h .size)),
-  x ∙ rw (q, image-snoc book l, h .image, append-assoc) refl,
-)
+put-learnt octets used book l h =
+    let long : length (bookImage (book ++ l ∷ [])) ≡ used + length (layoutImage l) =
+    rw (image-snoc book l, length-append (bookImage book) (layoutImage l)) (ap (λ (n : ℕ). n + length (layoutImage l)) (h .size)) in
+    rw (long, image-snoc book l, h .image, append-assoc) refl
 
 -- A book of which none is used is empty.
 pub empty-book : (octets : List ℕ) → 32768 ≤ length octets → IsBook octets 0 × (bookIn octets 0 ≡ [])
 unfolding bookIn bookOf layoutsAt
 empty-book octets h = (rw (le-leb 32768 (length octets) h) refl, rw (le-leb 32768 (length octets) h) refl)
-
--- Learning a layout leaves the lent octets as many.
-module _ (entry exit : List ℕ) (used at : ℕ) (l : Layout) (o : Each Octet entry) (is : IsBook entry used) (g : GoodLayout l) where
-  new-good : learn (bookIn entry used) l at ≡ ok (bookIn entry used ++ l ∷ []) at → GoodBook (bookIn entry used ++ l ∷ [])
-  new-good e = grown (bookIn entry used) l at (bookIn entry used ++ l ∷ []) at (lent-book entry used o is .good) g e .good
-
-  pub learns-length : (r : Learning) → Learns entry exit (bookIn entry used) l at r → length exit ≡ length entry
-  learns-length Known h = ap length (h .1)
-  learns-length (New v) h =
-      ap length (h .2) ∙ rw (length-append (bookImage (bookIn entry used ++ l ∷ [])) (drop v entry), length-drop v entry)
-      (omega (arith, h .1, new-good (h .0) .small, lent-book entry used o is .room))
-  learns-length (Refused n) h = ap length (h .1)

@@ -47,6 +47,7 @@ pub record Fields (s : List ℕ) (at : ℕ) (l : Layout) (end mid : ℕ) : Type 
   pub number : be 4 s at ≡ l .number
   pub type-name : text s (at + 4) ≡ ok (l .type-name) mid
   pub inside : mid + 4 ≤ length s
+  pub few : be 4 s mid ≤ 64
   pub count : be 4 s mid ≡ length (l .attributes)
   pub attributes : run (attributeAt s) (be 4 s mid) (mid + 4) ≡ ok (l .attributes) end
 
@@ -90,6 +91,7 @@ module _ (s : List ℕ) (at : ℕ) where
           number = ok-value f₁ e₁ ∙ ap (λ (x : Layout). x .number) same;
           type-name = ap (text s) (sym p₁) ∙ (e₃ ∙ ap (λ (x : Layout). ok (x .type-name) mid) same);
           inside = room;
+          few = few;
           count = sym q₅ ∙ (sym (run-length (attributeAt s) k first last attributes e₇) ∙ ap (λ (x : Layout). length (x .attributes)) same);
           attributes = rw (← q₅, ← p₅) (e₇ ∙ (ap (λ (x : Layout). ok (x .attributes) last) same ∙ ap (ok (l .attributes)) place));
         },

@@ -14,8 +14,6 @@ use Rattle.layouts.specs.declared.Looked.{Looked}
 use Rattle.layouts.specs.declared.Looked.the-variants.{There, Missing}
 use Rattle.layouts.specs.declared.Found.{Found}
 use Rattle.layouts.specs.declared.Found.the-variants.{At, Nothing}
-use Rattle.layouts.specs.declared.Judged.{Judged}
-use Rattle.layouts.specs.declared.Judged.the-variants.{Same, Fresh, Bad}
 use Rattle.layouts.specs.declared.Learning.{Learning}
 use Rattle.layouts.specs.declared.Learning.the-variants.{Known, New, Refused}
 
@@ -56,19 +54,16 @@ pub record Reads (s : List ℕ) (p : ℕ) : Type 0 where
   pub next : ℕ
   pub reads : layoutAt s p ≡ ok layout next
 
--- What learning a layout at a place is to do to a book that uses so many octets: a new layout fits right behind them.
-abbrev pub Judges : ℕ → Book → Layout → ℕ → Judged → Type 0
-Judges used book l at Same = learn book l at ≡ ok book at
-Judges used book l at (Fresh p) = (learn book l at ≡ ok (book ++ l ∷ []) at) × (p ≡ used) × (used + length (layoutImage l) ≤ 32768)
-Judges used book l at (Bad n) = learn book l at ≡ no n at
+-- What was looked up stands there, whatever the book.
+abbrev pub Stood : List ℕ → Looked → Type 0
+Stood s (There p) = Reads s p
+Stood s (Missing k) = Unit {0}
 
--- What learning a layout at a place answers, and what the lent octets hold then: known or refused, they are as they were; new, the layout's octets stand right behind the used ones and all behind them is as it was.
-abbrev pub Learns : List ℕ → List ℕ → Book → Layout → ℕ → Learning → Type 0
-Learns entry exit book l at Known = (learn book l at ≡ ok book at) × (exit ≡ entry)
-Learns entry exit book l at (New used) =
-    (learn book l at ≡ ok (book ++ l ∷ []) at) × (used ≡ length (bookImage (book ++ l ∷ [])))
-    × (exit ≡ bookImage (book ++ l ∷ []) ++ drop used entry)
-Learns entry exit book l at (Refused n) = (learn book l at ≡ no n at) × (exit ≡ entry)
+-- What learning a layout at a place does to a book that uses so many octets; a new one fits right behind them.
+abbrev pub Judges : ℕ → Book → Layout → ℕ → Learning → Type 0
+Judges used book l at Known = learn book l at ≡ ok book at
+Judges used book l at (New v) = (learn book l at ≡ ok (book ++ l ∷ []) at) × (v ≡ used + length (layoutImage l)) × (v ≤ 32768)
+Judges used book l at (Refused n) = learn book l at ≡ no n at
 
 -- A layout of more than n attributes stands at a place.
 pub record Has (s : List ℕ) (at n : ℕ) : Type 0 where

@@ -1,4 +1,4 @@
-// Layouts and the book: a layout's end and parts at a place, a lent book checked, searched and added to.
+// Layouts and the book: a layout's end and parts at a place, a lent book checked and searched, and what it makes of a layout.
 
 ghost use mathlib.Core.Path.{_≡_};
 ghost use mathlib.Core.Bool.{true};
@@ -9,8 +9,8 @@ ghost use Rattle.octets.specs.Reading.{ok, ends, isOk, text, run, same};
 ghost use Rattle.octets.specs.Answers.{says, Within};
 ghost use Rattle.kinds.specs.Kinds.{kindAt};
 ghost use Rattle.layouts.specs.Layout.{Attribute, Layout, attributeAt, layoutAt, layoutImage};
-ghost use Rattle.layouts.specs.Book.{Book, bookOf, bookIn, IsBook, layoutsAt};
-ghost use Rattle.layouts.specs.Answers.{among, Image, Holds, Looks, Finds, Reads, Judges, Learns, Nth, Has};
+ghost use Rattle.layouts.specs.Book.{Book, bookImage, bookOf, bookIn, IsBook, layoutsAt};
+ghost use Rattle.layouts.specs.Answers.{among, Image, Holds, Looks, Stood, Finds, Reads, Judges, Nth, Has};
 use kinds::Basic;
 use kinds::Kind;
 use kinds::Kinded;
@@ -29,18 +29,11 @@ pub enum Found {
     Nothing,
 }
 
-// A layout met: known already, new with the octets that the book uses then, or refused by number.
+// How a layout stands to a book: known already, new with the octets that the book uses then, or refused by number.
 pub enum Learning {
     Known,
     New(usize),
     Refused(u32),
-}
-
-// How a layout stands to a book: known, new with the place to put it at, or refused by number.
-pub enum Judged {
-    Same,
-    Fresh(usize),
-    Bad(u32),
 }
 
 // The place behind the type at a place.
@@ -251,50 +244,45 @@ fn same_layout<'d, 'b>(doc: &'d [u8], at: usize, end: usize, s: &'b [u8], p: usi
     octets::octets_same(&s[p..q], &doc[at..end])
 }
 
-// How the layout from a place of a document to its end stands to the used octets of a good book.
-pub fn judge<'d, 'b>(doc: &'d [u8], at: usize, end: usize, s: &'b [u8]) -> Judged
-    requires { ⌜ (at ≤ end) × (end ≤ length (now doc)) × (ends (layoutAt (now doc) at) ≡ ok end end) × (length (now s) ≤ 32768) × Holds (now s) ⌝ }
-    ensures { λ r. ⌜ ((book : Book) (l : Layout) → Image (now (s .entry)) book → layoutAt (now (doc .entry)) at ≡ ok l end → Judges (length (now (s .entry))) book l at r) ⌝ }
+// How the layout from a place of a document to its end stands to a book that uses so many octets, by where its number was looked up among the book's layouts, which stand in other octets.
+pub fn judge_by<'d, 's>(
+    doc: &'d [u8],
+    at: usize,
+    end: usize,
+    s: &'s [u8],
+    looked: Looked,
+    used: usize,
+) -> Learning
+    requires { ⌜ (at ≤ end) × (end ≤ length (now doc)) × (ends (layoutAt (now doc) at) ≡ ok end end) × (length (now s) ≤ 1048576) × (used ≤ 32768) × Stood (now s) looked ⌝ }
+    ensures { λ r. ⌜ ((book : Book) (l : Layout) → layoutAt (now (doc .entry)) at ≡ ok l end → Looks (now (s .entry)) (l .number) book looked → length (bookImage book) ≡ used → Judges used book l at r) ⌝ }
 {
-    let used = s.len();
-    let looked = look_in(s, octets::u32_at(doc, at));
     match looked {
         Looked::There(p) => {
             if same_layout(doc, at, end, s, p) {
-                Judged::Same
+                Learning::Known
             } else {
-                Judged::Bad(10)
+                Learning::Refused(10)
             }
         }
         Looked::Missing(k) => {
             if 64 <= k {
-                return Judged::Bad(11);
+                return Learning::Refused(11);
             }
             if 32768 - used < end - at {
-                return Judged::Bad(11);
+                return Learning::Refused(11);
             }
-            Judged::Fresh(used)
+            Learning::New(used + (end - at))
         }
     }
 }
 
-// Learns the layout from a place of a document to its end: a new one's octets are put behind the used ones.
-pub fn learn<'d, 'b>(
-    doc: &'d [u8],
-    at: usize,
-    end: usize,
-    book: &'b mut [u8],
-    used: usize,
-) -> Learning
-    requires { ⌜ (at ≤ end) × (end ≤ length (now doc)) × (ends (layoutAt (now doc) at) ≡ ok end end) × IsBook (now book) used ⌝ }
-    ensures { λ r. ⌜ ((l : Layout) → layoutAt (now (doc .entry)) at ≡ ok l end → Learns (now (book .entry)) (now (book .exit)) (bookIn (now (book .entry)) used) l at r) ⌝ }
+// How the layout from a place of a document to its end stands to the used octets of a good book.
+pub fn judge<'d, 'b>(doc: &'d [u8], at: usize, end: usize, s: &'b [u8]) -> Learning
+    requires { ⌜ (at ≤ end) × (end ≤ length (now doc)) × (ends (layoutAt (now doc) at) ≡ ok end end) × (length (now s) ≤ 32768) × Holds (now s) ⌝ }
+    ensures { λ r. ⌜ ((book : Book) (l : Layout) → Image (now (s .entry)) book → layoutAt (now (doc .entry)) at ≡ ok l end → Judges (length (now (s .entry))) book l at r) ⌝ }
 {
-    let judged = judge(doc, at, end, &book[..used]);
-    match judged {
-        Judged::Same => Learning::Known,
-        Judged::Bad(n) => Learning::Refused(n),
-        Judged::Fresh(place) => Learning::New(octets::lay(book, place, &doc[at..end])),
-    }
+    let looked = look_in(s, octets::u32_at(doc, at));
+    judge_by(doc, at, end, s, looked, s.len())
 }
 
 // The number of a layout that is known to be accepted.

@@ -10,16 +10,16 @@ use lib.Seq.{take-at}
 use Rattle.octets.specs.Reading.{ok, no}
 use Rattle.octets.specs.Writing.{Each, Octet}
 use Rattle.layouts.specs.Layout.{layoutImage}
-use Rattle.layouts.specs.Book.{Book, bookImage, bookOf, bookIn}
-use Rattle.layouts.proofs.Books.{Lent, image-snoc}
+use Rattle.layouts.specs.Book.{Book, bookImage, bookOf, bookIn, IsBook}
+use Rattle.layouts.proofs.Books.{GoodBook, Lent, image-snoc}
 use Rattle.layouts.proofs.Growing.{learnt}
 use Rattle.layouts.proofs.Lends.{empty-book}
 use Rattle.layouts.proofs.Walks.{lent-book}
 use Rattle.elements.specs.Element.{Stepped, elementAt}
 use Rattle.elements.specs.Steps.{holding, lentBook, stepAt, isLast}
-use Rattle.elements.proofs.Going.{Going, going-start, going-on, element-place, element-book, holding-book}
+use Rattle.elements.proofs.Going.{few-rows, element-place, element-book, holding-octets, holding-length, holding-book}
 use Rattle.elements.proofs.Before.{lent-is}
-use Rattle.elements.proofs.Went.{Went, at-layout, at-row, at-finish, went}
+use Rattle.elements.proofs.Went.{Went, at-layout, at-row, at-finish, went, step-rows}
 use Rattle.printing.specs.Text.{Prints}
 use Rattle.printing.proofs.Puts.{then, nothing}
 use Rattle.listing.specs.Lines.{Puts, refusalText, ElementText, LinesFrom, refused, last, more}
@@ -50,8 +50,16 @@ kept : (s : List ℕ) (at rows used : ℕ) (octets other : List ℕ) → length 
 unfolding stepAt lentBook bookOf
 kept s at rows used octets other long front = rw (long, front) refl
 
--- A step on the way, which the run's book and rows do not refuse.
-module _ (s : List ℕ) (short : length s ≤ 1048576) (o : Each Octet s) (at : ℕ) (octets : List ℕ) (pos rows used : ℕ) (g : Going s at octets pos rows used) where
+-- Where a listing stands: at a place of the document, over lent octets that hold the book of the elements passed.
+pub record Standing (s octets : List ℕ) (pos rows used : ℕ) : Type 0 where
+  pub inside : pos ≤ length s
+  pub behind : rows ≤ pos
+  pub size : length octets ≡ 32768
+  pub lent : Each Octet octets
+  pub is : IsBook octets used
+
+-- A step from there, which the book and the rows do not refuse.
+module _ (s : List ℕ) (short : length s ≤ 1048576) (o : Each Octet s) (octets : List ℕ) (pos rows used : ℕ) (g : Standing s octets pos rows used) where
   here : stepAt s pos rows octets used ≡ elementAt s pos rows (bookIn octets used)
   unfolding stepAt
   here = rw (lent-is s rows octets used short (g .is) (omega (arith, g .behind, g .inside))) refl
@@ -70,9 +78,26 @@ module _ (s : List ℕ) (short : length s ≤ 1048576) (o : Each Octet s) (at : 
         ∙ (kept s pos rows used octets (holding (st .book) octets) (ap length (sym is) ∙ size)
         (element-front octets used (bookIn octets used) (lent-book octets used (g .lent) (g .is)) s pos rows st next read) ∙ e)
 
+    -- The book behind it.
+    good : GoodBook (st .book)
+    good = element-book s short o pos rows (bookIn octets used) (g .inside) st next read (lent-book octets used (g .lent) (g .is) .good)
+
+    left : bookIn (holding (st .book) octets) (length (bookImage (st .book))) ≡ st .book
+    left = holding-book (st .book) octets good (omega (arith, g .size)) .1
+
+    stands-on : Standing s (holding (st .book) octets) next (st .rows) (length (bookImage (st .book)))
+    stands-on =
+        record {
+          inside = further .1;
+          behind = omega (arith, g .behind, further .0, step-rows s pos rows (bookIn octets used) st next read, few-rows (st .element));
+          size = holding-length (st .book) octets good (omega (arith, g .size)) ∙ g .size;
+          lent = holding-octets (st .book) octets good (omega (arith, g .size)) (g .lent);
+          is = holding-book (st .book) octets good (omega (arith, g .size)) .0;
+        }
+
 -- What holds on the way.
 pub record Passed (s : List ℕ) (at : ℕ) (before : List ℕ) (n : ℕ) (octets : List ℕ) (pos rows used : ℕ) (after : List ℕ) (to : ℕ) : Type 0 where
-  pub going : Going s at octets pos rows used
+  pub stands : Standing s octets pos rows used
   pub text : List ℕ
   pub prints : Prints before n text after to
   pub lines : (rest : List ℕ) → LinesFrom s pos rows (bookIn octets used) rest → LinesFrom s at 0 [] (text ++ rest)
@@ -80,11 +105,12 @@ pub record Passed (s : List ℕ) (at : ℕ) (before : List ℕ) (n : ℕ) (octet
 pub passed-start : (s : List ℕ) (at : ℕ) (before : List ℕ) (n : ℕ) (octets : List ℕ) → at ≤ length s → Each Octet octets → length octets ≡ 32768
     → Passed s at before n octets at 0 0 before n
 passed-start s at before n octets h o size =
+    let (is, none) = empty-book octets (omega arith) in
     record {
-      going = going-start s at octets h o size;
+      stands = record { inside = h; behind = omega arith; size = size; lent = o; is = is };
       text = [];
       prints = nothing before n;
-      lines = λ rest l. subst (λ (b : Book). LinesFrom s at 0 b rest) (empty-book octets (omega arith) .1) l;
+      lines = λ rest l. subst (λ (b : Book). LinesFrom s at 0 b rest) none l;
     }
 
 module _ (s : List ℕ) (short : length s ≤ 1048576) (o : Each Octet s) (at : ℕ) (before : List ℕ) (n : ℕ) (octets : List ℕ) (pos rows used : ℕ) (mid : List ℕ)
@@ -94,13 +120,13 @@ module _ (s : List ℕ) (short : length s ≤ 1048576) (o : Each Octet s) (at : 
   passed-refused number place e put =
       record {
         text = p .text ++ refusalText number place;
-        right = p .lines (refusalText number place) (refused number place (sym (here s short o at octets pos rows used (p .going)) ∙ e));
+        right = p .lines (refusalText number place) (refused number place (sym (here s short o octets pos rows used (p .stands)) ∙ e));
         prints = then (p .prints) put;
       }
 
   module _ (st : Stepped) (next : ℕ) (e : stepAt s pos rows octets used ≡ ok st next) (put : Puts (ElementText pos (st .element)) mid m after to) where
     is : elementAt s pos rows (bookIn octets used) ≡ ok st next
-    is = read s short o at octets pos rows used (p .going) st next e
+    is = read s short o octets pos rows used (p .stands) st next e
 
     pub passed-last : isLast (st .element) ≡ true → Puts (LinesFrom s at 0 []) before n after to
     passed-last t =
@@ -112,15 +138,11 @@ module _ (s : List ℕ) (short : length s ≤ 1048576) (o : Each Octet s) (at : 
 
     pub passed-more : isLast (st .element) ≡ false → Passed s at before n (holding (st .book) octets) next (st .rows) (length (bookImage (st .book))) after to
     passed-more t =
-        let g = p .going in
-        let l = lent-book octets used (g .lent) (g .is) in
-        let good = element-book s short o pos rows (bookIn octets used) (g .inside) st next is (l .good) in
-        let book = holding-book (st .book) octets good (l .room) .1 in
         record {
-          going = going-on s short at octets pos rows used g st next is o t;
+          stands = stands-on s short o octets pos rows used (p .stands) st next e;
           text = p .text ++ put .text;
           prints = then (p .prints) (put .prints);
           lines = λ rest from.
               subst (LinesFrom s at 0 []) (sym (append-assoc (p .text) (put .text) rest))
-              (p .lines (put .text ++ rest) (more st next is t (put .right) (subst (λ (b : Book). LinesFrom s next (st .rows) b rest) book from)));
+              (p .lines (put .text ++ rest) (more st next is t (put .right) (subst (λ (b : Book). LinesFrom s next (st .rows) b rest) (left s short o octets pos rows used (p .stands) st next e) from)));
         }

@@ -3,7 +3,7 @@
 ghost use mathlib.Core.Path.{_≡_};
 ghost use mathlib.Core.List.{_++_};
 ghost use Prim.Native.Nat.{_+_, _≤_, _<_};
-ghost use lib.ListN.{length, take, drop};
+ghost use lib.ListN.{length, drop};
 ghost use Rattle.octets.specs.Reading.{Room, reach, be, part, same, ends, octetsIn, text, count};
 ghost use Rattle.octets.specs.Writing.{word, over};
 ghost use Rattle.octets.specs.Answers.{says, counts, reached, Within, Counting, Reaching};

@@ -1,22 +1,24 @@
 -- Plans kept: they go with every book that finds what theirs finds, one more is added behind them, and a row passed by one is a row of the book.
+-- Layouts kept by their places: one more is added behind them too.
 use Prim.Native.Nat.{ℕ, _+_, _*_, _≤_, _<_}
 use mathlib.Core.Path.{_≡_, refl, sym, ap, _∙_, subst}
-use mathlib.Core.List.{List, []}
+use mathlib.Core.List.{List, [], _∷_, _++_}
 use mathlib.Core.Bool.{Bool, true, false}
-use mathlib.Core.Option.{some}
+use mathlib.Core.Option.{some, none}
 use native.Mathlib.Omega.{arith}
-use lib.ListN.{length, getD, set, take, length-set}
+use lib.ListN.{length, getD, set, take, length-set, length-append}
 use lib.Seq.{getD-set-same, getD-set-other}
 use lib.Dec.{ltb}
 use borrow.Author.Tests.{ltb-true, ltb-false}
 use Rattle.octets.specs.Reading.{ok, ends, be, document, stated, number}
 use Rattle.octets.proofs.Ends.{number-ok, ended}
-use Rattle.layouts.specs.Layout.{Layout}
+use Rattle.layouts.specs.Layout.{Layout, layoutAt}
 use Rattle.layouts.specs.Book.{Book, find}
-use Rattle.layouts.proofs.Finding.{Within}
+use Rattle.layouts.specs.Answers.{Stands}
+use Rattle.layouts.proofs.Finding.{Within, find-here, find-skip, find-nil, find-front, find-behind}
 use Rattle.rows.specs.Row.{Field, Row, valuesAt, rowAt}
 use Rattle.rows.proofs.Lengths.{values-open, values-stated, filled-ok}
-use Rattle.plans.specs.Plan.{planOf, Begins, Entry, Planned}
+use Rattle.plans.specs.Plan.{planOf, Begins, Entry, Planned, Lacks, Kept}
 use Rattle.plans.specs.Answers.{Follows, Lasts}
 use Rattle.plans.specs.declared.Passed.{Passed}
 use Rattle.plans.specs.declared.Passed.the-variants as passed
@@ -65,6 +67,66 @@ module _ (numbers steps more : List ℕ) (known number : ℕ) (book : Book) (l :
       go : (i : ℕ) → i < known + 1 → (b : Bool) → ltb i known ≡ b → Entry (set numbers known number) more i book
       go i h true t = let m = ltb-true i known t in old i m (p .entry i m)
       go i h false t = let m = ltb-false i known t in last i (omega arith)
+
+-- One number more that is another.
+pub lacks-more : (numbers : List ℕ) (known n : ℕ) → Lacks numbers known n → (getD numbers known 0 ≡ n → ⊥) → Lacks numbers (known + 1) n
+lacks-more numbers known n lacks other i h e = go (ltb i known) refl
+  where
+    go : (b : Bool) → ltb i known ≡ b → ⊥
+    go true t = lacks i (ltb-true i known t) e
+    go false t = let m = ltb-false i known t in let last : i ≡ known = omega arith in other (ap (λ (k : ℕ). getD numbers k 0) (sym last) ∙ e)
+
+-- Layouts kept by their places: none, and one more.
+pub kept-none : (doc numbers places : List ℕ) → length numbers ≡ 64 → length places ≡ 64 → Kept doc numbers places 0 []
+kept-none doc numbers places n p =
+    record { numbers-long = n; places-long = p; count = refl; entry = λ i h. absurd (omega arith); all = λ m _. find-nil m }
+
+module _ (doc numbers places : List ℕ) (known at next : ℕ) (book : Book) (l : Layout) (k : Kept doc numbers places known book) (room : known < 64)
+    (reads : layoutAt doc at ≡ ok l next) (new : find (l .number) book ≡ none) where
+  pub kept-more : Kept doc (set numbers known (l .number)) (set places known at) (known + 1) (book ++ l ∷ [])
+  kept-more =
+      record {
+        numbers-long = length-set numbers known (l .number) ∙ k .numbers-long;
+        places-long = length-set places known at ∙ k .places-long;
+        count = length-append book (l ∷ []) ∙ ap (λ (n : ℕ). n + 1) (k .count);
+        entry = λ i h. go i h (ltb i known) refl;
+        all = λ n lacks. none-of n lacks;
+      }
+    where
+      numbered : getD (set numbers known (l .number)) known 0 ≡ l .number
+      numbered = getD-set-same numbers known (l .number) 0 (omega (arith, k .numbers-long))
+
+      placed : getD (set places known at) known 0 ≡ at
+      placed = getD-set-same places known at 0 (omega (arith, k .places-long))
+
+      last : (i : ℕ) → i ≡ known → Stands doc (getD (set numbers known (l .number)) i 0) (book ++ l ∷ []) (getD (set places known at) i 0)
+      last i e =
+          subst (λ (j : ℕ). Stands doc (getD (set numbers known (l .number)) j 0) (book ++ l ∷ []) (getD (set places known at) j 0)) (sym e)
+          (record {
+            layout = l;
+            next = next;
+            found = ap (λ (n : ℕ). find n (book ++ l ∷ [])) numbered ∙ (find-behind (l .number) book (l ∷ []) new ∙ find-here (l .number) l [] refl);
+            reads = ap (layoutAt doc) placed ∙ reads;
+          })
+
+      old : (i : ℕ) → i < known → Stands doc (getD numbers i 0) book (getD places i 0)
+          → Stands doc (getD (set numbers known (l .number)) i 0) (book ++ l ∷ []) (getD (set places known at) i 0)
+      old i h e =
+          record {
+            layout = e .layout;
+            next = e .next;
+            found = ap (λ (n : ℕ). find n (book ++ l ∷ [])) (getD-set-other numbers known i (l .number) 0 (λ z. omega arith)) ∙ find-front (getD numbers i 0) book (l ∷ []) (e .layout) (e .found);
+            reads = ap (layoutAt doc) (getD-set-other places known i at 0 (λ z. omega arith)) ∙ e .reads;
+          }
+
+      go : (i : ℕ) → i < known + 1 → (b : Bool) → ltb i known ≡ b → Stands doc (getD (set numbers known (l .number)) i 0) (book ++ l ∷ []) (getD (set places known at) i 0)
+      go i h true t = let m = ltb-true i known t in old i m (k .entry i m)
+      go i h false t = let m = ltb-false i known t in last i (omega arith)
+
+      none-of : (n : ℕ) → Lacks (set numbers known (l .number)) (known + 1) n → find n (book ++ l ∷ []) ≡ none
+      none-of n lacks =
+          find-behind n book (l ∷ []) (k .all n (λ i h e. lacks i (omega arith) (getD-set-other numbers known i (l .number) 0 (λ z. omega arith) ∙ e)))
+          ∙ (find-skip n l [] (λ q. lacks known (omega arith) (numbered ∙ sym q)) ∙ find-nil n)
 
 -- The values behind a row's length, unstated or stated.
 module _ (s : List ℕ) (at : ℕ) (steps : List ℕ) (from : ℕ) where

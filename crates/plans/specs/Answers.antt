@@ -2,7 +2,6 @@
 use Prim.Native.Nat.{ℕ, _+_, _≤_, _<_}
 use mathlib.Core.Path.{_≡_}
 use mathlib.Core.List.{List}
-use lib.ListN.{length}
 use lib.Dec.{eqb}
 use Rattle.octets.specs.Reading.{ok, ends, choose, be, Room, reach, number}
 use Rattle.kinds.specs.declared.Form.{Form}

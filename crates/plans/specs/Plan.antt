@@ -2,7 +2,7 @@
 use Prim.Native.Nat.{ℕ, _+_, _*_, _%_, _≤_, _<_}
 use mathlib.Core.Path.{_≡_}
 use mathlib.Core.List.{List, [], _∷_}
-use mathlib.Core.Option.{some}
+use mathlib.Core.Option.{some, none}
 use lib.ListN.{length, getD}
 use lib.Dec.{eqb}
 use Rattle.octets.specs.Reading.{choose, part}
@@ -11,6 +11,7 @@ use Rattle.kinds.specs.declared.Form.the-variants as form
 use Rattle.kinds.specs.Kinds.{formOf}
 use Rattle.layouts.specs.Layout.{Attribute, Layout}
 use Rattle.layouts.specs.Book.{Book, find}
+use Rattle.layouts.specs.Answers.{Stands}
 
 -- What a form adds to a step: four for each octet of a number; one for octets behind a length, two for a boolean, and these close the step.
 abbrev pub mark : Form → ℕ
@@ -54,3 +55,15 @@ pub record Planned (numbers steps : List ℕ) (known : ℕ) (book : Book) : Type
 pub record Plans (numbers steps : List ℕ) (known : ℕ) : Type 0 where
   pub book : Book
   pub planned : Planned numbers steps known book
+
+-- None of the numbers known is this one.
+abbrev pub Lacks : List ℕ → ℕ → ℕ → Type 0
+Lacks numbers known n = (i : ℕ) → i < known → getD numbers i 0 ≡ n → ⊥
+
+-- All layouts of a book, kept by their numbers and by their places in a document.
+pub record Kept (doc numbers places : List ℕ) (known : ℕ) (book : Book) : Type 0 where
+  pub numbers-long : length numbers ≡ 64
+  pub places-long : length places ≡ 64
+  pub count : length book ≡ known
+  pub entry : (i : ℕ) → i < known → Stands doc (getD numbers i 0) book (getD places i 0)
+  pub all : (n : ℕ) → Lacks numbers known n → find n book ≡ none

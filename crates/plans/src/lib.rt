@@ -5,14 +5,16 @@ ghost use mathlib.Core.List.{List};
 ghost use mathlib.Core.Option.{some};
 ghost use mathlib.Core.Bool.{true};
 ghost use Prim.Native.Nat.{ℕ, _+_, _≤_, _<_};
-ghost use lib.ListN.{length, getD, take};
+ghost use lib.ListN.{length, getD, set, take};
 ghost use Rattle.octets.specs.Reading.{ok, isOk, run};
 ghost use Rattle.layouts.specs.Layout.{Attribute, Layout, attributeAt, layoutAt};
 ghost use Rattle.layouts.specs.Book.{Book, find};
+ghost use Rattle.layouts.specs.Answers.{Looks};
 ghost use Rattle.rows.specs.Answers.{Slim, Attributes};
-ghost use Rattle.plans.specs.Plan.{mark, planOf, Begins, Plan, Planned, Plans};
+ghost use Rattle.plans.specs.Plan.{mark, planOf, Begins, Plan, Planned, Plans, Lacks, Kept};
 ghost use Rattle.plans.specs.Answers.{Closes, Follows, Lasts, Passes};
 use kinds::Form;
+use layouts::Looked;
 
 // The place behind values, or that the exact readers are to be asked.
 pub enum Passed {
@@ -139,7 +141,7 @@ fn follow<'d, 'p>(
 // The index of a number among those known: the index that was last, or the one behind it, or the first that is found; all known where there is none.
 fn index_of(numbers: &[u32; 64], known: usize, last: usize, number: u32) -> usize
     requires { ⌜ known ≤ 64 ⌝ }
-    ensures { λ r. ⌜ (r < known → getD (now (numbers .entry)) r 0 ≡ number) ⌝ }
+    ensures { λ r. ⌜ (r < known → getD (now (numbers .entry)) r 0 ≡ number) × (known ≤ r → Lacks (now (numbers .entry)) known number) ⌝ }
 {
     if last < known {
         if numbers[last] == number {
@@ -159,6 +161,23 @@ fn index_of(numbers: &[u32; 64], known: usize, last: usize, number: u32) -> usiz
         i += 1;
     }
     known
+}
+
+// Looks a number up among the layouts of a document that were kept by their places.
+pub fn look_up<'n, 'p>(
+    numbers: &'n [u32; 64],
+    places: &'p [usize; 64],
+    known: usize,
+    number: u32,
+) -> Looked
+    requires { ⌜ known ≤ 64 ⌝ }
+    ensures { λ r. ⌜ ((doc : List ℕ) (book : Book) → Kept doc (now (numbers .entry)) (now (places .entry)) known book → Looks doc number book r) ⌝ }
+{
+    let i = index_of(numbers, known, known, number);
+    if known <= i {
+        return Looked::Missing(known);
+    }
+    Looked::There(places[i])
 }
 
 // The place behind a row's values, from its length on.
@@ -224,16 +243,13 @@ pub fn note<'d, 'n, 'p>(
     known: usize,
 ) -> usize
     requires { ⌜ (length (now doc) ≤ 1048576) × (isOk (layoutAt (now doc) at) ≡ true) × (length (now steps) ≡ 4160) ⌝ }
-    ensures { λ r. ⌜ ((l : Layout) (end : ℕ) (book : Book) → layoutAt (now (doc .entry)) at ≡ ok l end → find (l .number) book ≡ some l → Planned (now (numbers .entry)) (now (steps .entry)) known book → Planned (now (numbers .exit)) (now (steps .exit)) r book) ⌝ }
+    ensures { λ r. ⌜ ((l : Layout) (end : ℕ) → layoutAt (now (doc .entry)) at ≡ ok l end → ((book : Book) → find (l .number) book ≡ some l → Planned (now (numbers .entry)) (now (steps .entry)) known book → Planned (now (numbers .exit)) (now (steps .exit)) r book) × (known < 64 → (r ≡ known + 1) × (now (numbers .exit) ≡ set (now (numbers .entry)) known (l .number)))) ⌝ }
 {
-    let counted = layouts::attributes_at(doc, at);
-    let count = octets::u32_at(doc, counted);
     if 64 <= known {
         return known;
     }
-    if 64 < count {
-        return known;
-    }
+    let counted = layouts::attributes_at(doc, at);
+    let count = octets::u32_at(doc, counted);
     numbers[known] = layouts::layout_number(doc, at);
     put_plan(doc, counted + 4, count, steps, known * 65);
     known + 1

@@ -6,7 +6,7 @@ use mathlib.Core.Bool.{Bool, true, false, cond, _&&_, not}
 use lib.ListN.{length, take}
 use lib.Dec.{leb, ltb, eqb}
 use lib.IntN.{ℤ, pos, negsuc}
-use Rattle.octets.specs.Writing.{word, images}
+use Rattle.octets.specs.Writing.{images}
 use Rattle.printing.specs.declared.Show.{Show}
 use Rattle.printing.specs.declared.Show.the-variants.{Plain, Hex, Escaped}
 

@@ -18,7 +18,7 @@ ghost use Rattle.questions.specs.Places.{Lines, NthField, Stood, Spots, 
 use kinds::Basic;
 use kinds::Form;
 use kinds::Kind;
-use layouts::Judged;
+use layouts::Learning;
 use layouts::Looked;
 use octets::Ended;
 use rows::Rowed;
@@ -335,9 +335,9 @@ fn layout_here<'d, 'b>(doc: &'d [u8], at: usize, book: &'b [u8]) -> Ended
         Ended::End(next) => {
             let judged = layouts::judge(doc, at, next, book);
             match judged {
-                Judged::Bad(n) => Ended::Refused(n, at),
-                Judged::Same => Ended::End(next),
-                Judged::Fresh(place) => Ended::End(next),
+                Learning::Refused(n) => Ended::Refused(n, at),
+                Learning::Known => Ended::End(next),
+                Learning::New(more) => Ended::End(next),
             }
         }
     }

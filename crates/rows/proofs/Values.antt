@@ -9,7 +9,6 @@ use borrow.Author.Tests.{le-leb, lt-leb}
 use Rattle.octets.specs.Reading.{Read, ok, no, ends, isOk, be, Room, document, stated, reach, overrun, octetsIn, textIn, text, run}
 use Rattle.octets.proofs.Inverse.{after}
 use Rattle.octets.proofs.Ends.{number-in, number-over, overrun-then, overrun-ends, text-octets, on, stop, made, value-is}
-use Rattle.kinds.specs.declared.Form.{Form}
 use Rattle.kinds.specs.declared.Form.the-variants as form
 use Rattle.kinds.specs.declared.Basic.{Basic}
 use Rattle.kinds.specs.declared.Basic.the-variants.{Int, UnsignedInt, Long, UnsignedLong, Float, Double, HexBinary, String, Boolean, Byte, UnsignedByte, Short, UnsignedShort}

@@ -3,68 +3,68 @@ use borrow.Author.Needs.{needs}
 use native.Mathlib.Omega.{arith}
 use Prim.Native.Nat.{ℕ}
 use denote.Ref.{now}
-use mathlib.Core.Path.{_≡_, sym, ap, _∙_, subst}
-use Rattle.octets.specs.Reading.{be}
-use Rattle.layouts.specs.Book.{Book}
-use Rattle.layouts.specs.declared.Looked.{Looked}
-use Rattle.layouts.specs.Answers.{Image, Looks}
+use mathlib.Core.Path.{sym, ap, _∙_, subst}
+use mathlib.Core.List.{List}
+use Rattle.layouts.specs.Answers.{Stood}
 use Rattle.rows.specs.Answers.{rowSays}
 use Rattle.elements.specs.Answers.{tells}
-use Rattle.elements.proofs.Told.{row-cut, row-unknown, row-refused, row-told}
+use Rattle.elements.proofs.Told.{row-cut, row-unknown, row-refused, row-told, looked-at}
 use Rattle.elements.proofs.row_step.Statement.{statement}
 use Rattle.elements.proofs.row_step.Tie as tie
 
+-- The arguments by names, where the octets of both slices are known.
+abbrev Known : Type 0
+Known = tie.After-shared-slice-known2
+
+module _ (k : Known) where
+  abbrev doc : List ℕ
+  doc = now (k .before .before .args .doc)
+
+  abbrev at : ℕ
+  at = k .before .before .args .at
+
+  abbrev s : List ℕ
+  s = now (k .before .before .args .s)
+
+  abbrev rows : ℕ
+  rows = k .before .before .args .rows
+
+  abbrev used : ℕ
+  used = k .before .before .args .used
+
 returns : tie.Need-returns
-returns c = λ b i. let a = c .before .before .before .args in sym (ap tells (row-cut (now (a .doc)) (a .at) (a .rows) b (c .if1 .taken)))
-
--- What the look for the number that stands there has found.
-abbrev Found : Type 0
-Found = tie.After-look-in
-
-abbrev Start : Found → tie.Start
-Start f = f .before .before .before .before .before
-
-looked-up : (f : Found) (b : Book) → Image (now (Start f .args .book)) b → (x : Looked) → f .look-in .result ≡ x
-    → Looks (now (Start f .args .book)) (be 4 (now (Start f .args .doc)) (Start f .args .at)) b x
-looked-up f b i x q =
-    subst (λ (n : ℕ). Looks (now (Start f .args .book)) n b x) (f .before .u32-at .ensures)
-    (subst (λ (y : Looked). Looks (now (Start f .args .book)) (f .before .u32-at .result) b y) q (f .look-in .ensures b i))
+returns c = λ b o. let k = c .before in sym (ap tells (row-cut (doc k) (at k) (rows k) b (c .if1 .taken)))
 
 returns-2 : tie.Need-returns-2
-returns-2 c = λ b i.
-    let f = c .before .before .before in
-    let a = Start f .args in
-    sym (ap tells (row-unknown (now (a .doc)) (a .at) (a .rows) b (omega arith) (looked-up f b i _ (c .before .looked .given .1) .0)))
+returns-2 c = λ b o.
+    let k = c .before .before .before .before in
+    sym (ap tells (row-unknown (doc k) (at k) (rows k) b (omega arith) (looked-at (doc k) (at k) (s k) _ (used k) b o (omega arith) _ (c .before .looked .given .1) .0)))
 
--- The layout that was found stands in the book.
+-- The layout that was found stands there.
 row-end-requires : tie.Need-row-end-requires
 row-end-requires c κs =
-    let f = c .before .before .before in
-    let h = Start f .pre .4 in
-    let w = looked-up f (h .book) (h .image) _ (c .before .looked2 .given .1) in
-    (omega arith, Start f .pre .1, omega (arith, Start f .pre .3), record { layout = w .layout; next = w .next; reads = w .reads })
+    let k = c .before .before .before .before in
+    let p = k .before .before .pre in
+    (omega arith, p .1, p .3, subst (Stood (s k)) (c .before .looked2 .given .1) (p .4))
 
 returns-3 : tie.Need-returns-3
-returns-3 c = λ b i.
+returns-3 c = λ b o.
     let r = c .before .before .before in
-    let f = r .before .before .before .before in
-    let a = Start f .args in
-    let w = looked-up f b i _ (r .before .before .looked2 .given .1) in
-    sym (ap tells (row-refused (now (a .doc)) (a .at) (a .rows) b (w .layout) (omega arith) (w .found) _ _
+    let k = r .before .before .before .before .before in
+    let w = looked-at (doc k) (at k) (s k) _ (used k) b o (omega arith) _ (r .before .before .looked2 .given .1) in
+    sym (ap tells (row-refused (doc k) (at k) (rows k) b (w .layout) (omega arith) (w .found) _ _
     (sym (r .row-end .ensures .0 _ (w .layout) (w .next) (w .reads)) ∙ ap rowSays (c .before .row .given .1))))
 
 returns-4 : tie.Need-returns-4
-returns-4 c = λ b i.
-    let r = c .before .before .before in
-    let f = r .before .before .before .before in
-    let a = Start f .args in
-    let w = looked-up f b i _ (r .before .before .looked2 .given .1) in
-    rw (f .before .u32-at .ensures, ← i .is)
-    (sym (row-told (now (a .doc)) (a .at) (a .rows) b (w .layout) (omega arith) (w .found) _ _ _
-    (sym (r .row-end .ensures .0 _ (w .layout) (w .next) (w .reads)) ∙ ap rowSays (c .before .row2 .given .1))))
+returns-4 c = λ b o.
+    let r = c .before .before .before .before in
+    let k = r .before .before .before .before .before in
+    let w = looked-at (doc k) (at k) (s k) _ (used k) b o (omega arith) _ (r .before .before .looked2 .given .1) in
+    rw (c .u32-at .ensures, ← o .size)
+    (sym (row-told (doc k) (at k) (rows k) b (w .layout) (omega arith) (w .found) _ _ _
+    (sym (r .row-end .ensures .0 _ (w .layout) (w .next) (w .reads)) ∙ ap rowSays (c .before .before .row2 .given .1))))
 
 pub row-step-spec : {M : Type 1} → statement M
 row-step-spec =
     tie.close
-    (tie.spec (λ c. search needs) returns (λ c κs. search needs) (λ c κs. search needs) (λ c. search needs) (λ c. search needs) row-end-requires
-    (λ c. search needs) (λ c. search needs) (λ c. search needs) returns-2 returns-3 returns-4)
+    (tie.spec (λ c. search needs) returns (λ c. search needs) (λ c. search needs) row-end-requires (λ c. search needs) (λ c. search needs) (λ c κs. search needs) (λ c. search needs) returns-2 returns-3 returns-4)

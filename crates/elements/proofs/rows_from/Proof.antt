@@ -1,4 +1,4 @@
--- `elements::rows_from` meets its contract. The invariant: what is counted from the start is what is counted from here, over the book in hand, and the plans are of its layouts.
+-- `elements::rows_from` meets its contract. The invariant: what is counted from the start is what is counted from here, over a book whose layouts are kept and planned.
 -- The measure is what is left of the document. Assumes nothing.
 use borrow.Author.Needs.{needs}
 use native.Mathlib.Omega.{arith}
@@ -7,43 +7,34 @@ use denote.Ref.{now}
 use mathlib.Core.Path.{_≡_, sym, ap, _∙_, subst}
 use mathlib.Core.List.{List}
 use mathlib.Core.Bool.{Bool, true, false}
-use lib.ListN.{length, replicate, length-replicate}
+use lib.ListN.{length, set, replicate, length-replicate}
 use Rattle.octets.specs.Reading.{ok, isOk}
 use Rattle.octets.specs.Writing.{Each, Octet}
-use Rattle.octets.proofs.Spans.{each-octet, each-replicate}
-use Rattle.layouts.specs.Book.{Book, bookIn}
-use Rattle.layouts.proofs.Books.{Lent}
-use Rattle.layouts.proofs.Lends.{empty-book}
-use Rattle.layouts.proofs.Walks.{lent-book}
-use Rattle.plans.specs.Plan.{Planned}
+use Rattle.octets.proofs.Spans.{each-octet}
+use Rattle.layouts.specs.Book.{Book, bookImage}
+use Rattle.layouts.proofs.Lends.{stood}
 use Rattle.plans.specs.Answers.{Passes}
 use Rattle.plans.specs.declared.Quick.{Quick}
-use Rattle.plans.proofs.Keeping.{planned-none, planned-within}
 use Rattle.elements.specs.Element.{Stepped, elementAt}
-use Rattle.elements.specs.Steps.{leaves, holding, isLast}
-use Rattle.elements.specs.Answers.{stepOf, isLastMet}
+use Rattle.elements.specs.Steps.{isLast}
+use Rattle.elements.specs.Answers.{tells, stepOf, isLastMet}
 use Rattle.elements.specs.declared.Step.{Step}
 use Rattle.elements.specs.declared.Stepping.the-variants.{Done}
-use Rattle.elements.proofs.Going.{Going, going-start, going-refused, going-end, going-on, done, refusing, last-met, element-place, holding-book, element-book}
-use Rattle.elements.proofs.Quickly.{going-row, row-further, element-keeps, New, element-new}
+use Rattle.elements.proofs.Going.{going-refused, going-end, done, refusing, last-met, element-place}
+use Rattle.elements.proofs.Quickly.{OnWay, way-start, way-row, row-further, planned-on, way-old, found-new, room-new, way-new, New, element-new}
 use Rattle.elements.proofs.rows_from.Statement.{statement}
 use Rattle.elements.proofs.rows_from.Tie as tie
 
 abbrev Inv-loop : tie.InvT-loop
-Inv-loop doc at book₀ numbers₀ steps₀ known₀ last₀ pos₀ rows₀ used₀ book numbers steps known last pos rows used =
-    Going doc at book pos rows used × Planned numbers steps known (bookIn book used)
+Inv-loop doc at numbers₀ places₀ steps₀ known₀ last₀ pos₀ rows₀ used₀ numbers places steps known last pos rows used = OnWay doc at numbers places steps known pos rows used
 
 abbrev μ-loop : tie.MeasureT-loop
-μ-loop doc at book₀ numbers₀ steps₀ known₀ last₀ pos₀ rows₀ used₀ book numbers steps known last pos rows used = length doc - pos
+μ-loop doc at numbers₀ places₀ steps₀ known₀ last₀ pos₀ rows₀ used₀ numbers places steps known last pos rows used = length doc - pos
 
 loop-holds : tie.Need-loop-holds Inv-loop μ-loop
 loop-holds c =
     let a = c .before .args in
-    let long = length-replicate {A = ℕ} 32768 0 in (
-      going-start (now (a .doc)) (a .at) (replicate 32768 0) (c .before .pre .0) (each-replicate 32768 0 (omega arith)) long,
-      subst (Planned (replicate 64 0) (replicate 4160 0) 0) (sym (empty-book (replicate 32768 0) (omega arith) .1))
-          (planned-none (replicate 64 0) (replicate 4160 0) (length-replicate {A = ℕ} 64 0) (length-replicate {A = ℕ} 4160 0)),
-    )
+    way-start (now (a .doc)) (a .at) (replicate 64 0) (replicate 64 0) (replicate 4160 0) (c .before .pre .0) (length-replicate {A = ℕ} 64 0) (length-replicate {A = ℕ} 64 0) (length-replicate {A = ℕ} 4160 0)
 
 -- The turn by names.
 abbrev Turn : Type 0
@@ -59,8 +50,17 @@ module _ (t : Turn) where
   abbrev at : ℕ
   at = Start t .args .at
 
-  abbrev lent : List ℕ
-  lent = t .loop .book
+  abbrev numbers : List ℕ
+  numbers = t .loop .numbers
+
+  abbrev places : List ℕ
+  places = t .loop .places
+
+  abbrev steps : List ℕ
+  steps = t .loop .steps
+
+  abbrev known : ℕ
+  known = t .loop .known
 
   abbrev pos : ℕ
   pos = t .loop .pos
@@ -71,17 +71,20 @@ module _ (t : Turn) where
   abbrev used : ℕ
   used = t .loop .used
 
-  abbrev book : Book
-  book = bookIn lent used
+  way : OnWay doc at numbers places steps known pos rows used
+  way = t .loop .inv
 
-  going : Going doc at lent pos rows used
-  going = t .loop .inv .0
+  abbrev book : Book
+  book = t .loop .inv .book
+
+  short : length doc ≤ 1048576
+  short = Start t .pre .1
 
   octets : Each Octet doc
   octets = each-octet doc (t .before .shared-slice-known .given)
 
-  lent-here : Lent lent used book
-  lent-here = lent-book lent used (going .lent) (going .is)
+  few-rows : rows ≤ 1048576
+  few-rows = omega (arith, t .loop .inv .going .behind, t .loop .inv .going .inside, short)
 
 -- The row that a plan passed.
 abbrev Tried : Type 0
@@ -90,39 +93,64 @@ Tried = tie.After-quick-row Inv-loop μ-loop
 abbrev Turned : Tried → Turn
 Turned q = q .before .before .before
 
-passes : (q : Tried) (x : Quick) → q .quick-row .result ≡ x → Passes (doc (Turned q)) (pos (Turned q)) (book (Turned q)) (Turned q .loop .known) x
-passes q x e = subst (Passes (doc (Turned q)) (pos (Turned q)) (book (Turned q)) (Turned q .loop .known)) e (q .quick-row .ensures (book (Turned q)) (Turned q .loop .inv .1))
+passes : (q : Tried) (x : Quick) → q .quick-row .result ≡ x → Passes (doc (Turned q)) (pos (Turned q)) (book (Turned q)) (known (Turned q)) x
+passes q x e = subst (Passes (doc (Turned q)) (pos (Turned q)) (book (Turned q)) (known (Turned q))) e (q .quick-row .ensures (book (Turned q)) (Turned q .loop .inv .planned))
 
 quick-row-requires : tie.Need-quick-row-requires Inv-loop μ-loop
 quick-row-requires c κs =
     let t = c .before .before in
-    (going t .inside, Start t .pre .1, record { book = book t; planned = t .loop .inv .1 })
-
-loop-less : tie.Need-loop-less Inv-loop μ-loop
-loop-less c =
-    let q = c .before .before .before in
-    let t = Turned q in
-    let (_, k, r) = passes q _ (c .before .quick .given .1) in
-    let g = going-row (doc t) (Start t .pre .1) (octets t) (at t) (lent t) (pos t) (rows t) (used t) (going t) (r .0) _ k (r .1) in
-    let w = row-further (doc t) (Start t .pre .1) (octets t) (at t) (lent t) (pos t) (rows t) (used t) (going t) (r .0) _ k (r .1) in
-    omega (arith, w, g .inside)
+    (t .loop .inv .going .inside, short t, record { book = book t; planned = t .loop .inv .planned })
 
 loop-again : tie.Need-loop-again Inv-loop μ-loop
 loop-again c =
     let q = c .before .before .before in
     let t = Turned q in
     let (_, k, r) = passes q _ (c .before .quick .given .1) in
-    (going-row (doc t) (Start t .pre .1) (octets t) (at t) (lent t) (pos t) (rows t) (used t) (going t) (r .0) _ k (r .1), t .loop .inv .1)
+    way-row (doc t) (short t) (octets t) (at t) (numbers t) (places t) (steps t) (known t) (pos t) (rows t) (used t) (t .loop .inv) (r .0) _ k (r .1)
+
+loop-less : tie.Need-loop-less Inv-loop μ-loop
+loop-less c =
+    let q = c .before .before .before in
+    let t = Turned q in
+    let (_, k, r) = passes q _ (c .before .quick .given .1) in
+    let w = row-further (doc t) (short t) (octets t) (at t) (numbers t) (places t) (steps t) (known t) (pos t) (rows t) (used t) (t .loop .inv) (r .0) _ k (r .1) in
+    omega (arith, w, loop-again c .going .inside)
+
+add-rows : tie.Need-add-rows Inv-loop μ-loop
+add-rows c = let t = Turned (c .before .before .before) in omega (arith, few-rows t)
+
+look-up-requires : tie.Need-look-up-requires Inv-loop μ-loop
+look-up-requires c κs = let t = Turned (c .before .before .before .before .before) in t .loop .inv .planned .few
+
+element-over-requires : tie.Need-element-over-requires Inv-loop μ-loop
+element-over-requires c κs =
+    let t = Turned (c .before .before .before .before .before .before) in
+    let w = t .loop .inv in (
+      short t,
+      few-rows t,
+      short t,
+      omega (arith, w .size, w .going .good .small),
+      stood (doc t) (c .before .number-behind .result) (book t) (c .look-up .result) (c .look-up .ensures (doc t) (book t) (w .kept)),
+    )
 
 -- The element that was answered.
 abbrev Answered : Type 0
-Answered = tie.After-element Inv-loop μ-loop
+Answered = tie.After-element-over Inv-loop μ-loop
 
 abbrev Of : Answered → Turn
-Of v = Turned (v .before .before .before .before)
+Of v = Turned (v .before .before .before .before .before .before .before)
 
-abbrev exit : Answered → List ℕ
-exit v = v .element .last .1 .1 .1 .0
+is-read : (v : Answered) → v .element-over .result ≡ tells (elementAt (doc (Of v)) (pos (Of v)) (rows (Of v)) (book (Of v)))
+is-read v =
+    let t = Of v in
+    let l = v .before in
+    v .element-over .ensures (book t)
+    (record {
+      number = l .before .number-behind .result;
+      is = l .before .number-behind .ensures;
+      looks = l .look-up .ensures (doc t) (book t) (t .loop .inv .kept);
+      size = t .loop .inv .size;
+    })
 
 -- The element that a step tells of.
 pub record Told (v : Answered) (step : Step) : Type 0 where
@@ -131,43 +159,38 @@ pub record Told (v : Answered) (step : Step) : Type 0 where
   pub reads : elementAt (doc (Of v)) (pos (Of v)) (rows (Of v)) (book (Of v)) ≡ ok stepped next
   pub is : stepOf stepped next ≡ step
 
-told : (v : Answered) (step : Step) → v .element .result ≡ Done step → Told v step
+told : (v : Answered) (step : Step) → v .element-over .result ≡ Done step → Told v step
 told v step q =
-    let (st, next, e, s) = done (elementAt (doc (Of v)) (pos (Of v)) (rows (Of v)) (book (Of v))) step (sym (v .element .ensures .0) ∙ q) in
+    let (st, next, e, s) = done (elementAt (doc (Of v)) (pos (Of v)) (rows (Of v)) (book (Of v))) step (sym (is-read v) ∙ q) in
     record { stepped = st; next = next; reads = e; is = s }
 
 -- Whether it is the last.
 last-is : (v : Answered) (step : Step) (t : Told v step) (b : Bool) → isLastMet (step .met) ≡ b → isLast (t .stepped .element) ≡ b
 last-is v step t b q = sym (last-met (t .stepped .element)) ∙ (ap (λ (s : Step). isLastMet (s .met)) (t .is) ∙ q)
 
-element-requires : tie.Need-element-requires Inv-loop μ-loop
-element-requires c κs =
-    let t = Turned (c .before .before .before) in
-    (Start t .pre .1, omega (arith, going t .behind, going t .inside, Start t .pre .1), going t .is)
-
 returns : tie.Need-returns Inv-loop μ-loop
 returns c =
-    let v = c .before .before .before .before in
+    let v = c .before .before .before in
     let t = Of v in
-    sym (going-refused (doc t) (Start t .pre .1) (at t) (lent t) (pos t) (rows t) (used t) (going t) _ _
-    (refusing (elementAt (doc t) (pos t) (rows t) (book t)) _ _ (sym (v .element .ensures .0) ∙ c .before .one .given .1)))
+    sym (going-refused (doc t) (short t) (at t) (book t) (pos t) (rows t) (t .loop .inv .going) _ _
+    (refusing (elementAt (doc t) (pos t) (rows t) (book t)) _ _ (sym (is-read v) ∙ c .before .one .given .1)))
 
 returns-2 : tie.Need-returns-2 Inv-loop μ-loop
 returns-2 c =
-    let v = c .before .before .before .before .before .before in
+    let v = c .before .before .before .before .before in
     let t = Of v in
     let step = c .before .before .before .one2 .given .0 .0 in
     let x = told v step (c .before .before .before .one2 .given .1) in
     let last = last-is v step x true (sym (c .before .is-end .ensures) ∙ c .if1 .taken) in
     ap (λ (s : Step). ok (s .rows) (s .next)) (sym (x .is))
-    ∙ sym (going-end (doc t) (Start t .pre .1) (at t) (lent t) (pos t) (rows t) (used t) (going t) (x .stepped) (x .next) (x .reads) last)
+    ∙ sym (going-end (doc t) (short t) (at t) (book t) (pos t) (rows t) (t .loop .inv .going) (x .stepped) (x .next) (x .reads) last)
 
 -- An element that is not the last, by names.
 abbrev More : Type 0
 More = tie.Else1 Inv-loop μ-loop
 
 abbrev By : More → Answered
-By m = m .before .before .before .before .before .before
+By m = m .before .before .before .before .before
 
 abbrev step-of : More → Step
 step-of m = m .before .before .before .one2 .given .0 .0
@@ -175,80 +198,93 @@ step-of m = m .before .before .before .one2 .given .0 .0
 told-of : (m : More) → Told (By m) (step-of m)
 told-of m = told (By m) (step-of m) (m .before .before .before .one2 .given .1)
 
+not-last : (m : More) → isLast (told-of m .stepped .element) ≡ false
+not-last m = last-is (By m) (step-of m) (told-of m) false (sym (m .before .is-end .ensures) ∙ m .if1 .left)
+
 further : (m : More) → (pos (Of (By m)) + 4 ≤ step-of m .next) × (step-of m .next ≤ length (doc (Of (By m))))
 further m =
     let t = Of (By m) in
     let x = told-of m in
     subst (λ (s : Step). (pos t + 4 ≤ s .next) × (s .next ≤ length (doc t))) (x .is)
-    (element-place (doc t) (Start t .pre .1) (octets t) (pos t) (rows t) (book t) (going t .inside) (x .stepped) (x .next) (x .reads))
+    (element-place (doc t) (short t) (octets t) (pos t) (rows t) (book t) (t .loop .inv .going .inside) (x .stepped) (x .next) (x .reads))
 
--- The book behind it.
-left : (m : More) → exit (By m) ≡ holding (told-of m .stepped .book) (lent (Of (By m)))
-left m = let v = By m in v .element .ensures .1 ∙ ap (leaves (lent (Of v))) (told-of m .reads)
-
-goes-on : (m : More) → Going (doc (Of (By m))) (at (Of (By m))) (exit (By m)) (step-of m .next) (step-of m .rows) (step-of m .used)
-goes-on m =
-    let t = Of (By m) in
-    let x = told-of m in
-    let more = last-is (By m) (step-of m) x false (sym (m .before .is-end .ensures) ∙ m .if1 .left) in
-    let g = going-on (doc t) (Start t .pre .1) (at t) (lent t) (pos t) (rows t) (used t) (going t) (x .stepped) (x .next) (x .reads) (octets t) more in
-    subst (λ (b : List ℕ). Going (doc t) (at t) b (step-of m .next) (step-of m .rows) (step-of m .used)) (sym (left m))
-    (subst (λ (s : Step). Going (doc t) (at t) (holding (x .stepped .book) (lent t)) (s .next) (s .rows) (s .used)) (x .is) g)
-
-behind : (m : More) → bookIn (exit (By m)) (step-of m .used) ≡ told-of m .stepped .book
-behind m =
-    let t = Of (By m) in
-    let x = told-of m in
-    let l = lent-here t in
-    let good = element-book (doc t) (Start t .pre .1) (octets t) (pos t) (rows t) (book t) (going t .inside) (x .stepped) (x .next) (x .reads) (l .good) in
-    ap (λ (b : List ℕ). bookIn b (step-of m .used)) (left m)
-    ∙ (ap (λ (s : Step). bookIn (holding (x .stepped .book) (lent t)) (s .used)) (sym (x .is)) ∙ holding-book (x .stepped .book) (lent t) good (l .room) .1)
-
-kept : (m : More) → Planned (Of (By m) .loop .numbers) (Of (By m) .loop .steps) (Of (By m) .loop .known) (told-of m .stepped .book)
-kept m =
-    let t = Of (By m) in
-    let x = told-of m in
-    planned-within (t .loop .numbers) (t .loop .steps) (t .loop .known) (book t) (x .stepped .book)
-    (element-keeps (doc t) (octets t) (pos t) (rows t) (book t) (lent-here t .good) (x .stepped) (x .next) (x .reads)) (t .loop .inv .1)
-
--- The layout that the book grew by.
-new : (m : More) → used (Of (By m)) < step-of m .used
-    → New (doc (Of (By m))) (octets (Of (By m))) (pos (Of (By m))) (rows (Of (By m))) (book (Of (By m))) (lent-here (Of (By m)) .good) (told-of m .stepped) (told-of m .next) (told-of m .reads)
-new m h =
-    let t = Of (By m) in
-    let x = told-of m in
-    element-new (doc t) (octets t) (pos t) (rows t) (book t) (lent-here t .good) (x .stepped) (x .next) (x .reads)
-    (grows (lent-here t .size) (ap (λ (s : Step). s .used) (x .is)) h)
+-- Whether the book grew.
+grown : (m : More) → used (Of (By m)) < step-of m .used → length (bookImage (book (Of (By m)))) < length (bookImage (told-of m .stepped .book))
+grown m h = grows (Of (By m) .loop .inv .size) (ap (λ (s : Step). s .used) (told-of m .is)) h
   where
     grows : {a b c d : ℕ} → a ≡ b → c ≡ d → b < d → a < c
     grows p q r = omega arith
+
+not-grown : (m : More) → step-of m .used ≤ used (Of (By m)) → length (bookImage (book (Of (By m)))) < length (bookImage (told-of m .stepped .book)) → ⊥
+not-grown m h = stays (Of (By m) .loop .inv .size) (ap (λ (s : Step). s .used) (told-of m .is)) h
+  where
+    stays : {a b c d : ℕ} → a ≡ b → c ≡ d → d ≤ b → a < c → ⊥
+    stays p q r z = omega arith
+
+-- The layout that it grew by.
+new : (m : More) → used (Of (By m)) < step-of m .used
+    → New (doc (Of (By m))) (octets (Of (By m))) (pos (Of (By m))) (rows (Of (By m))) (book (Of (By m))) (told-of m .stepped) (told-of m .next) (told-of m .reads)
+new m h =
+    let t = Of (By m) in
+    let x = told-of m in
+    element-new (doc t) (octets t) (pos t) (rows t) (book t) (x .stepped) (x .next) (x .reads) (grown m h)
+
+has-room : (m : More) → used (Of (By m)) < step-of m .used → known (Of (By m)) < 64
+has-room m h =
+    let t = Of (By m) in
+    let x = told-of m in
+    room-new (doc t) (short t) (octets t) (at t) (numbers t) (places t) (steps t) (known t) (pos t) (rows t) (used t) (t .loop .inv) (x .stepped) (x .next) (x .reads) (not-last m) (new m h)
 
 note-requires : tie.Need-note-requires Inv-loop μ-loop
 note-requires c κs =
     let m = c .before .before .before .before in
     let t = Of (By m) in
-    (Start t .pre .1, ap isOk (new m (c .before .before .if2 .taken) .reads), t .loop .inv .1 .steps-long)
+    (short t, ap isOk (new m (c .before .before .if2 .taken) .reads), t .loop .inv .planned .steps-long)
 
 loop-again-2 : tie.Need-loop-again-2 Inv-loop μ-loop
 loop-again-2 c =
     let m = c .before .before .before .before .before in
-    let n = new m (c .before .before .before .if2 .taken) in (
-      goes-on m,
-      subst (Planned (c .note .last .1 .1 .0) (c .note .last .1 .1 .1 .0) (c .note .result)) (sym (behind m))
-          (c .note .ensures (n .layout) (told-of m .next) (told-of m .stepped .book) (n .reads) (n .found) (kept m)),
-    )
+    let h = c .before .before .before .if2 .taken in
+    let t = Of (By m) in
+    let x = told-of m in
+    let n = new m h in
+    let noted = c .note .ensures (n .layout) (x .next) (n .reads) in
+    let (count, is) = noted .1 (has-room m h) in
+    let planned = noted .0 (x .stepped .book)
+    (found-new (doc t) (short t) (octets t) (at t) (numbers t) (places t) (steps t) (known t) (pos t) (rows t) (used t) (t .loop .inv) (x .stepped) (x .next) (x .reads) (not-last m) n)
+    (planned-on (doc t) (short t) (octets t) (at t) (numbers t) (places t) (steps t) (known t) (pos t) (rows t) (used t) (t .loop .inv) (x .stepped) (x .next) (x .reads) (not-last m)) in
+    subst (λ (s : Step). OnWay (doc t) (at t) (c .note .last .1 .1 .0) (set (places t) (known t) (pos t + 4)) (c .note .last .1 .1 .1 .0) (c .note .result) (s .next) (s .rows) (s .used)) (x .is)
+    (way-new (doc t) (short t) (octets t) (at t) (numbers t) (places t) (steps t) (known t) (pos t) (rows t) (used t) (t .loop .inv) (x .stepped) (x .next) (x .reads) (not-last m) n
+    (c .note .last .1 .1 .0) (c .note .last .1 .1 .1 .0) (c .note .result) planned count is)
 
 loop-again-3 : tie.Need-loop-again-3 Inv-loop μ-loop
 loop-again-3 c =
     let m = c .before .before in
     let t = Of (By m) in
-    (goes-on m, subst (Planned (t .loop .numbers) (t .loop .steps) (t .loop .known)) (sym (behind m)) (kept m))
+    let x = told-of m in
+    subst (λ (s : Step). OnWay (doc t) (at t) (numbers t) (places t) (steps t) (known t) (s .next) (s .rows) (s .used)) (x .is)
+    (way-old (doc t) (short t) (octets t) (at t) (numbers t) (places t) (steps t) (known t) (pos t) (rows t) (used t) (t .loop .inv) (x .stepped) (x .next) (x .reads) (not-last m)
+    (not-grown m (c .if2 .left)))
+
+add-places : tie.Need-add-places Inv-loop μ-loop
+add-places c = let m = c .before .before in let w = further m in omega (arith, short (Of (By m)))
+
+mul-places : tie.Need-mul-places Inv-loop μ-loop
+mul-places c = let m = c .before .before in let h = has-room m (c .if2 .taken) in omega arith
+
+array-write-places : tie.Need-array-write-places Inv-loop μ-loop
+array-write-places c = has-room (c .before .before) (c .if2 .taken)
+
+add-note : tie.Need-add-note Inv-loop μ-loop
+add-note c = let m = c .before .before in let w = further m in omega (arith, short (Of (By m)))
+
+loop-less-2 : tie.Need-loop-less-2 Inv-loop μ-loop
+loop-less-2 c = let w = further (c .before .before .before .before .before) in omega arith
+
+loop-less-3 : tie.Need-loop-less-3 Inv-loop μ-loop
+loop-less-3 c = let w = further (c .before .before) in omega arith
 
 pub rows-from-spec : {M : Type 1} → statement M
 rows-from-spec =
     tie.close
-    (tie.spec Inv-loop μ-loop loop-holds quick-row-requires (λ c. search needs)
-    (λ c. let t = Turned (c .before .before .before) in omega (arith, going t .behind, going t .inside, Start t .pre .1)) loop-less loop-again (λ c. search needs)
-    (λ c. sym (going (Turned (c .before .before .before)) .size)) element-requires (λ c. search needs) returns (λ c. search needs) (λ c κs. search needs) returns-2
-    (λ c. let m = c .before .before in let t = Of (By m) in omega (arith, going t .inside, Start t .pre .1)) note-requires
-    (λ c. let w = further (c .before .before .before .before .before) in omega arith) loop-again-2 (λ c. let w = further (c .before .before) in omega arith) loop-again-3)
+    (tie.spec Inv-loop μ-loop loop-holds quick-row-requires (λ c. search needs) add-rows loop-less loop-again (λ c. search needs) (λ c κs. search needs) look-up-requires element-over-requires (λ c. search needs) returns (λ c. search needs) (λ c κs. search needs) returns-2 add-places mul-places array-write-places add-note note-requires loop-less-2 loop-again-2 loop-less-3 loop-again-3)

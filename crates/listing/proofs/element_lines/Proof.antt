@@ -101,13 +101,13 @@ module _ (k : Told) where
   asked : let l = turn .loop in stepAt (doc turn) (l .pos) (l .rows) exit (l .used) ≡ ok (told .0) (told .1)
   asked =
       let l = turn .loop in
-      again (doc turn) (short turn) (octets turn) (at turn) (l .book) (l .pos) (l .rows) (l .used) (passed turn .going) (told .0) (told .1) (told .2) exit left (by .step .kept .1 .1 .1 .0)
+      again (doc turn) (short turn) (octets turn) (l .book) (l .pos) (l .rows) (l .used) (passed turn .stands) (told .0) (told .1) (told .2) exit left (by .step .kept .1 .1 .1 .0)
 
   goes-on : (turn .loop .pos + 4 ≤ step-of .next) × (step-of .next ≤ length (doc turn))
   goes-on =
       let l = turn .loop in
       subst (λ (x : Step). (l .pos + 4 ≤ x .next) × (x .next ≤ length (doc turn))) (told .3)
-      (further (doc turn) (short turn) (octets turn) (at turn) (l .book) (l .pos) (l .rows) (l .used) (passed turn .going) (told .0) (told .1) (told .2))
+      (further (doc turn) (short turn) (octets turn) (l .book) (l .pos) (l .rows) (l .used) (passed turn .stands) (told .0) (told .1) (told .2))
 
   last-is : (b : Bool) → isLastMet (step-of .met) ≡ b → isLast (told .0 .element) ≡ b
   last-is b e = sym (last-met (told .0 .element)) ∙ (ap (λ (x : Step). isLastMet (x .met)) (told .3) ∙ e)
@@ -150,11 +150,11 @@ loop-again c =
 slice-aggregate-element-line : tie.Need-slice-aggregate-element-line Inv-loop μ-loop
 slice-aggregate-element-line c =
     let k = c .before in
-    sym (by k .step .kept .1 .1 .1 .0 ∙ passed (turn k) .going .size)
+    sym (by k .step .kept .1 .1 .1 .0 ∙ passed (turn k) .stands .size)
 
 pub element-lines-spec : {M : Type 1} → statement M
 element-lines-spec =
     tie.close
-    (tie.spec Inv-loop μ-loop loop-holds (λ c. sym (c .before .loop .inv .1 .going .size)) (λ c κs. search needs) (λ c. search needs) (λ c κs. search needs) (λ c. search needs)
+    (tie.spec Inv-loop μ-loop loop-holds (λ c. sym (c .before .loop .inv .1 .stands .size)) (λ c κs. search needs) (λ c. search needs) (λ c κs. search needs) (λ c. search needs)
     returns (λ c. search needs) slice-aggregate-element-line (λ c κs. search needs) (λ c κs. search needs) (λ c. search needs) returns-2
     (λ c. let w = goes-on (about (c .before .before .before .before)) in omega arith) loop-again)

@@ -1,18 +1,27 @@
--- `plans::index_of` meets its contract: each return is of an index whose number was compared. Assumes nothing.
+-- `plans::index_of` meets its contract: each return is of an index whose number was compared, and all were where none is. Assumes nothing.
 use native.Mathlib.Omega.{arith}
 use Prim.Native.Nat.{_-_, _≤_}
+use denote.Ref.{now}
+use Rattle.plans.specs.Plan.{Lacks}
+use Rattle.plans.proofs.Keeping.{lacks-more}
 use Rattle.plans.proofs.index_of.Statement.{statement}
 use Rattle.plans.proofs.index_of.Tie as tie
 
 abbrev Inv-loop : tie.InvT-loop
-Inv-loop numbers known last number i₀ i = i ≤ known
+Inv-loop numbers known last number i₀ i = (i ≤ known) × Lacks numbers i number
 
 abbrev μ-loop : tie.MeasureT-loop
 μ-loop numbers known last number i₀ i = known - i
 
+loop-again : tie.Need-loop-again Inv-loop μ-loop
+loop-again c =
+    let l = c .before .before .before in
+    let a = l .before .before .args in
+    (omega arith, lacks-more (now (a .numbers)) (l .loop .i) (a .number) (l .loop .inv .1) (c .if5 .left))
+
 pub index-of-spec : {M : Type 1} → statement M
 index-of-spec =
     tie.close
-    (tie.spec Inv-loop μ-loop (λ c. omega arith) (λ c. omega arith) (λ c h. c .if2 .taken) (λ c. omega arith) (λ c. omega arith) (λ c. omega arith) (λ c. omega arith)
-    (λ c. omega arith) (λ c h. c .if4 .taken) (λ c. omega arith) (λ c. omega arith) (λ c. omega arith) (λ c h. c .if5 .taken) (λ c. omega arith) (λ c. omega arith)
-    (λ c. omega arith) (λ c h. absurd (omega arith)))
+    (tie.spec Inv-loop μ-loop (λ c. omega arith) (λ c. omega arith) (λ c. (λ h. c .if2 .taken, λ h. absurd (omega arith))) (λ c. omega arith) (λ c. omega arith) (λ c. omega arith)
+    (λ c. omega arith) (λ c. omega arith) (λ c. (λ h. c .if4 .taken, λ h. absurd (omega arith))) (λ c. (omega arith, λ i h. absurd (omega arith))) (λ c. omega arith) (λ c. omega arith)
+    (λ c. (λ h. c .if5 .taken, λ h. absurd (omega arith))) (λ c. omega arith) (λ c. omega arith) loop-again (λ c. (λ h. absurd (omega arith), λ h i m. c .before .loop .inv .1 i (omega arith))))

@@ -3,7 +3,8 @@ use borrow.Author.Needs.{needs}
 use native.Mathlib.Omega.{arith}
 use Prim.Native.Nat.{ℕ, _+_}
 use denote.Ref.{now}
-use mathlib.Core.Path.{_≡_, sym, subst}
+use mathlib.Core.Path.{_≡_, refl, sym, ap, subst}
+use lib.ListN.{set}
 use Rattle.octets.specs.Reading.{ok, run}
 use Rattle.octets.proofs.Ends.{value-is}
 use Rattle.layouts.specs.Layout.{Layout, attributeAt, layoutAt}
@@ -17,7 +18,7 @@ abbrev Counted : Type 0
 Counted = tie.After-u32-at
 
 abbrev Start : Counted → tie.Start
-Start u = u .before .before .before
+Start u = u .before .before .before .before
 
 attributes : (u : Counted) (l : Layout) (end : ℕ) → layoutAt (now (Start u .args .doc)) (Start u .args .at) ≡ ok l end
     → run (attributeAt (now (Start u .args .doc))) (u .u32-at .result) (u .before .attributes-at .result + 4) ≡ ok (l .attributes) end
@@ -27,23 +28,29 @@ attributes u l end e =
 
 put-plan-requires : tie.Need-put-plan-requires
 put-plan-requires c κs =
-    let u = c .before .before .before .before in
+    let u = c .before .before in
     let s = Start u in
     let (l, end, e) = value-is (layoutAt (now (s .args .doc)) (s .args .at)) (s .pre .1) in
-    (s .pre .0, c .before .before .if2 .left, omega (arith, c .before .before .before .if1 .left), s .pre .2, record { list = l .attributes; end = end; reads = attributes u l end e })
+    let few = layout-fields (now (s .args .doc)) (s .args .at) (u .before .attributes-at .result) (u .before .attributes-at .ensures .0) e .few in
+    (s .pre .0, omega (arith, few, u .u32-at .ensures), omega (arith, u .before .before .if1 .left), s .pre .2, record { list = l .attributes; end = end; reads = attributes u l end e })
 
-returns-3 : tie.Need-returns-3
-returns-3 c = λ l end book e found p.
+returns : tie.Need-returns
+returns c = λ l end e. (λ book found p. p, λ h. absurd (omega arith))
+
+returns-2 : tie.Need-returns-2
+returns-2 c = λ l end e.
     let n = c .before .before in
-    let u = n .before .before .before in
+    let u = n .before in
     let a = Start u .args in
     let v = c .put-plan .ensures in
-    let plan = v .0 (l .attributes) end (attributes u l end e) in
-    planned-more (now (a .numbers)) (now (a .steps)) (c .put-plan .last .1 .1 .1 .0) (a .known) (n .layout-number .result) book l p (omega (arith, n .before .before .if1 .left)) found
-    (n .layout-number .ensures l end e) (plan .0) (plan .1) (v .1) (v .2)
+    let plan = v .0 (l .attributes) end (attributes u l end e) in (
+      λ book found p.
+          planned-more (now (a .numbers)) (now (a .steps)) (c .put-plan .last .1 .1 .1 .0) (a .known) (n .layout-number .result) book l p (omega (arith, u .before .before .if1 .left)) found
+          (n .layout-number .ensures l end e) (plan .0) (plan .1) (v .1) (v .2),
+      λ h. (refl, ap (set (now (a .numbers)) (a .known)) (n .layout-number .ensures l end e)),
+    )
 
 pub note-spec : {M : Type 1} → statement M
 note-spec =
     tie.close
-    (tie.spec (λ c κs. search needs) (λ c κs. search needs) (λ c. search needs) (λ c. search needs) (λ c κs. search needs) (λ c. search needs)
-    (λ c. search needs) (λ c. search needs) (λ c. search needs) put-plan-requires (λ c. search needs) returns-3)
+    (tie.spec returns (λ c. search needs) (λ c. search needs) (λ c. search needs) (λ c. search needs) (λ c. search needs) (λ c. search needs) (λ c. search needs) put-plan-requires (λ c. search needs) returns-2)

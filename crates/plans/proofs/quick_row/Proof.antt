@@ -28,7 +28,7 @@ known : (x : Indexed) → I x < Start x .args .known
 known x = omega (arith, x .if3 .left)
 
 is-number : (x : Indexed) → getD (now (Start x .args .numbers)) (I x) 0 ≡ be 4 (now (Start x .args .doc)) (Start x .args .at + 4)
-is-number x = x .before .index-of .ensures (known x) ∙ x .before .before .u32-at2 .ensures
+is-number x = x .before .index-of .ensures .0 (known x) ∙ x .before .before .u32-at2 .ensures
 
 values-to-requires : tie.Need-values-to-requires
 values-to-requires c κs =

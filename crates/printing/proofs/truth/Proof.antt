@@ -1,6 +1,5 @@
 -- `printing::truth` meets its contract. Assumes nothing.
 use borrow.Author.Needs.{needs}
-use Rattle.printing.specs.Text.{truth}
 use Rattle.printing.proofs.truth.Statement.{statement}
 use Rattle.printing.proofs.truth.Tie as tie
 

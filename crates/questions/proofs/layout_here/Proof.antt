@@ -11,7 +11,7 @@ use Rattle.octets.proofs.Ends.{ended}
 use Rattle.layouts.specs.Layout.{Layout, layoutAt}
 use Rattle.layouts.specs.Book.{Book}
 use Rattle.layouts.specs.Answers.{Image, Judges}
-use Rattle.layouts.specs.declared.Judged.{Judged}
+use Rattle.layouts.specs.declared.Learning.{Learning}
 use Rattle.questions.proofs.Asked.{over-refused, over-unlearnt, over-learnt}
 use Rattle.questions.proofs.layout_here.Statement.{statement}
 use Rattle.questions.proofs.layout_here.Tie as tie
@@ -51,7 +51,7 @@ judge-requires c κs =
     (w .0, w .1, read-to c, start c .pre .2, start c .pre .3)
 
 -- What the book says of it.
-judged : (v : tie.After-judge) (b : Book) → Image (now (start (v .before) .args .book)) b → (x : Judged) → v .judge .result ≡ x
+judged : (v : tie.After-judge) (b : Book) → Image (now (start (v .before) .args .book)) b → (x : Learning) → v .judge .result ≡ x
     → Judges (length (now (start (v .before) .args .book))) b (layout (v .before) .0) (at (v .before)) x
 judged v b i x q =
     let k = v .before in

@@ -108,7 +108,7 @@ module _ (v : Answered) (x : Step) (t : Told v x) where
   kept : Planned (now (Start v .args .numbers)) (now (Start v .args .steps)) (Start v .args .known) (t .stepped .book)
   kept =
       planned-within (now (Start v .args .numbers)) (now (Start v .args .steps)) (Start v .args .known) (bookIn (entry v) (used v)) (t .stepped .book)
-      (element-keeps (doc v) (octets v) (at v) (rows v) (bookIn (entry v) (used v)) (lent-here v .good) (t .stepped) (t .next) (t .reads)) (Start v .pre .4)
+      (element-keeps (doc v) (octets v) (at v) (rows v) (bookIn (entry v) (used v)) (t .stepped) (t .next) (t .reads) (lent-here v .good)) (Start v .pre .4)
 
 returns : tie.Need-returns
 returns c =

@@ -32,7 +32,7 @@ returns-2 : tie.Need-returns-2
 returns-2 c = λ b i p.
     let f = c .before .before .before .before .before .before in
     let w = looked-up f b i _ (c .before .before .before .before .looked2 .given .1) in
-    c .note .ensures (w .layout) (w .next) b (w .reads) (ap (λ (n : ℕ). find n b) (find-number (Start f .args .number) b (w .layout) (w .found)) ∙ w .found) p
+    c .note .ensures (w .layout) (w .next) (w .reads) .0 b (ap (λ (n : ℕ). find n b) (find-number (Start f .args .number) b (w .layout) (w .found)) ∙ w .found) p
 
 pub note-in-spec : {M : Type 1} → statement M
 note-in-spec =
