@@ -7,7 +7,7 @@ use mathlib.Core.Bool.{false}
 use mathlib.Core.Logic.{inl, inr}
 use native.Mathlib.Omega.{arith}
 use lib.ListN.{length, set, length-append}
-use Rattle.octets.specs.Reading.{ok, isOk, number}
+use Rattle.octets.specs.Reading.{ok, isOk}
 use Rattle.octets.specs.Writing.{Each, Octet}
 use Rattle.octets.proofs.Ends.{number-room}
 use Rattle.layouts.specs.Layout.{Layout, layoutAt, layoutImage}
@@ -16,10 +16,10 @@ use Rattle.layouts.proofs.Layouts.{layout-forth, layout-long}
 use Rattle.layouts.proofs.Finding.{Within, find-here, find-behind}
 use Rattle.layouts.proofs.Books.{GoodBook, image-nil, image-snoc}
 use Rattle.layouts.proofs.Growing.{Learnt, learnt, grown}
-use Rattle.rows.specs.Row.{Row, rowAt}
 use Rattle.plans.specs.Plan.{Planned, Kept}
+use Rattle.plans.specs.Rows.{Passing, Stand}
 use Rattle.plans.proofs.Keeping.{planned-none, planned-within, kept-none, kept-more}
-use Rattle.elements.specs.Element.{item, row, Stepped, elementAt}
+use Rattle.elements.specs.Element.{Stepped, elementAt}
 use Rattle.elements.specs.Steps.{isLast}
 use Rattle.elements.proofs.Went.{Went, at-layout, at-row, at-finish, went, row-step}
 use Rattle.elements.proofs.Going.{Going, going-start, going-on, element-place}
@@ -77,6 +77,16 @@ module _ (s : List ℕ) (o : Each Octet s) (at rows : ℕ) (b : Book) (st : Step
       go (at-row r k f _ _ same) = subst (Within b) (sym same) (λ n l h. h)
       go (at-finish n t k f _ _ same) = subst (Within b) (sym same) (λ n l h. h)
 
+-- Rows of the book one behind another.
+going-rows : (s : List ℕ) → length s ≤ 1048576 → Each Octet s → (at : ℕ) (book : Book) (pos rows : ℕ) → Going s at book pos rows
+    → (passed : List Passing) (next : ℕ) → Stand book s pos passed next → Going s at book next (rows + length passed) × (pos + length passed ≤ next)
+going-rows s short o at book pos rows g [] next h = (subst (λ (n : ℕ). Going s at book next n) (omega arith) (subst (λ (n : ℕ). Going s at book n rows) h g), omega arith)
+going-rows s short o at book pos rows g (p ∷ passed) next h =
+    let e = row-step s pos rows book (p .row) (p .next) (h .0) (h .1) in
+    let (far, _) = element-place s short o pos rows book (g .inside) _ (p .next) e in
+    let (on, further) = going-rows s short o at book (p .next) (rows + 1) (going-on s short at book pos rows g _ (p .next) e o refl) passed next (h .2) in
+    (subst (λ (n : ℕ). Going s at book next n) (omega arith) on, omega arith)
+
 -- A run on its way: the book of the elements passed, its layouts kept by their places, and plans of them.
 pub record OnWay (s : List ℕ) (at : ℕ) (numbers places steps : List ℕ) (known pos rows used : ℕ) : Type 0 where
   pub book : Book
@@ -92,17 +102,13 @@ way-start s at numbers places steps h n p l =
 
 module _ (s : List ℕ) (short : length s ≤ 1048576) (o : Each Octet s) (at : ℕ) (numbers places steps : List ℕ) (known pos rows used : ℕ)
     (w : OnWay s at numbers places steps known pos rows used) where
-  -- Behind a row that a plan passed.
-  module _ (r : Row) (next : ℕ) (k : number 4 s pos ≡ ok 2 (pos + 4)) (e : rowAt (w .book) s (pos + 4) ≡ ok r next) where
-    passed : elementAt s pos rows (w .book) ≡ ok (record { element = item (row r); rows = rows + 1; book = w .book }) next
-    passed = row-step s pos rows (w .book) r next k e
+  -- Behind rows that plans passed.
+  pub way-rows : (passed : List Passing) (next : ℕ) → Stand (w .book) s pos passed next → OnWay s at numbers places steps known next (rows + length passed) used
+  way-rows passed next h =
+      record { book = w .book; going = going-rows s short o at (w .book) pos rows (w .going) passed next h .0; planned = w .planned; kept = w .kept; size = w .size }
 
-    pub way-row : OnWay s at numbers places steps known next (rows + 1) used
-    way-row =
-        record { book = w .book; going = going-on s short at (w .book) pos rows (w .going) _ next passed o refl; planned = w .planned; kept = w .kept; size = w .size }
-
-    pub row-further : pos + 4 ≤ next
-    row-further = element-place s short o pos rows (w .book) (w .going .inside) _ next passed .0
+  pub rows-further : (passed : List Passing) (next : ℕ) → Stand (w .book) s pos passed next → pos + length passed ≤ next
+  rows-further passed next h = going-rows s short o at (w .book) pos rows (w .going) passed next h .1
 
   -- Behind any other element but the end.
   module _ (st : Stepped) (next : ℕ) (e : elementAt s pos rows (w .book) ≡ ok st next) (more : isLast (st .element) ≡ false) where

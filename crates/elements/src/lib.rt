@@ -15,7 +15,6 @@ ghost use Rattle.elements.specs.Answers.{tells, stepOf, isLastMet, count
 use layouts::Learning;
 use layouts::Looked;
 use octets::Ended;
-use plans::Quick;
 use rows::Rowed;
 
 // What an element says: a layout's number and count of attributes; a row's number, whether its length is stated, and its count of fields; the end's count and time.
@@ -228,7 +227,7 @@ fn is_end(met: Met) -> bool
     }
 }
 
-// The rows from a place to the end, from an empty book; its layouts are kept by their places in the document.
+// The rows from a place to the end, from an empty book; its layouts are kept by their places in the document. Rows are passed by plans as far as they go; a word has room, and is not looked at.
 pub fn rows_from(doc: &[u8], at: usize) -> Counting
     requires { ⌜ (at ≤ length (now doc)) × (length (now doc) ≤ 1048576) ⌝ }
     ensures { λ r. ⌜ countSays r ≡ counted 0 (elementsFrom (length (now (doc .entry)) + 1) (now (doc .entry)) at 0 []) ⌝ }
@@ -241,35 +240,31 @@ pub fn rows_from(doc: &[u8], at: usize) -> Counting
     let mut pos = at;
     let mut rows: usize = 0;
     let mut used: usize = 0;
+    let mut first = [0u64; 1];
     loop {
-        let quick = plans::quick_row(doc, pos, &numbers, &steps, known, last);
-        match quick {
-            Quick::Row(next, i) => {
-                pos = next;
-                rows += 1;
-                last = i;
+        let stretch =
+            plans::quick_rows(doc, pos, &numbers, &steps, known, last, &mut first, 0, 1048576);
+        pos = stretch.next;
+        rows += stretch.count;
+        last = stretch.last;
+        let looked = plans::look_up(&numbers, &places, known, number_behind(doc, pos));
+        let one = element_over(doc, pos, rows, doc, looked, used);
+        match one {
+            Stepping::Refused(n, p) => {
+                return Counting::Refused(n, p);
             }
-            Quick::Unsure => {
-                let looked = plans::look_up(&numbers, &places, known, number_behind(doc, pos));
-                let one = element_over(doc, pos, rows, doc, looked, used);
-                match one {
-                    Stepping::Refused(n, p) => {
-                        return Counting::Refused(n, p);
-                    }
-                    Stepping::Done(step) => {
-                        let met = step.met;
-                        if is_end(met) {
-                            return Counting::Rows(step.rows, step.next);
-                        }
-                        if used < step.used {
-                            places[known] = pos + 4;
-                            known = plans::note(doc, pos + 4, &mut numbers, &mut steps, known);
-                        }
-                        pos = step.next;
-                        rows = step.rows;
-                        used = step.used;
-                    }
+            Stepping::Done(step) => {
+                let met = step.met;
+                if is_end(met) {
+                    return Counting::Rows(step.rows, step.next);
                 }
+                if used < step.used {
+                    places[known] = pos + 4;
+                    known = plans::note(doc, pos + 4, &mut numbers, &mut steps, known);
+                }
+                pos = step.next;
+                rows = step.rows;
+                used = step.used;
             }
         }
     }

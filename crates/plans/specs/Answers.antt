@@ -2,6 +2,7 @@
 use Prim.Native.Nat.{ℕ, _+_, _≤_, _<_}
 use mathlib.Core.Path.{_≡_}
 use mathlib.Core.List.{List}
+use lib.ListN.{getD}
 use lib.Dec.{eqb}
 use Rattle.octets.specs.Reading.{ok, ends, choose, be, Room, reach, number}
 use Rattle.kinds.specs.declared.Form.{Form}
@@ -38,7 +39,7 @@ Lasts s at steps from (passed.To p) = (xs : List Attribute) → Begins steps fro
 Lasts s at steps from passed.Unsure = Unit {0}
 
 -- A row of a book stands at a place, behind its kind, and ends at another; its layout's number has an index.
-abbrev pub Passes : List ℕ → ℕ → Book → ℕ → Quick → Type 0
-Passes s at book known (quick.Row next i) =
-    (i < known) × (number 4 s at ≡ ok 2 (at + 4)) × ((row : Row) × (rowAt book s (at + 4) ≡ ok row next))
-Passes s at book known quick.Unsure = Unit {0}
+abbrev pub Passes : List ℕ → ℕ → Book → List ℕ → ℕ → Quick → Type 0
+Passes s at book numbers known (quick.Row next i) =
+    (i < known) × (getD numbers i 0 ≡ be 4 s (at + 4)) × (number 4 s at ≡ ok 2 (at + 4)) × ((row : Row) × (rowAt book s (at + 4) ≡ ok row next))
+Passes s at book numbers known quick.Unsure = Unit {0}

@@ -13,6 +13,7 @@ ghost use Rattle.layouts.specs.Answers.{Looks};
 ghost use Rattle.rows.specs.Answers.{Slim, Attributes};
 ghost use Rattle.plans.specs.Plan.{mark, planOf, Begins, Plan, Planned, Plans, Lacks, Kept};
 ghost use Rattle.plans.specs.Answers.{Closes, Follows, Lasts, Passes};
+ghost use Rattle.plans.specs.Rows.{rowWord, Passage};
 use kinds::Form;
 use layouts::Looked;
 
@@ -26,6 +27,13 @@ pub enum Passed {
 pub enum Quick {
     Row(usize, usize),
     Unsure,
+}
+
+// The place behind rows one behind another, the index behind their words, and the index of the last one's layout.
+pub struct Stretch {
+    pub next: usize,
+    pub count: usize,
+    pub last: usize,
 }
 
 fn wide(x: u16) -> usize
@@ -206,7 +214,7 @@ fn values_to<'d, 'p>(doc: &'d [u8], at: usize, steps: &'p [u16; 4160], from: usi
 }
 
 // The row at a place, passed by the plan of its layout.
-pub fn quick_row<'d, 'n, 'p>(
+fn quick_row<'d, 'n, 'p>(
     doc: &'d [u8],
     at: usize,
     numbers: &'n [u32; 64],
@@ -215,7 +223,7 @@ pub fn quick_row<'d, 'n, 'p>(
     last: usize,
 ) -> Quick
     requires { ⌜ (at ≤ length (now doc)) × (length (now doc) ≤ 1048576) × Plans (now numbers) (now steps) known ⌝ }
-    ensures { λ r. ⌜ ((book : Book) → Planned (now (numbers .entry)) (now (steps .entry)) known book → Passes (now (doc .entry)) at book known r) ⌝ }
+    ensures { λ r. ⌜ ((book : Book) → Planned (now (numbers .entry)) (now (steps .entry)) known book → Passes (now (doc .entry)) at book (now (numbers .entry)) known r) ⌝ }
 {
     if doc.len() < at + 12 {
         return Quick::Unsure;
@@ -231,6 +239,63 @@ pub fn quick_row<'d, 'n, 'p>(
     match passed {
         Passed::Unsure => Quick::Unsure,
         Passed::To(next) => Quick::Row(next, i),
+    }
+}
+
+// A row in one number.
+pub fn row_word(number: u32, stated: bool, next: usize) -> u64
+    requires { ⌜ next < 1073741824 ⌝ }
+    ensures { λ r. ⌜ r ≡ rowWord number stated next ⌝ }
+{
+    if stated {
+        return (number as u64) * 4294967296 + 3221225472 + (next as u64);
+    }
+    (number as u64) * 4294967296 + 2147483648 + (next as u64)
+}
+
+// Rows one behind another, each passed by the plan of its layout, from one index to another at most; the words of those that have a place are put there.
+pub fn quick_rows<'d, 'n, 'p, 'w>(
+    doc: &'d [u8],
+    at: usize,
+    numbers: &'n [u32; 64],
+    steps: &'p [u16; 4160],
+    known: usize,
+    last: usize,
+    words: &'w mut [u64],
+    from: usize,
+    to: usize,
+) -> Stretch
+    requires { ⌜ (at ≤ length (now doc)) × (length (now doc) ≤ 1048576) × (from ≤ to) × Plans (now numbers) (now steps) known ⌝ }
+    ensures { λ r. ⌜ ((book : Book) → Planned (now (numbers .entry)) (now (steps .entry)) known book → Passage (now (doc .entry)) at book from (now (words .entry)) (now (words .exit)) r) ⌝ }
+{
+    let mut pos = at;
+    let mut n = from;
+    let mut latest = last;
+    while n < to {
+        let quick = quick_row(doc, pos, numbers, steps, known, latest);
+        match quick {
+            Quick::Unsure => {
+                return Stretch {
+                    next: pos,
+                    count: n,
+                    last: latest,
+                };
+            }
+            Quick::Row(next, i) => {
+                if n < words.len() {
+                    let stated = octets::u32_at(doc, pos + 8) < 0xffff_ffff;
+                    words[n] = row_word(numbers[i], stated, next);
+                }
+                n += 1;
+                pos = next;
+                latest = i;
+            }
+        }
+    }
+    Stretch {
+        next: pos,
+        count: n,
+        last: latest,
     }
 }
 

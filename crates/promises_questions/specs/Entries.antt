@@ -5,7 +5,8 @@ use Rattle.headers.specs.Header.{headerAt}
 use Rattle.elements.specs.Steps.{lentBook, stepAt, leaves, whole}
 use Rattle.elements.specs.Answers.{tells}
 use Rattle.reading.specs.Answers.{headTells, checkTells}
-use Rattle.runs.specs.Runs.{runFrom, laid}
+use Rattle.plans.specs.Rows.{laid}
+use Rattle.runs.specs.Runs.{runFrom}
 use Rattle.runs.specs.Answers.{runTells}
 use Rattle.questions.specs.Questions.{fieldAsked, layoutAsked, attributeAsked, partOf}
 use Rattle.questions.specs.Answers.{refusalOf, octetsOf, fieldTells, kindTells}

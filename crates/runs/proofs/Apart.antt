@@ -3,7 +3,8 @@ use Prim.Native.Nat.{ℕ, _/_, _%_, _<_}
 use mathlib.Core.Path.{_≡_}
 use mathlib.Core.Bool.{true, false}
 use native.Mathlib.Omega.{arith}
-use Rattle.runs.specs.Runs.{layoutWord, rowWord}
+use Rattle.plans.specs.Rows.{rowWord}
+use Rattle.runs.specs.Runs.{layoutWord}
 
 -- What is read off a word.
 abbrev pub Tells : ℕ → ℕ → ℕ → ℕ → ℕ → Type 0

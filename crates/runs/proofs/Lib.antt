@@ -1,4 +1,3 @@
-mod Words
 mod Steps
 mod Mets
 mod Runs

@@ -10,7 +10,9 @@ use Rattle.octets.proofs.Ends.{left-suc}
 use Rattle.layouts.specs.Book.{bookImage}
 use Rattle.elements.specs.Element.{Item, Element, item, finish, Stepped}
 use Rattle.elements.specs.Steps.{holding, stepAt}
-use Rattle.runs.specs.Runs.{itemWord, Passed, stopped, behind, ofItem, onItem, runFrom, laid}
+use Rattle.plans.specs.Rows.{laid}
+use Rattle.plans.proofs.Rows.{laid-more}
+use Rattle.runs.specs.Runs.{itemWord, Passed, stopped, behind, ofItem, onItem, runFrom}
 use Rattle.runs.specs.Answers.{isItem}
 
 -- What follows a step that reads no item.
@@ -41,12 +43,6 @@ run-goes k s at rows octets used st i next e t = rw (e, t) refl
 behind-more : (xs ys : List ℕ) (p : Passed) → behind (xs ++ ys) p ≡ behind xs (behind ys p)
 behind-more xs ys p =
     ap (λ (ws : List ℕ). record { words = ws; next = p .next; rows = p .rows; octets = p .octets; used = p .used }) (append-assoc xs ys (p .words))
-
--- One word more is put behind those before.
-laid-more : (n : ℕ) (ws : List ℕ) (w : ℕ) (xs : List ℕ) → laid n (ws ++ w ∷ []) xs ≡ set (laid n ws xs) (n + length ws) w
-laid-more n [] w xs = ap (λ (k : ℕ). set xs k w) (let none : n ≡ n + 0 = omega arith in none)
-laid-more n (v ∷ ws) w xs =
-    laid-more (n + 1) ws w (set xs n v) ∙ ap (λ (k : ℕ). set (laid (n + 1) ws (set xs n v)) k w) (let one : n + 1 + length ws ≡ n + length (v ∷ ws) = omega arith in one)
 
 -- A run that began over some octets and words and is now at a place, n items further on.
 pub record OnWay (s : List ℕ) (at rows : ℕ) (entry : List ℕ) (used : ℕ) (lent words octets : List ℕ) (pos passed filled n : ℕ) : Type 0 where

@@ -1,20 +1,16 @@
 -- A run of steps: the layouts and rows from a place on, each told in one number.
 use Prim.Native.Nat.{ℕ, zero, suc, _+_, _*_}
 use mathlib.Core.List.{List, [], _∷_, _++_}
-use mathlib.Core.Bool.{Bool, true, false}
-use lib.ListN.{length, set}
+use lib.ListN.{length}
 use Rattle.octets.specs.Reading.{Read, ok, no}
 use Rattle.layouts.specs.Book.{bookImage}
+use Rattle.plans.specs.Rows.{rowWord}
 use Rattle.elements.specs.Element.{Item, layout, row, Element, item, finish, Stepped}
 use Rattle.elements.specs.Steps.{holding, stepAt}
 
--- An item in one number: its layout's number in the high 32 bits; then a bit for a row and a bit for a stated length; the next place in the low 30.
+-- A layout in one number: its number in the high 32 bits, the next place in the low 30; the two bits between say that it is no row.
 abbrev pub layoutWord : ℕ → ℕ → ℕ
 layoutWord number next = number * 4294967296 + next
-
-abbrev pub rowWord : ℕ → Bool → ℕ → ℕ
-rowWord number true next = number * 4294967296 + 3221225472 + next
-rowWord number false next = number * 4294967296 + 2147483648 + next
 
 abbrev pub itemWord : Item → ℕ → ℕ
 itemWord (layout l) next = layoutWord (l .number) next
@@ -50,8 +46,3 @@ runFrom (suc k) s at rows octets used =
     onItem (stepAt s at rows octets used)
     (λ st i next. behind (itemWord i next ∷ []) (runFrom k s next (st .rows) (holding (st .book) octets) (length (bookImage (st .book)))))
     (stopped at rows octets used)
-
--- Words put over those that are lent, from an index on.
-abbrev pub laid : ℕ → List ℕ → List ℕ → List ℕ
-laid n [] xs = xs
-laid n (w ∷ ws) xs = laid (n + 1) ws (set xs n w)

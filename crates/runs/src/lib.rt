@@ -1,20 +1,20 @@
 // A run of steps in one call: the layouts and rows from a place on, each told in one number, over a lent book that is checked once.
 
 ghost use mathlib.Core.Path.{_≡_};
-ghost use Prim.Native.Nat.{_≤_, _+_, _<_};
+ghost use Prim.Native.Nat.{_≤_, _+_, _-_, _<_};
 ghost use lib.ListN.{length};
 ghost use Rattle.octets.specs.Reading.{ok};
 ghost use Rattle.layouts.specs.Book.{Book, IsBook, bookIn};
 ghost use Rattle.layouts.specs.Answers.{Image, Holds};
 ghost use Rattle.rows.specs.Row.{Row, rowAt};
 ghost use Rattle.plans.specs.Plan.{Planned};
+ghost use Rattle.plans.specs.Rows.{laid};
 ghost use Rattle.elements.specs.Steps.{lentBook};
-ghost use Rattle.runs.specs.Runs.{rowWord, layoutWord, runFrom, laid};
+ghost use Rattle.runs.specs.Runs.{layoutWord, runFrom};
 ghost use Rattle.runs.specs.Answers.{Turns, wentOf, runTells};
 use elements::Met;
 use elements::Stepping;
 use layouts::Looked;
-use plans::Quick;
 
 // One step of a run: its item's word, the next place, the rows passed, the octets of the book that are used, how many plans there are, and which was last.
 pub struct Gone {
@@ -50,27 +50,6 @@ fn layout_word(number: u32, next: usize) -> u64
     ensures { λ r. ⌜ r ≡ layoutWord number next ⌝ }
 {
     (number as u64) * 4294967296 + (next as u64)
-}
-
-// A row in one number.
-fn row_word(number: u32, stated: bool, next: usize) -> u64
-    requires { ⌜ next < 1073741824 ⌝ }
-    ensures { λ r. ⌜ r ≡ rowWord number stated next ⌝ }
-{
-    if stated {
-        return (number as u64) * 4294967296 + 3221225472 + (next as u64);
-    }
-    (number as u64) * 4294967296 + 2147483648 + (next as u64)
-}
-
-// The word of a row at a place that ends at another.
-fn word_at(doc: &[u8], at: usize, next: usize) -> u64
-    requires { ⌜ (at + 12 ≤ length (now doc)) × (length (now doc) ≤ 1048576) × (next ≤ 1048576) ⌝ }
-    ensures { λ r. ⌜ ((book : Book) (row : Row) → rowAt book (now (doc .entry)) (at + 4) ≡ ok row next → r ≡ rowWord (row .number) (row .is-stated) next) ⌝ }
-{
-    let number = octets::u32_at(doc, at + 4);
-    let size = octets::u32_at(doc, at + 8);
-    row_word(number, size < 0xffff_ffff, next)
 }
 
 // Makes the plan of the layout that a book has under a number, where there is room for one more; how many plans there are then.
@@ -126,7 +105,7 @@ fn exact_item<'d, 'b, 'n, 'p>(
                 Met::Row(number, stated, count) => {
                     let more = note_in(&book[..filled], number, numbers, steps, known);
                     Turn::Item(Gone {
-                        word: row_word(number, stated, next),
+                        word: plans::row_word(number, stated, next),
                         next,
                         rows: step.rows,
                         used: filled,
@@ -139,7 +118,7 @@ fn exact_item<'d, 'b, 'n, 'p>(
     }
 }
 
-// The item at a place: a row by its plan, else by the exact reader.
+// The item at a place by the exact reader, unless the rows passed are too many for a step.
 fn next_item<'d, 'b, 'n, 'p>(
     doc: &'d [u8],
     at: usize,
@@ -157,21 +136,25 @@ fn next_item<'d, 'b, 'n, 'p>(
     if 1048576 < rows {
         return Turn::Stop;
     }
-    let quick = plans::quick_row(doc, at, numbers, steps, known, last);
-    match quick {
-        Quick::Row(next, i) => Turn::Item(Gone {
-            word: word_at(doc, at, next),
-            next,
-            rows: rows + 1,
-            used,
-            known,
-            last: i,
-        }),
-        Quick::Unsure => exact_item(doc, at, rows, book, used, numbers, steps, known, last),
-    }
+    exact_item(doc, at, rows, book, used, numbers, steps, known, last)
 }
 
-// The items from a place on, at most 4,096, over a book that is known to be good.
+// The index up to which rows may follow one another behind so many items and so many rows: no step is told more than 1,048,576 rows.
+fn reach(n: usize, rows: usize) -> usize
+    requires { ⌜ n ≤ 4096 ⌝ }
+    ensures { λ r. ⌜ (n ≤ r) × (r ≤ 4096) × (n < r → rows + (r - n) ≤ 1048577) ⌝ }
+{
+    if 1048576 < rows {
+        return n;
+    }
+    let left = 1048577 - rows;
+    if left < 4096 - n {
+        return n + left;
+    }
+    4096
+}
+
+// The items from a place on, at most 4,096, over a book that is known to be good: rows by plans as far as they go, else one item by the exact reader.
 fn items<'d, 'b, 'w>(
     doc: &'d [u8],
     at: usize,
@@ -192,34 +175,42 @@ fn items<'d, 'b, 'w>(
     let mut filled = used;
     let mut n: usize = 0;
     while n < 4096 {
-        let turn = next_item(
-            doc,
-            pos,
-            passed,
-            book,
-            filled,
-            &mut numbers,
-            &mut steps,
-            known,
-            last,
-        );
-        match turn {
-            Turn::Stop => {
-                return Went {
-                    count: n,
-                    next: pos,
-                    rows: passed,
-                    used: filled,
-                };
-            }
-            Turn::Item(gone) => {
-                words[n] = gone.word;
-                n += 1;
-                pos = gone.next;
-                passed = gone.rows;
-                filled = gone.used;
-                known = gone.known;
-                last = gone.last;
+        let to = reach(n, passed);
+        let stretch = plans::quick_rows(doc, pos, &numbers, &steps, known, last, words, n, to);
+        pos = stretch.next;
+        passed += stretch.count - n;
+        n = stretch.count;
+        last = stretch.last;
+        if n < 4096 {
+            let turn = next_item(
+                doc,
+                pos,
+                passed,
+                book,
+                filled,
+                &mut numbers,
+                &mut steps,
+                known,
+                last,
+            );
+            match turn {
+                Turn::Stop => {
+                    return Went {
+                        count: n,
+                        next: pos,
+                        rows: passed,
+                        used: filled,
+                    };
+                }
+                Turn::Item(gone) => {
+                    words[n] = gone.word;
+                    n += 1;
+                    pos = gone.next;
+                    passed = gone.rows;
+                    filled = gone.used;
+                    known = gone.known;
+                    last = gone.last;
+                }
             }
         }
     }

@@ -13,28 +13,31 @@ use Rattle.octets.specs.Writing.{Each, Octet}
 use Rattle.octets.proofs.Spans.{each-octet}
 use Rattle.layouts.specs.Book.{Book, bookImage}
 use Rattle.layouts.proofs.Lends.{stood}
-use Rattle.plans.specs.Answers.{Passes}
-use Rattle.plans.specs.declared.Quick.{Quick}
+use Rattle.plans.specs.Rows.{Passage}
 use Rattle.elements.specs.Element.{Stepped, elementAt}
 use Rattle.elements.specs.Steps.{isLast}
 use Rattle.elements.specs.Answers.{tells, stepOf, isLastMet}
 use Rattle.elements.specs.declared.Step.{Step}
 use Rattle.elements.specs.declared.Stepping.the-variants.{Done}
 use Rattle.elements.proofs.Going.{going-refused, going-end, done, refusing, last-met, element-place}
-use Rattle.elements.proofs.Quickly.{OnWay, way-start, way-row, row-further, planned-on, way-old, found-new, room-new, way-new, New, element-new}
+use Rattle.elements.proofs.Quickly.{OnWay, way-start, way-rows, rows-further, planned-on, way-old, found-new, room-new, way-new, New, element-new}
 use Rattle.elements.proofs.rows_from.Statement.{statement}
 use Rattle.elements.proofs.rows_from.Tie as tie
 
 abbrev Inv-loop : tie.InvT-loop
-Inv-loop doc at numbers₀ places₀ steps₀ known₀ last₀ pos₀ rows₀ used₀ numbers places steps known last pos rows used = OnWay doc at numbers places steps known pos rows used
+Inv-loop doc at numbers₀ places₀ steps₀ known₀ last₀ pos₀ rows₀ used₀ words₀ numbers places steps known last pos rows used words =
+    OnWay doc at numbers places steps known pos rows used × (length words ≡ 64)
 
 abbrev μ-loop : tie.MeasureT-loop
-μ-loop doc at numbers₀ places₀ steps₀ known₀ last₀ pos₀ rows₀ used₀ numbers places steps known last pos rows used = length doc - pos
+μ-loop doc at numbers₀ places₀ steps₀ known₀ last₀ pos₀ rows₀ used₀ words₀ numbers places steps known last pos rows used words = length doc - pos
 
 loop-holds : tie.Need-loop-holds Inv-loop μ-loop
 loop-holds c =
-    let a = c .before .args in
-    way-start (now (a .doc)) (a .at) (replicate 64 0) (replicate 64 0) (replicate 4160 0) (c .before .pre .0) (length-replicate {A = ℕ} 64 0) (length-replicate {A = ℕ} 64 0) (length-replicate {A = ℕ} 4160 0)
+    let a = c .before .args in (
+      way-start (now (a .doc)) (a .at) (replicate 64 0) (replicate 64 0) (replicate 4160 0) (c .before .pre .0) (length-replicate {A = ℕ} 64 0) (length-replicate {A = ℕ} 64 0)
+          (length-replicate {A = ℕ} 4160 0),
+      length-replicate {A = ℕ} 64 0,
+    )
 
 -- The turn by names.
 abbrev Turn : Type 0
@@ -43,102 +46,101 @@ Turn = tie.At-loop Inv-loop μ-loop
 abbrev Start : Turn → tie.Start Inv-loop μ-loop
 Start t = t .before .before
 
-module _ (t : Turn) where
+slice-aggregate-quick-rows : tie.Need-slice-aggregate-quick-rows Inv-loop μ-loop
+slice-aggregate-quick-rows c = sym (c .before .before .before .loop .inv .1)
+
+quick-rows-requires : tie.Need-quick-rows-requires Inv-loop μ-loop
+quick-rows-requires c κs =
+    let t = c .before .before .before in
+    let w = t .loop .inv .0 in
+    (w .going .inside, Start t .pre .1, omega arith, omega (arith, t .loop .inv .1), record { book = w .book; planned = w .planned })
+
+-- Behind the rows that plans passed.
+abbrev Strode : Type 0
+Strode = tie.After-quick-rows Inv-loop μ-loop
+
+abbrev Turned : Strode → Turn
+Turned q = q .before .before .before .before
+
+module _ (q : Strode) where
   abbrev doc : List ℕ
-  doc = now (Start t .args .doc)
+  doc = now (Start (Turned q) .args .doc)
 
   abbrev at : ℕ
-  at = Start t .args .at
+  at = Start (Turned q) .args .at
 
   abbrev numbers : List ℕ
-  numbers = t .loop .numbers
+  numbers = Turned q .loop .numbers
 
   abbrev places : List ℕ
-  places = t .loop .places
+  places = Turned q .loop .places
 
   abbrev steps : List ℕ
-  steps = t .loop .steps
+  steps = Turned q .loop .steps
 
   abbrev known : ℕ
-  known = t .loop .known
+  known = Turned q .loop .known
 
   abbrev pos : ℕ
-  pos = t .loop .pos
+  pos = q .quick-rows .result .next
 
   abbrev rows : ℕ
-  rows = t .loop .rows
+  rows = Turned q .loop .rows + q .quick-rows .result .count
 
   abbrev used : ℕ
-  used = t .loop .used
-
-  way : OnWay doc at numbers places steps known pos rows used
-  way = t .loop .inv
-
-  abbrev book : Book
-  book = t .loop .inv .book
+  used = Turned q .loop .used
 
   short : length doc ≤ 1048576
-  short = Start t .pre .1
+  short = Start (Turned q) .pre .1
 
   octets : Each Octet doc
-  octets = each-octet doc (t .before .shared-slice-known .given)
+  octets = each-octet doc (Turned q .before .shared-slice-known .given)
+
+  passage : Passage doc (Turned q .loop .pos) (Turned q .loop .inv .0 .book) 0 (Turned q .loop .words) (q .quick-rows .last .1 .1 .1 .1 .1 .1 .0) (q .quick-rows .result)
+  passage = q .quick-rows .ensures (Turned q .loop .inv .0 .book) (Turned q .loop .inv .0 .planned)
+
+  count : length (passage .rows) ≡ q .quick-rows .result .count
+  count = omega (arith, passage .count)
+
+  way : OnWay doc at numbers places steps known pos rows used
+  way =
+      subst (λ (n : ℕ). OnWay doc at numbers places steps known pos (Turned q .loop .rows + n) used) count
+      (way-rows doc short octets at numbers places steps known (Turned q .loop .pos) (Turned q .loop .rows) used (Turned q .loop .inv .0) (passage .rows) pos (passage .stand))
+
+  further-on : Turned q .loop .pos + q .quick-rows .result .count ≤ pos
+  further-on =
+      subst (λ (n : ℕ). Turned q .loop .pos + n ≤ pos) count
+      (rows-further doc short octets at numbers places steps known (Turned q .loop .pos) (Turned q .loop .rows) used (Turned q .loop .inv .0) (passage .rows) pos (passage .stand))
+
+  abbrev book : Book
+  book = way .book
 
   few-rows : rows ≤ 1048576
-  few-rows = omega (arith, t .loop .inv .going .behind, t .loop .inv .going .inside, short)
+  few-rows = omega (arith, way .going .behind, way .going .inside, short)
 
--- The row that a plan passed.
-abbrev Tried : Type 0
-Tried = tie.After-quick-row Inv-loop μ-loop
-
-abbrev Turned : Tried → Turn
-Turned q = q .before .before .before
-
-passes : (q : Tried) (x : Quick) → q .quick-row .result ≡ x → Passes (doc (Turned q)) (pos (Turned q)) (book (Turned q)) (known (Turned q)) x
-passes q x e = subst (Passes (doc (Turned q)) (pos (Turned q)) (book (Turned q)) (known (Turned q))) e (q .quick-row .ensures (book (Turned q)) (Turned q .loop .inv .planned))
-
-quick-row-requires : tie.Need-quick-row-requires Inv-loop μ-loop
-quick-row-requires c κs =
-    let t = c .before .before in
-    (t .loop .inv .going .inside, short t, record { book = book t; planned = t .loop .inv .planned })
-
-loop-again : tie.Need-loop-again Inv-loop μ-loop
-loop-again c =
-    let q = c .before .before .before in
-    let t = Turned q in
-    let (_, k, r) = passes q _ (c .before .quick .given .1) in
-    way-row (doc t) (short t) (octets t) (at t) (numbers t) (places t) (steps t) (known t) (pos t) (rows t) (used t) (t .loop .inv) (r .0) _ k (r .1)
-
-loop-less : tie.Need-loop-less Inv-loop μ-loop
-loop-less c =
-    let q = c .before .before .before in
-    let t = Turned q in
-    let (_, k, r) = passes q _ (c .before .quick .given .1) in
-    let w = row-further (doc t) (short t) (octets t) (at t) (numbers t) (places t) (steps t) (known t) (pos t) (rows t) (used t) (t .loop .inv) (r .0) _ k (r .1) in
-    omega (arith, w, loop-again c .going .inside)
+  -- The words are as many as they were.
+  words-long : length (q .quick-rows .last .1 .1 .1 .1 .1 .1 .0) ≡ 64
+  words-long = q .quick-rows .kept .1 .1 .1 .1 .1 .1 .0 ∙ Turned q .loop .inv .1
 
 add-rows : tie.Need-add-rows Inv-loop μ-loop
-add-rows c = let t = Turned (c .before .before .before) in omega (arith, few-rows t)
+add-rows c = omega (arith, few-rows (c .before .before))
 
 look-up-requires : tie.Need-look-up-requires Inv-loop μ-loop
-look-up-requires c κs = let t = Turned (c .before .before .before .before .before) in t .loop .inv .planned .few
+look-up-requires c κs = let q = c .before .before .before .before .before .before .before in way q .planned .few
 
 element-over-requires : tie.Need-element-over-requires Inv-loop μ-loop
 element-over-requires c κs =
-    let t = Turned (c .before .before .before .before .before .before) in
-    let w = t .loop .inv in (
-      short t,
-      few-rows t,
-      short t,
-      omega (arith, w .size, w .going .good .small),
-      stood (doc t) (c .before .number-behind .result) (book t) (c .look-up .result) (c .look-up .ensures (doc t) (book t) (w .kept)),
-    )
+    let q = c .before .before .before .before .before .before .before .before in
+    let w = way q in
+    (short q, few-rows q, short q, omega (arith, w .size, w .going .good .small),
+    stood (doc q) (c .before .number-behind .result) (book q) (c .look-up .result) (c .look-up .ensures (doc q) (book q) (w .kept)))
 
 -- The element that was answered.
 abbrev Answered : Type 0
 Answered = tie.After-element-over Inv-loop μ-loop
 
-abbrev Of : Answered → Turn
-Of v = Turned (v .before .before .before .before .before .before .before)
+abbrev Of : Answered → Strode
+Of v = v .before .before .before .before .before .before .before .before .before
 
 is-read : (v : Answered) → v .element-over .result ≡ tells (elementAt (doc (Of v)) (pos (Of v)) (rows (Of v)) (book (Of v)))
 is-read v =
@@ -148,12 +150,12 @@ is-read v =
     (record {
       number = l .before .number-behind .result;
       is = l .before .number-behind .ensures;
-      looks = l .look-up .ensures (doc t) (book t) (t .loop .inv .kept);
-      size = t .loop .inv .size;
+      looks = l .look-up .ensures (doc t) (book t) (way t .kept);
+      size = way t .size;
     })
 
 -- The element that a step tells of.
-pub record Told (v : Answered) (step : Step) : Type 0 where
+record Told (v : Answered) (step : Step) : Type 0 where
   pub stepped : Stepped
   pub next : ℕ
   pub reads : elementAt (doc (Of v)) (pos (Of v)) (rows (Of v)) (book (Of v)) ≡ ok stepped next
@@ -172,7 +174,7 @@ returns : tie.Need-returns Inv-loop μ-loop
 returns c =
     let v = c .before .before .before in
     let t = Of v in
-    sym (going-refused (doc t) (short t) (at t) (book t) (pos t) (rows t) (t .loop .inv .going) _ _
+    sym (going-refused (doc t) (short t) (at t) (book t) (pos t) (rows t) (way t .going) _ _
     (refusing (elementAt (doc t) (pos t) (rows t) (book t)) _ _ (sym (is-read v) ∙ c .before .one .given .1)))
 
 returns-2 : tie.Need-returns-2 Inv-loop μ-loop
@@ -181,13 +183,13 @@ returns-2 c =
     let t = Of v in
     let step = c .before .before .before .one2 .given .0 .0 in
     let x = told v step (c .before .before .before .one2 .given .1) in
-    let last = last-is v step x true (sym (c .before .is-end .ensures) ∙ c .if1 .taken) in
+    let last = last-is v step x true (sym (c .before .is-end .ensures) ∙ c .if2 .taken) in
     ap (λ (s : Step). ok (s .rows) (s .next)) (sym (x .is))
-    ∙ sym (going-end (doc t) (short t) (at t) (book t) (pos t) (rows t) (t .loop .inv .going) (x .stepped) (x .next) (x .reads) last)
+    ∙ sym (going-end (doc t) (short t) (at t) (book t) (pos t) (rows t) (way t .going) (x .stepped) (x .next) (x .reads) last)
 
 -- An element that is not the last, by names.
 abbrev More : Type 0
-More = tie.Else1 Inv-loop μ-loop
+More = tie.Else2 Inv-loop μ-loop
 
 abbrev By : More → Answered
 By m = m .before .before .before .before .before
@@ -199,24 +201,24 @@ told-of : (m : More) → Told (By m) (step-of m)
 told-of m = told (By m) (step-of m) (m .before .before .before .one2 .given .1)
 
 not-last : (m : More) → isLast (told-of m .stepped .element) ≡ false
-not-last m = last-is (By m) (step-of m) (told-of m) false (sym (m .before .is-end .ensures) ∙ m .if1 .left)
+not-last m = last-is (By m) (step-of m) (told-of m) false (sym (m .before .is-end .ensures) ∙ m .if2 .left)
 
 further : (m : More) → (pos (Of (By m)) + 4 ≤ step-of m .next) × (step-of m .next ≤ length (doc (Of (By m))))
 further m =
     let t = Of (By m) in
     let x = told-of m in
     subst (λ (s : Step). (pos t + 4 ≤ s .next) × (s .next ≤ length (doc t))) (x .is)
-    (element-place (doc t) (short t) (octets t) (pos t) (rows t) (book t) (t .loop .inv .going .inside) (x .stepped) (x .next) (x .reads))
+    (element-place (doc t) (short t) (octets t) (pos t) (rows t) (book t) (way t .going .inside) (x .stepped) (x .next) (x .reads))
 
 -- Whether the book grew.
 grown : (m : More) → used (Of (By m)) < step-of m .used → length (bookImage (book (Of (By m)))) < length (bookImage (told-of m .stepped .book))
-grown m h = grows (Of (By m) .loop .inv .size) (ap (λ (s : Step). s .used) (told-of m .is)) h
+grown m h = grows (way (Of (By m)) .size) (ap (λ (s : Step). s .used) (told-of m .is)) h
   where
     grows : {a b c d : ℕ} → a ≡ b → c ≡ d → b < d → a < c
     grows p q r = omega arith
 
 not-grown : (m : More) → step-of m .used ≤ used (Of (By m)) → length (bookImage (book (Of (By m)))) < length (bookImage (told-of m .stepped .book)) → ⊥
-not-grown m h = stays (Of (By m) .loop .inv .size) (ap (λ (s : Step). s .used) (told-of m .is)) h
+not-grown m h = stays (way (Of (By m)) .size) (ap (λ (s : Step). s .used) (told-of m .is)) h
   where
     stays : {a b c d : ℕ} → a ≡ b → c ≡ d → d ≤ b → a < c → ⊥
     stays p q r z = omega arith
@@ -233,58 +235,67 @@ has-room : (m : More) → used (Of (By m)) < step-of m .used → known (Of (By m
 has-room m h =
     let t = Of (By m) in
     let x = told-of m in
-    room-new (doc t) (short t) (octets t) (at t) (numbers t) (places t) (steps t) (known t) (pos t) (rows t) (used t) (t .loop .inv) (x .stepped) (x .next) (x .reads) (not-last m) (new m h)
+    room-new (doc t) (short t) (octets t) (at t) (numbers t) (places t) (steps t) (known t) (pos t) (rows t) (used t) (way t) (x .stepped) (x .next) (x .reads) (not-last m) (new m h)
 
 note-requires : tie.Need-note-requires Inv-loop μ-loop
 note-requires c κs =
     let m = c .before .before .before .before in
     let t = Of (By m) in
-    (short t, ap isOk (new m (c .before .before .if2 .taken) .reads), t .loop .inv .planned .steps-long)
+    (short t, ap isOk (new m (c .before .before .if3 .taken) .reads), way t .planned .steps-long)
 
-loop-again-2 : tie.Need-loop-again-2 Inv-loop μ-loop
-loop-again-2 c =
+loop-again : tie.Need-loop-again Inv-loop μ-loop
+loop-again c =
     let m = c .before .before .before .before .before in
-    let h = c .before .before .before .if2 .taken in
+    let h = c .before .before .before .if3 .taken in
     let t = Of (By m) in
     let x = told-of m in
     let n = new m h in
     let noted = c .note .ensures (n .layout) (x .next) (n .reads) in
     let (count, is) = noted .1 (has-room m h) in
     let planned = noted .0 (x .stepped .book)
-    (found-new (doc t) (short t) (octets t) (at t) (numbers t) (places t) (steps t) (known t) (pos t) (rows t) (used t) (t .loop .inv) (x .stepped) (x .next) (x .reads) (not-last m) n)
-    (planned-on (doc t) (short t) (octets t) (at t) (numbers t) (places t) (steps t) (known t) (pos t) (rows t) (used t) (t .loop .inv) (x .stepped) (x .next) (x .reads) (not-last m)) in
-    subst (λ (s : Step). OnWay (doc t) (at t) (c .note .last .1 .1 .0) (set (places t) (known t) (pos t + 4)) (c .note .last .1 .1 .1 .0) (c .note .result) (s .next) (s .rows) (s .used)) (x .is)
-    (way-new (doc t) (short t) (octets t) (at t) (numbers t) (places t) (steps t) (known t) (pos t) (rows t) (used t) (t .loop .inv) (x .stepped) (x .next) (x .reads) (not-last m) n
-    (c .note .last .1 .1 .0) (c .note .last .1 .1 .1 .0) (c .note .result) planned count is)
+    (found-new (doc t) (short t) (octets t) (at t) (numbers t) (places t) (steps t) (known t) (pos t) (rows t) (used t) (way t) (x .stepped) (x .next) (x .reads) (not-last m) n)
+    (planned-on (doc t) (short t) (octets t) (at t) (numbers t) (places t) (steps t) (known t) (pos t) (rows t) (used t) (way t) (x .stepped) (x .next) (x .reads) (not-last m)) in
+    (subst (λ (s : Step). OnWay (doc t) (at t) (c .note .last .1 .1 .0) (set (places t) (known t) (pos t + 4)) (c .note .last .1 .1 .1 .0) (c .note .result) (s .next) (s .rows) (s .used)) (x .is)
+    (way-new (doc t) (short t) (octets t) (at t) (numbers t) (places t) (steps t) (known t) (pos t) (rows t) (used t) (way t) (x .stepped) (x .next) (x .reads) (not-last m) n
+    (c .note .last .1 .1 .0) (c .note .last .1 .1 .1 .0) (c .note .result) planned count is),
+    words-long t)
 
-loop-again-3 : tie.Need-loop-again-3 Inv-loop μ-loop
-loop-again-3 c =
+loop-again-2 : tie.Need-loop-again-2 Inv-loop μ-loop
+loop-again-2 c =
     let m = c .before .before in
     let t = Of (By m) in
     let x = told-of m in
-    subst (λ (s : Step). OnWay (doc t) (at t) (numbers t) (places t) (steps t) (known t) (s .next) (s .rows) (s .used)) (x .is)
-    (way-old (doc t) (short t) (octets t) (at t) (numbers t) (places t) (steps t) (known t) (pos t) (rows t) (used t) (t .loop .inv) (x .stepped) (x .next) (x .reads) (not-last m)
-    (not-grown m (c .if2 .left)))
+    (subst (λ (s : Step). OnWay (doc t) (at t) (numbers t) (places t) (steps t) (known t) (s .next) (s .rows) (s .used)) (x .is)
+    (way-old (doc t) (short t) (octets t) (at t) (numbers t) (places t) (steps t) (known t) (pos t) (rows t) (used t) (way t) (x .stepped) (x .next) (x .reads) (not-last m)
+    (not-grown m (c .if3 .left))),
+    words-long t)
 
 add-places : tie.Need-add-places Inv-loop μ-loop
 add-places c = let m = c .before .before in let w = further m in omega (arith, short (Of (By m)))
 
 mul-places : tie.Need-mul-places Inv-loop μ-loop
-mul-places c = let m = c .before .before in let h = has-room m (c .if2 .taken) in omega arith
+mul-places c = let m = c .before .before in let h = has-room m (c .if3 .taken) in omega arith
 
 array-write-places : tie.Need-array-write-places Inv-loop μ-loop
-array-write-places c = has-room (c .before .before) (c .if2 .taken)
+array-write-places c = has-room (c .before .before) (c .if3 .taken)
 
 add-note : tie.Need-add-note Inv-loop μ-loop
 add-note c = let m = c .before .before in let w = further m in omega (arith, short (Of (By m)))
 
+loop-less : tie.Need-loop-less Inv-loop μ-loop
+loop-less c = let m = c .before .before .before .before .before in let w = further m in omega (arith, further-on (Of (By m)))
+
 loop-less-2 : tie.Need-loop-less-2 Inv-loop μ-loop
-loop-less-2 c = let w = further (c .before .before .before .before .before) in omega arith
+loop-less-2 c = let m = c .before .before in let w = further m in omega (arith, further-on (Of (By m)))
+
+-- The words are full, and the run goes on behind these rows.
+loop-again-3 : tie.Need-loop-again-3 Inv-loop μ-loop
+loop-again-3 c = let q = c .before .before .before .before in (way q, words-long q)
 
 loop-less-3 : tie.Need-loop-less-3 Inv-loop μ-loop
-loop-less-3 c = let w = further (c .before .before) in omega arith
+loop-less-3 c = let q = c .before .before .before .before in omega (arith, further-on q, way q .going .inside, c .if1 .left)
 
 pub rows-from-spec : {M : Type 1} → statement M
 rows-from-spec =
     tie.close
-    (tie.spec Inv-loop μ-loop loop-holds quick-row-requires (λ c. search needs) add-rows loop-less loop-again (λ c. search needs) (λ c κs. search needs) look-up-requires element-over-requires (λ c. search needs) returns (λ c. search needs) (λ c κs. search needs) returns-2 add-places mul-places array-write-places add-note note-requires loop-less-2 loop-again-2 loop-less-3 loop-again-3)
+    (tie.spec Inv-loop μ-loop loop-holds slice-aggregate-quick-rows quick-rows-requires add-rows (λ c κs. search needs) look-up-requires element-over-requires (λ c. search needs) returns (λ c. search needs) (λ c κs. search needs) returns-2 add-places mul-places array-write-places add-note note-requires loop-less loop-again loop-less-2 loop-again-2 loop-less-3 loop-again-3)

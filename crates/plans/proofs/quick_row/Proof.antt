@@ -49,6 +49,7 @@ returns-5 c = λ book p.
     let e = p .entry (I x) (known x) in
     let u = x .before .before .before .before in (
       known x,
+      is-number x,
       number-ok (now (a .doc)) (a .at) 4 (omega arith) ∙ ap (λ (n : ℕ). ok n (a .at + 4)) (sym (u .u32-at .ensures) ∙ x .before .before .before .if2 .left),
       row-passed (now (a .doc)) (a .at + 4) (a .at + 8) _ book (e .layout) (omega arith) (omega arith) (ap (λ (n : ℕ). find n book) (sym (is-number x)) ∙ e .found)
           (lasts v _ (c .before .passed .given .1) (e .layout .attributes) (e .stands)),

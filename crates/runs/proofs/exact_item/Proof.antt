@@ -26,7 +26,8 @@ use Rattle.elements.proofs.Before.{step-is}
 use Rattle.elements.proofs.Going.{done, refusing}
 use Rattle.elements.proofs.Quickly.{element-keeps}
 use Rattle.elements.proofs.Told.{holding-same}
-use Rattle.runs.specs.Runs.{layoutWord, rowWord, ofItem}
+use Rattle.plans.specs.Rows.{rowWord}
+use Rattle.runs.specs.Runs.{layoutWord, ofItem}
 use Rattle.runs.specs.Answers.{isItem}
 use Rattle.runs.proofs.Steps.{Taken, taken, held}
 use Rattle.runs.proofs.Mets.{met-layout, met-row, met-end, end-keeps}

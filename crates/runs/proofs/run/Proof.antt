@@ -14,7 +14,8 @@ use Rattle.octets.proofs.Spans.{each-octet}
 use Rattle.layouts.specs.Book.{Book, bookOf, IsBook}
 use Rattle.layouts.proofs.Checks.{good-book}
 use Rattle.elements.specs.Steps.{lentBook}
-use Rattle.runs.specs.Runs.{Passed, stopped, runFrom, laid}
+use Rattle.plans.specs.Rows.{laid}
+use Rattle.runs.specs.Runs.{Passed, stopped, runFrom}
 use Rattle.runs.specs.Answers.{wentOf, runTells}
 use Rattle.runs.specs.declared.Running.{Running}
 use Rattle.runs.specs.declared.Running.the-variants as running

@@ -1,8 +1,8 @@
--- `runs::row_word` meets its contract. Assumes nothing.
+-- `plans::row_word` meets its contract. Assumes nothing.
 use borrow.Author.Needs.{needs}
 use mathlib.Core.Path.{refl}
-use Rattle.runs.proofs.row_word.Statement.{statement}
-use Rattle.runs.proofs.row_word.Tie as tie
+use Rattle.plans.proofs.row_word.Statement.{statement}
+use Rattle.plans.proofs.row_word.Tie as tie
 
 returns : tie.Need-returns
 returns c = rw (c .if1 .taken) refl
