@@ -42,13 +42,17 @@ pub ends-ok : {A : Type 0} (r : Read A) → isOk (ends r) ≡ isOk r
 ends-ok (ok a n) = refl
 ends-ok (no n p) = refl
 
-pub ok-alike : {A B : Type 0} (r : Read A) (q : Read B) → ends r ≡ ends q → isOk r ≡ true → isOk q ≡ true
-ok-alike r q e t = sym (ends-ok q) ∙ (ap isOk (sym e) ∙ (ends-ok r ∙ t))
+pub ok-alike : {A B : Type 0} (r : Read A) (q : Read B) → ends r ≡ ends q → isOk r ≡ isOk q
+ok-alike r q e = sym (ends-ok r) ∙ (ap isOk e ∙ ends-ok q)
 
--- The first part of what is accepted is accepted, and so is a test on the way.
+-- The first part of what is accepted is accepted, and so is a test on the way; where the first part is refused all is.
 pub first-ok : {A B : Type 0} (r : Read A) (f : A → ℕ → Read B) → isOk (r then f) ≡ true → isOk r ≡ true
 first-ok (ok a n) f t = refl
 first-ok (no n p) f t = t
+
+pub first-no : {A B : Type 0} (r : Read A) (f : A → ℕ → Read B) → isOk r ≡ false → isOk (r then f) ≡ false
+first-no (ok a n) f t = absurd (let z : _≡_ {A = ℕ} 0 1 = cc in omega arith)
+first-no (no n p) f t = t
 
 pub chosen-ok : {A : Type 0} (b : Bool) (x : Unit {0} → Read A) (n p : ℕ) → isOk (choose b x (λ _. no n p)) ≡ true → b ≡ true
 chosen-ok true x n p t = refl
@@ -62,6 +66,10 @@ overrun-then (stated end p) at f = refl
 pub overrun-ends : (A : Type 0) (room : Room) (at : ℕ) → ends (overrun {A = A} room at) ≡ overrun room at
 overrun-ends A document at = refl
 overrun-ends A (stated end p) at = refl
+
+pub overrun-no : {A : Type 0} (r : Read A) (room : Room) (at : ℕ) → ends r ≡ overrun room at → isOk r ≡ false
+overrun-no r document at e = sym (ends-ok r) ∙ ap isOk e
+overrun-no r (stated end p) at e = sym (ends-ok r) ∙ ap isOk e
 
 -- Numbers and length-led octets, once over the room.
 module _ (room : Room) (s : List ℕ) (at : ℕ) where

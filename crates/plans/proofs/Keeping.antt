@@ -1,23 +1,23 @@
--- Plans kept: they go with every book that finds what theirs finds, one more is added behind them, and a row passed by one is a row of the book.
+-- Plans kept: they go with every book that finds what theirs finds, one more is added behind them, a row passed by one is a row of the book, and one that its plan does not pass is refused.
 -- Layouts kept by their places: one more is added behind them too.
 use Prim.Native.Nat.{ℕ, _+_, _*_, _≤_, _<_}
 use mathlib.Core.Path.{_≡_, refl, sym, ap, _∙_, subst}
 use mathlib.Core.List.{List, [], _∷_, _++_}
 use mathlib.Core.Bool.{Bool, true, false}
-use mathlib.Core.Option.{some, none}
+use mathlib.Core.Option.{Option, some, none}
 use native.Mathlib.Omega.{arith}
 use lib.ListN.{length, getD, set, take, length-set, length-append}
 use lib.Seq.{getD-set-same, getD-set-other}
-use lib.Dec.{ltb}
-use borrow.Author.Tests.{ltb-true, ltb-false}
-use Rattle.octets.specs.Reading.{ok, ends, be, document, stated, number}
-use Rattle.octets.proofs.Ends.{number-ok, ended}
-use Rattle.layouts.specs.Layout.{Layout, layoutAt}
+use lib.Dec.{leb, ltb}
+use borrow.Author.Tests.{leb-true, leb-false, ltb-true, ltb-false}
+use Rattle.octets.specs.Reading.{ok, ends, isOk, be, document, stated, number}
+use Rattle.octets.proofs.Ends.{number-ok, number-no, ended, ends-ok, first-no}
+use Rattle.layouts.specs.Layout.{Attribute, Layout, layoutAt}
 use Rattle.layouts.specs.Book.{Book, find}
 use Rattle.layouts.specs.Answers.{Stands}
 use Rattle.layouts.proofs.Finding.{Within, find-here, find-skip, find-nil, find-front, find-behind}
-use Rattle.rows.specs.Row.{Field, Row, valuesAt, rowAt}
-use Rattle.rows.proofs.Lengths.{values-open, values-stated, filled-ok}
+use Rattle.rows.specs.Row.{Field, Row, fieldsIn, filled, valuesAt, named, rowAt}
+use Rattle.rows.proofs.Lengths.{values-open, values-past, values-stated, filled-ok, filled-short, row-cut}
 use Rattle.plans.specs.Plan.{planOf, Begins, Entry, Planned, Lacks, Kept}
 use Rattle.plans.specs.Answers.{Follows, Lasts}
 use Rattle.plans.specs.declared.Passed.{Passed}
@@ -132,13 +132,34 @@ module _ (doc numbers places : List ℕ) (known at next : ℕ) (book : Book) (l 
 module _ (s : List ℕ) (at : ℕ) (steps : List ℕ) (from : ℕ) where
   pub lasts-open : be 4 s at ≡ 0xffffffff → (x : Passed) → Follows s (at + 4) (length s) steps from x → Lasts s at steps from x
   lasts-open e (passed.To p) f = λ xs b. ap ends (values-open xs s at (be 4 s at) e) ∙ f .2 xs b document refl
-  lasts-open e passed.Unsure f = tt
+  lasts-open e passed.Unsure f = λ xs b. ap isOk (values-open xs s at (be 4 s at) e) ∙ f xs b document refl
 
   pub lasts-stated : (size p : ℕ) → size ≡ be 4 s at → (size ≡ 0xffffffff → ⊥) → at + 4 + size ≤ length s → Follows s (at + 4) (at + 4 + size) steps from (passed.To p) → p ≡ at + 4 + size
       → Lasts s at steps from (passed.To p)
   lasts-stated size p is other inside f e = λ xs b.
       subst (λ (n : ℕ). ends (valuesAt xs s at n) ≡ ok p p) is
       (ap ends (values-stated xs s at size other inside) ∙ filled-ok xs s at (at + 4 + size) p (f .2 xs b (stated (at + 4 + size) at) refl) e)
+
+  -- A stated length that passes the document's end, values that are refused, and values that end elsewhere.
+  module _ (size : ℕ) (is : size ≡ be 4 s at) (other : size ≡ 0xffffffff → ⊥) where
+    stated-no : ((xs : List Attribute) → Begins steps from (planOf 0 xs) → isOk (valuesAt xs s at size) ≡ false) → Lasts s at steps from passed.Unsure
+    stated-no f = λ xs b. subst (λ (n : ℕ). isOk (valuesAt xs s at n) ≡ false) is (f xs b)
+
+    pub lasts-past : length s < at + 4 + size → Lasts s at steps from passed.Unsure
+    lasts-past h = stated-no λ xs b. ap isOk (values-past xs s at size other h)
+
+    module _ (inside : at + 4 + size ≤ length s) where
+      pub lasts-no : Follows s (at + 4) (at + 4 + size) steps from passed.Unsure → Lasts s at steps from passed.Unsure
+      lasts-no f =
+          stated-no λ xs b.
+          ap isOk (values-stated xs s at size other inside)
+          ∙ first-no (fieldsIn (stated (at + 4 + size) at) xs s (at + 4)) _ (f xs b (stated (at + 4 + size) at) refl)
+
+      pub lasts-short : (p : ℕ) → Follows s (at + 4) (at + 4 + size) steps from (passed.To p) → (p ≡ at + 4 + size → ⊥) → Lasts s at steps from passed.Unsure
+      lasts-short p f e =
+          stated-no λ xs b.
+          ap isOk (values-stated xs s at size other inside)
+          ∙ (sym (ends-ok (filled xs s at (at + 4 + size))) ∙ ap isOk (filled-short xs s at (at + 4 + size) p (f .2 xs b (stated (at + 4 + size) at) refl) e))
 
 -- A row by its number, its layout and where its values end.
 pub row-passed : (s : List ℕ) (at length-at p : ℕ) (book : Book) (l : Layout) → length-at ≡ at + 4 → length-at + 4 ≤ length s → find (be 4 s at) book ≡ some l
@@ -151,3 +172,24 @@ row-passed s at length-at p book l is h found e =
     go : (fields : List Field) → valuesAt (l .attributes) s (at + 4) (be 4 s (at + 4)) ≡ ok fields p → (row : Row) × (rowAt book s at ≡ ok row p)
     go fields f =
         (record { number = be 4 s at; is-stated = ltb (be 4 s (at + 4)) 0xffffffff; fields = fields }, rw (number-ok s at 4 (omega arith), found, number-ok s (at + 4) 4 (omega arith), f) refl)
+
+-- The same for one that is refused: its length is cut short, or its values are refused.
+module _ (s : List ℕ) (at length-at : ℕ) (book : Book) (is : length-at ≡ at + 4) where
+  pub row-short : length s < length-at + 4 → isOk (rowAt book s at) ≡ false
+  unfolding rowAt
+  row-short h = go (leb (at + 4) (length s)) refl
+    where
+      named-no : (n : ℕ) (o : Option Layout) → isOk (named s at n (at + 4) o) ≡ false
+      named-no n none = refl
+      named-no n (some l) = ap isOk (row-cut s at n (at + 4) l (omega arith))
+
+      go : (b : Bool) → leb (at + 4) (length s) ≡ b → isOk (rowAt book s at) ≡ false
+      go true t = rw (number-ok s at 4 (leb-true (at + 4) (length s) t)) (named-no (be 4 s at) (find (be 4 s at) book))
+      go false t = rw (number-no s at 4 (leb-false (at + 4) (length s) t)) refl
+
+  pub row-refused : (l : Layout) → length-at + 4 ≤ length s → find (be 4 s at) book ≡ some l
+      → isOk (valuesAt (l .attributes) s length-at (be 4 s length-at)) ≡ false → isOk (rowAt book s at) ≡ false
+  unfolding rowAt
+  row-refused l h found e =
+      rw (number-ok s at 4 (omega arith), found, number-ok s (at + 4) 4 (omega arith))
+      (first-no (valuesAt (l .attributes) s (at + 4) (be 4 s (at + 4))) _ (subst (λ (n : ℕ). isOk (valuesAt (l .attributes) s n (be 4 s n)) ≡ false) is e))

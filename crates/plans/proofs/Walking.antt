@@ -3,28 +3,31 @@
 use Prim.Native.Nat.{ℕ, _+_, _*_, _/_, _%_, _≤_, _<_}
 use mathlib.Core.Path.{_≡_, refl, sym, ap, _∙_, subst}
 use mathlib.Core.List.{List, [], _∷_}
+use mathlib.Core.Bool.{Bool, true, false}
 use native.Mathlib.Omega.{arith}
 use lib.ListN.{length, getD}
-use borrow.Author.Tests.{eq-eqb, ne-eqb}
-use Rattle.octets.specs.Reading.{ok, ends, be, Room, reach}
+use lib.Dec.{leb}
+use borrow.Author.Tests.{leb-true, leb-false, eq-eqb, ne-eqb}
+use Rattle.octets.specs.Reading.{ok, ends, isOk, be, Room, reach, overrun, octetsIn}
 use Rattle.octets.proofs.Spans.{Spans, middle, one-is, part-spans, part-is}
 use Rattle.kinds.specs.declared.Form.{Form}
 use Rattle.kinds.specs.declared.Form.the-variants as form
 use Rattle.kinds.specs.Kinds.{formOf}
 use Rattle.layouts.specs.Layout.{Attribute}
 use Rattle.rows.specs.Row.{valueIn, fieldsIn}
-use Rattle.octets.proofs.Ends.{octets-in}
-use Rattle.rows.proofs.Values.{fixed-ok, truth-ok, octets-value, text-value, fields-none, fields-on}
+use Rattle.octets.proofs.Ends.{ends-ok, ok-alike, overrun-ends, overrun-no, octets-in, octets-cut, octets-over}
+use Rattle.rows.proofs.Values.{fixed-ok, fixed-over, truth-ok, truth-over, truth-bad, octets-value, text-value, fields-none, fields-on, fields-no}
 use Rattle.plans.specs.Plan.{mark, planOf, Begins}
 use Rattle.plans.specs.Answers.{closing}
 
--- What the first step of a plan behind v octets says.
+-- What the first step of a plan behind v octets says, of values that end and of values that are refused.
 pub data Walk (v : ℕ) (xs : List Attribute) : Type 0 where
   last : (w : ℕ) → planOf (v * 4) xs ≡ ((v + w) * 4) ∷ []
-      → ((room : Room) (s : List ℕ) (at : ℕ) → at + w ≤ reach room s → ends (fieldsIn room xs s at) ≡ ok (at + w) (at + w)) → Walk v xs
+      → ((room : Room) (s : List ℕ) (at : ℕ) → at + w ≤ reach room s → ends (fieldsIn room xs s at) ≡ ok (at + w) (at + w))
+      → ((room : Room) (s : List ℕ) (at : ℕ) → at ≤ reach room s → reach room s < at + w → isOk (fieldsIn room xs s at) ≡ false) → Walk v xs
   more : (w k : ℕ) (ys : List Attribute) → 0 < k → k < 4 → planOf (v * 4) xs ≡ ((v + w) * 4 + k) ∷ planOf 0 ys
       → ((room : Room) (s : List ℕ) (at p : ℕ) → at + w ≤ reach room s → ends (valueIn room (closing k) s (at + w)) ≡ ok p p → ends (fieldsIn room xs s at) ≡ ends (fieldsIn room ys s p))
-      → Walk v xs
+      → ((room : Room) (s : List ℕ) (at : ℕ) → isOk (valueIn room (closing k) s (at + w)) ≡ false → isOk (fieldsIn room xs s at) ≡ false) → Walk v xs
 
 module _ (v : ℕ) (a : Attribute) (others : List Attribute) where
   plan-on : mark (formOf (a .kind .basic)) % 4 ≡ 0 → planOf (v * 4) (a ∷ others) ≡ planOf (v * 4 + mark (formOf (a .kind .basic))) others
@@ -39,20 +42,35 @@ module _ (v : ℕ) (a : Attribute) (others : List Attribute) where
   fixed : (w : ℕ) → formOf (a .kind .basic) ≡ form.Fixed w → Walk (v + w) others → Walk v (a ∷ others)
   fixed w f walk = go walk
     where
-      value : (room : Room) (s : List ℕ) (at n : ℕ) → at + (w + n) ≤ reach room s → ends (fieldsIn room (a ∷ others) s at) ≡ ends (fieldsIn room others s (at + w))
-      value room s at n h = fields-on room s at a others (at + w) (ap (λ (x : Form). ends (valueIn room x s at)) f ∙ fixed-ok room s at w (omega arith))
+      value : (room : Room) (s : List ℕ) (at : ℕ) → at + w ≤ reach room s → ends (fieldsIn room (a ∷ others) s at) ≡ ends (fieldsIn room others s (at + w))
+      value room s at h = fields-on room s at a others (at + w) (ap (λ (x : Form). ends (valueIn room x s at)) f ∙ fixed-ok room s at w h)
+
+      -- Where the values behind it are refused, or it passes the end, all are.
+      refused : (room : Room) (s : List ℕ) (at : ℕ) → (at + w ≤ reach room s → isOk (fieldsIn room others s (at + w)) ≡ false) → isOk (fieldsIn room (a ∷ others) s at) ≡ false
+      refused room s at behind = split (leb (at + w) (reach room s)) refl
+        where
+          split : (b : Bool) → leb (at + w) (reach room s) ≡ b → isOk (fieldsIn room (a ∷ others) s at) ≡ false
+          split true t =
+              let h = leb-true (at + w) (reach room s) t in
+              ok-alike (fieldsIn room (a ∷ others) s at) (fieldsIn room others s (at + w)) (value room s at h) ∙ behind h
+          split false t =
+              fields-no room s at a others
+              (ap (λ (x : Form). isOk (valueIn room x s at)) f
+              ∙ overrun-no (valueIn room (form.Fixed w) s at) room at (fixed-over room s at w (leb-false (at + w) (reach room s) t)))
 
       plan : planOf (v * 4) (a ∷ others) ≡ planOf ((v + w) * 4) others
       plan = plan-on (ap (λ (x : Form). mark x % 4) f ∙ omega arith) ∙ ap (λ (n : ℕ). planOf n others) (ap (λ (x : Form). v * 4 + mark x) f ∙ omega arith)
 
       go : Walk (v + w) others → Walk v (a ∷ others)
-      go (last n e g) =
+      go (last n e g bad) =
           last (w + n) (plan ∙ (e ∙ ap (λ (m : ℕ). m ∷ []) (omega arith)))
-          λ room s at h. value room s at n h ∙ (g room s (at + w) (omega arith) ∙ ap (λ (m : ℕ). ok m m) (omega arith))
-      go (more n k ys z y e g) =
+          (λ room s at h. value room s at (omega arith) ∙ (g room s (at + w) (omega arith) ∙ ap (λ (m : ℕ). ok m m) (omega arith)))
+          λ room s at h q. refused room s at λ m. bad room s (at + w) m (omega arith)
+      go (more n k ys z y e g bad) =
           more (w + n) k ys z y (plan ∙ (e ∙ ap (λ (m : ℕ). m ∷ planOf 0 ys) (omega arith)))
-          λ room s at p h q.
-          value room s at n h ∙ g room s (at + w) p (omega arith) (subst (λ (m : ℕ). ends (valueIn room (closing k) s m) ≡ ok p p) (omega arith) q)
+          (λ room s at p h q.
+          value room s at (omega arith) ∙ g room s (at + w) p (omega arith) (subst (λ (m : ℕ). ends (valueIn room (closing k) s m) ≡ ok p p) (omega arith) q))
+          λ room s at q. refused room s at λ m. bad room s (at + w) (subst (λ (m : ℕ). isOk (valueIn room (closing k) s m) ≡ false) (omega arith) q)
 
   -- Any other value closes the step.
   closes : (f : Form) (k : ℕ) → formOf (a .kind .basic) ≡ f → mark f ≡ k → 0 < k → k < 4
@@ -60,9 +78,13 @@ module _ (v : ℕ) (a : Attribute) (others : List Attribute) where
   closes f k e m z y alike =
       let is : mark (formOf (a .kind .basic)) ≡ k = ap mark e ∙ m in
       more 0 k others z y (plan-close (λ q. absurd (never k z y (sym (ap (λ (n : ℕ). n % 4) is) ∙ q))) ∙ ap (λ (n : ℕ). n ∷ planOf 0 others) (sum (mark (formOf (a .kind .basic))) is))
-      λ room s at p h q.
+      (λ room s at p h q.
       fields-on room s at a others p
-      (ap (λ (x : Form). ends (valueIn room x s at)) e ∙ (alike room s at ∙ subst (λ (n : ℕ). ends (valueIn room (closing k) s n) ≡ ok p p) (omega arith) q))
+      (ap (λ (x : Form). ends (valueIn room x s at)) e ∙ (alike room s at ∙ subst (λ (n : ℕ). ends (valueIn room (closing k) s n) ≡ ok p p) (omega arith) q)))
+      λ room s at q.
+      fields-no room s at a others
+      (ap (λ (x : Form). isOk (valueIn room x s at)) e
+      ∙ (ok-alike (valueIn room f s at) (valueIn room (closing k) s at) (alike room s at) ∙ subst (λ (n : ℕ). isOk (valueIn room (closing k) s n) ≡ false) (omega arith) q))
     where
       never : (k : ℕ) → 0 < k → k < 4 → k % 4 ≡ 0 → ⊥
       never k z y q = omega arith
@@ -72,7 +94,8 @@ module _ (v : ℕ) (a : Attribute) (others : List Attribute) where
 
 pub walk : (v : ℕ) (xs : List Attribute) → Walk v xs
 unfolding planOf
-walk v [] = last 0 (ap (λ (m : ℕ). m ∷ []) (omega arith)) λ room s at h. fields-none room s at ∙ ap (λ (m : ℕ). ok m m) (omega arith)
+walk v [] =
+    last 0 (ap (λ (m : ℕ). m ∷ []) (omega arith)) (λ room s at h. fields-none room s at ∙ ap (λ (m : ℕ). ok m m) (omega arith)) λ room s at h q. absurd (omega arith)
 walk v (a ∷ others) = go (formOf (a .kind .basic)) refl (λ w. walk (v + w) others)
   where
     go : (f : Form) → formOf (a .kind .basic) ≡ f → ((w : ℕ) → Walk (v + w) others) → Walk v (a ∷ others)
@@ -109,49 +132,63 @@ module _ (s steps : List ℕ) (end : ℕ) (xs : List Attribute) (at pos j : ℕ)
   onward-room = go (walk 0 (o .others))
     where
       go : Walk 0 (o .others) → j < length steps
-      go (last w e g) = begins-cons steps j ((0 + w) * 4) [] (subst (Begins steps j) e (o .stands)) .0
-      go (more w k ys z y e g) = begins-cons steps j ((0 + w) * 4 + k) (planOf 0 ys) (subst (Begins steps j) e (o .stands)) .0
+      go (last w e g bad) = begins-cons steps j ((0 + w) * 4) [] (subst (Begins steps j) e (o .stands)) .0
+      go (more w k ys z y e g bad) = begins-cons steps j ((0 + w) * 4 + k) (planOf 0 ys) (subst (Begins steps j) e (o .stands)) .0
 
   module _ (step : ℕ) (here : step ≡ getD steps j 0) where
-    pub onward-last : step % 4 ≡ 0 → pos + step / 4 ≤ end → (room : Room) → reach room s ≡ end → ends (fieldsIn room xs s at) ≡ ok (pos + step / 4) (pos + step / 4)
-    onward-last k h room r = o .same room r ∙ go (walk 0 (o .others))
+    -- At the last step the values end behind its octets, or are refused where these pass the end.
+    abbrev pub AtLast : Room → Type 0
+    AtLast room =
+        (pos + step / 4 ≤ end → ends (fieldsIn room xs s at) ≡ ok (pos + step / 4) (pos + step / 4))
+        × (pos ≤ end → end < pos + step / 4 → isOk (fieldsIn room xs s at) ≡ false)
+
+    pub onward-last : step % 4 ≡ 0 → (room : Room) → reach room s ≡ end → AtLast room
+    onward-last k room r = go (walk 0 (o .others))
       where
-        go : Walk 0 (o .others) → ends (fieldsIn room (o .others) s pos) ≡ ok (pos + step / 4) (pos + step / 4)
-        go (last w e g) =
+        go : Walk 0 (o .others) → AtLast room
+        go (last w e g bad) =
             let is : getD steps j 0 ≡ (0 + w) * 4 = begins-cons steps j ((0 + w) * 4) [] (subst (Begins steps j) e (o .stands)) .1 in
-            let q : w ≡ step / 4 = quarter w (here ∙ is) in
-            g room s pos (omega arith) ∙ ap (λ (n : ℕ). ok (pos + n) (pos + n)) q
+            let q : w ≡ step / 4 = quarter w (here ∙ is) in (
+              λ h. o .same room r ∙ (g room s pos (omega arith) ∙ ap (λ (n : ℕ). ok (pos + n) (pos + n)) q),
+              λ h l. ok-alike (fieldsIn room xs s at) (fieldsIn room (o .others) s pos) (o .same room r) ∙ bad room s pos (omega arith) (omega arith),
+            )
           where
             quarter : (w : ℕ) → step ≡ (0 + w) * 4 → w ≡ step / 4
             quarter w e = omega arith
-        go (more w m ys z y e g) =
+        go (more w m ys z y e g bad) =
             let is : getD steps j 0 ≡ (0 + w) * 4 + m = begins-cons steps j ((0 + w) * 4 + m) (planOf 0 ys) (subst (Begins steps j) e (o .stands)) .1 in
             absurd (never w m z y (here ∙ is))
           where
             never : (w m : ℕ) → 0 < m → m < 4 → step ≡ (0 + w) * 4 + m → ⊥
             never w m z y e = omega arith
 
-    pub onward-on : (step % 4 ≡ 0 → ⊥) → (p : ℕ) → pos + step / 4 ≤ end → ((room : Room) → reach room s ≡ end → ends (valueIn room (closing (step % 4)) s (pos + step / 4)) ≡ ok p p)
-        → Onward s steps end xs at p (j + 1)
-    onward-on k p h value = go (walk 0 (o .others))
+    -- At any other the walk goes on behind the value that closes it, or the values are refused where that one is.
+    abbrev pub AtOther : Type 0
+    AtOther =
+        ((p : ℕ) → pos + step / 4 ≤ end → ((room : Room) → reach room s ≡ end → ends (valueIn room (closing (step % 4)) s (pos + step / 4)) ≡ ok p p)
+        → Onward s steps end xs at p (j + 1))
+        × ((room : Room) → reach room s ≡ end → isOk (valueIn room (closing (step % 4)) s (pos + step / 4)) ≡ false → isOk (fieldsIn room xs s at) ≡ false)
+
+    pub onward-on : (step % 4 ≡ 0 → ⊥) → AtOther
+    onward-on k = go (walk 0 (o .others))
       where
-        go : Walk 0 (o .others) → Onward s steps end xs at p (j + 1)
-        go (last w e g) =
+        go : Walk 0 (o .others) → AtOther
+        go (last w e g bad) =
             let is : getD steps j 0 ≡ (0 + w) * 4 = begins-cons steps j ((0 + w) * 4) [] (subst (Begins steps j) e (o .stands)) .1 in
             absurd (k (four w (here ∙ is)))
           where
             four : (w : ℕ) → step ≡ (0 + w) * 4 → step % 4 ≡ 0
             four w e = omega arith
-        go (more w m ys z y e g) =
+        go (more w m ys z y e g bad) =
             let b = begins-cons steps j ((0 + w) * 4 + m) (planOf 0 ys) (subst (Begins steps j) e (o .stands)) in
             let q : w ≡ step / 4 = quarter w m z y (here ∙ b .1) in
             let r : m ≡ step % 4 = rest w m z y (here ∙ b .1) in
-            record {
-              others = ys;
-              stands = b .2;
-              same = λ room f. o .same room f ∙ g room s pos p (omega arith)
-                  (ap (λ (n : ℕ). ends (valueIn room (closing n) s (pos + w))) r ∙ (ap (λ (n : ℕ). ends (valueIn room (closing (step % 4)) s (pos + n))) q ∙ value room f));
-            }
+            let same : (room : Room) → valueIn room (closing m) s (pos + w) ≡ valueIn room (closing (step % 4)) s (pos + step / 4) =
+            λ room. ap (λ (n : ℕ). valueIn room (closing n) s (pos + w)) r ∙ ap (λ (n : ℕ). valueIn room (closing (step % 4)) s (pos + n)) q in (
+              λ p h value.
+                  record { others = ys; stands = b .2; same = λ room f. o .same room f ∙ g room s pos p (omega arith) (ap ends (same room) ∙ value room f) },
+              λ room f value. ok-alike (fieldsIn room xs s at) (fieldsIn room (o .others) s pos) (o .same room f) ∙ bad room s pos (ap isOk (same room) ∙ value),
+            )
           where
             quarter : (w m : ℕ) → 0 < m → m < 4 → step ≡ (0 + w) * 4 + m → w ≡ step / 4
             quarter w m z y e = omega arith
@@ -161,8 +198,23 @@ module _ (s steps : List ℕ) (end : ℕ) (xs : List Attribute) (at pos j : ℕ)
 
 -- The value that closes a step.
 module _ (room : Room) (s : List ℕ) (at kind : ℕ) where
+  over : octetsIn room s at ≡ overrun room at → isOk (valueIn room form.Octets s at) ≡ false
+  over e = overrun-no (valueIn room form.Octets s at) room at (octets-value room s at ∙ (ap ends e ∙ overrun-ends (List ℕ) room at))
+
   pub close-octets : kind ≡ 1 → at + 4 ≤ reach room s → at + 4 + be 4 s at ≤ reach room s → ends (valueIn room (closing kind) s at) ≡ ok (at + 4 + be 4 s at) (at + 4 + be 4 s at)
   close-octets e h g = rw (eq-eqb kind 1 e) (octets-value room s at ∙ ap ends (octets-in room s at h g))
 
   pub close-truth : (kind ≡ 1 → ⊥) → at + 1 ≤ reach room s → be 1 s at ≤ 1 → ends (valueIn room (closing kind) s at) ≡ ok (at + 1) (at + 1)
   close-truth e h g = rw (ne-eqb kind 1 e) (truth-ok room s at h g)
+
+  pub close-cut : kind ≡ 1 → reach room s < at + 4 → isOk (valueIn room (closing kind) s at) ≡ false
+  close-cut e h = rw (eq-eqb kind 1 e) (over (octets-cut room s at h))
+
+  pub close-over : kind ≡ 1 → at + 4 ≤ reach room s → reach room s < at + 4 + be 4 s at → isOk (valueIn room (closing kind) s at) ≡ false
+  close-over e h g = rw (eq-eqb kind 1 e) (over (octets-over room s at h g))
+
+  pub close-none : (kind ≡ 1 → ⊥) → reach room s < at + 1 → isOk (valueIn room (closing kind) s at) ≡ false
+  close-none e h = rw (ne-eqb kind 1 e) (overrun-no (valueIn room form.Truth s at) room at (truth-over room s at h))
+
+  pub close-bad : (kind ≡ 1 → ⊥) → at + 1 ≤ reach room s → 1 < be 1 s at → isOk (valueIn room (closing kind) s at) ≡ false
+  close-bad e h g = rw (ne-eqb kind 1 e) (sym (ends-ok (valueIn room form.Truth s at)) ∙ ap isOk (truth-bad room s at h g))

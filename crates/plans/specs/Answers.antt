@@ -1,10 +1,11 @@
--- What the answers of a reading by plan say. Where one is unsure it says nothing.
+-- What the answers of a reading by plan say. Where one is unsure, what the plan is for is refused by the exact reading too.
 use Prim.Native.Nat.{ℕ, _+_, _≤_, _<_}
 use mathlib.Core.Path.{_≡_}
 use mathlib.Core.List.{List}
+use mathlib.Core.Bool.{false}
 use lib.ListN.{getD}
 use lib.Dec.{eqb}
-use Rattle.octets.specs.Reading.{ok, ends, choose, be, Room, reach, number}
+use Rattle.octets.specs.Reading.{ok, ends, isOk, choose, be, Room, reach, number}
 use Rattle.kinds.specs.declared.Form.{Form}
 use Rattle.kinds.specs.declared.Form.the-variants as form
 use Rattle.layouts.specs.Layout.{Attribute}
@@ -20,26 +21,32 @@ use Rattle.plans.specs.declared.Quick.the-variants as quick
 abbrev pub closing : ℕ → Form
 closing kind = choose (eqb kind 1) (λ _. form.Octets) (λ _. form.Truth)
 
--- The value that closes a step ends at a place.
+-- The value that closes a step ends at a place, or is refused.
 abbrev pub Closes : List ℕ → ℕ → ℕ → ℕ → Passed → Type 0
 Closes s at end kind (passed.To p) =
     (at ≤ p) × (p ≤ end) × ((room : Room) → reach room s ≡ end → ends (valueIn room (closing kind) s at) ≡ ok p p)
-Closes s at end kind passed.Unsure = Unit {0}
+Closes s at end kind passed.Unsure = (room : Room) → reach room s ≡ end → isOk (valueIn room (closing kind) s at) ≡ false
 
--- The values of the attributes whose plan stands at a place of the steps end at a place.
+-- The values of the attributes whose plan stands at a place of the steps end at a place, or are refused.
 abbrev pub Follows : List ℕ → ℕ → ℕ → List ℕ → ℕ → Passed → Type 0
 Follows s at end steps from (passed.To p) =
     (at ≤ p) × (p ≤ end)
     × ((xs : List Attribute) → Begins steps from (planOf 0 xs) → (room : Room) → reach room s ≡ end → ends (fieldsIn room xs s at) ≡ ok p p)
-Follows s at end steps from passed.Unsure = Unit {0}
+Follows s at end steps from passed.Unsure =
+    (xs : List Attribute) → Begins steps from (planOf 0 xs) → (room : Room) → reach room s ≡ end → isOk (fieldsIn room xs s at) ≡ false
 
--- The values behind a row's length, by the same plan, end at a place.
+-- The values behind a row's length, by the same plan, end at a place, or are refused.
 abbrev pub Lasts : List ℕ → ℕ → List ℕ → ℕ → Passed → Type 0
 Lasts s at steps from (passed.To p) = (xs : List Attribute) → Begins steps from (planOf 0 xs) → ends (valuesAt xs s at (be 4 s at)) ≡ ok p p
-Lasts s at steps from passed.Unsure = Unit {0}
+Lasts s at steps from passed.Unsure = (xs : List Attribute) → Begins steps from (planOf 0 xs) → isOk (valuesAt xs s at (be 4 s at)) ≡ false
+
+-- Where a row stands at a place, behind its kind, and its layout's number has an index, it is refused.
+abbrev pub Refuses : List ℕ → ℕ → Book → List ℕ → ℕ → Type 0
+Refuses s at book numbers known =
+    (i : ℕ) → i < known → getD numbers i 0 ≡ be 4 s (at + 4) → number 4 s at ≡ ok 2 (at + 4) → isOk (rowAt book s (at + 4)) ≡ false
 
 -- A row of a book stands at a place, behind its kind, and ends at another; its layout's number has an index.
 abbrev pub Passes : List ℕ → ℕ → Book → List ℕ → ℕ → Quick → Type 0
 Passes s at book numbers known (quick.Row next i) =
     (i < known) × (getD numbers i 0 ≡ be 4 s (at + 4)) × (number 4 s at ≡ ok 2 (at + 4)) × ((row : Row) × (rowAt book s (at + 4) ≡ ok row next))
-Passes s at book numbers known quick.Unsure = Unit {0}
+Passes s at book numbers known quick.Unsure = Refuses s at book numbers known

@@ -3,12 +3,12 @@
 use Prim.Native.Nat.{ℕ, suc, _+_, _≤_, _<_}
 use mathlib.Core.Path.{_≡_, refl, sym, ap, _∙_}
 use mathlib.Core.List.{List, [], _∷_}
-use mathlib.Core.Bool.{true}
+use mathlib.Core.Bool.{true, false}
 use lib.Dec.{lit≤}
 use borrow.Author.Tests.{le-leb, lt-leb}
 use Rattle.octets.specs.Reading.{Read, ok, no, ends, isOk, be, Room, document, stated, reach, overrun, octetsIn, textIn, text, run}
 use Rattle.octets.proofs.Inverse.{after}
-use Rattle.octets.proofs.Ends.{number-in, number-over, overrun-then, overrun-ends, text-octets, on, stop, made, value-is}
+use Rattle.octets.proofs.Ends.{number-in, number-over, overrun-then, overrun-ends, text-octets, on, stop, made, value-is, first-no}
 use Rattle.kinds.specs.declared.Form.the-variants as form
 use Rattle.kinds.specs.declared.Basic.{Basic}
 use Rattle.kinds.specs.declared.Basic.the-variants.{Int, UnsignedInt, Long, UnsignedLong, Float, Double, HexBinary, String, Boolean, Byte, UnsignedByte, Short, UnsignedShort}
@@ -60,6 +60,10 @@ module _ (room : Room) (s : List ℕ) (at : ℕ) where
     pub fields-stop : (n p : ℕ) → ends (valueIn room (formOf (a .kind .basic)) s at) ≡ no n p → ends (fieldsIn room (a ∷ others) s at) ≡ no n p
     unfolding fieldsIn
     fields-stop n p e = stop (valueIn room (formOf (a .kind .basic)) s at) _ n p e
+
+    pub fields-no : isOk (valueIn room (formOf (a .kind .basic)) s at) ≡ false → isOk (fieldsIn room (a ∷ others) s at) ≡ false
+    unfolding fieldsIn
+    fields-no e = first-no (valueIn room (formOf (a .kind .basic)) s at) _ e
 
 -- The same for what passes the room's end.
 pub fields-over : (room : Room) (s : List ℕ) (at : ℕ) (a : Attribute) (others : List Attribute) (p : ℕ)

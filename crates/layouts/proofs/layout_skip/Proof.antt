@@ -2,7 +2,7 @@
 use borrow.Author.Needs.{needs}
 use native.Mathlib.Omega.{arith}
 use Prim.Native.Nat.{ℕ, suc, _+_, _-_, _≤_}
-use mathlib.Core.Path.{_≡_, _∙_, ap}
+use mathlib.Core.Path.{_≡_, sym, _∙_, ap}
 use mathlib.Core.List.{List}
 use mathlib.Core.Bool.{true}
 use denote.Ref.{now}
@@ -52,7 +52,7 @@ run-from t =
 accepted : (t : Turn) → isOk (attributeAt (S t) (Pos t)) ≡ true
 accepted t =
     run-first (attributeAt (S t)) (Pos t) (Left t)
-    (ok-alike (layoutAt (S t) (Start t .args .at)) (run (attributeAt (S t)) (suc (Left t)) (Pos t)) (run-from t) (Start t .pre .1))
+    (sym (ok-alike (layoutAt (S t) (Start t .args .at)) (run (attributeAt (S t)) (suc (Left t)) (Pos t)) (run-from t)) ∙ Start t .pre .1)
 
 loop-again : tie.Need-loop-again Inv-loop μ-loop
 loop-again c =

@@ -51,6 +51,14 @@ Of r = r .before .before
 here : (r : Read) → r .wide .result ≡ getD (now (Start (Of r) .args .steps)) (Of r .loop .j) 0
 here r = r .wide .ensures .0
 
+returns : tie.Need-returns Inv-loop μ-loop
+returns c = λ xs b q h.
+    let r = c .before .before in
+    let t = Of r in
+    let a = Start t .args in
+    onward-last (now (a .doc)) (now (a .steps)) (a .end) xs (a .at) (t .loop .pos) (t .loop .j) (t .loop .inv .2 xs b) (r .wide .result) (here r) (c .before .if1 .taken) q h .1
+    (t .loop .inv .1) (c .if2 .taken)
+
 returns-2 : tie.Need-returns-2 Inv-loop μ-loop
 returns-2 c =
     let r = c .before .before in
@@ -60,7 +68,7 @@ returns-2 c =
       c .if2 .left,
       λ xs b q h.
           onward-last (now (a .doc)) (now (a .steps)) (a .end) xs (a .at) (t .loop .pos) (t .loop .j) (t .loop .inv .2 xs b) (r .wide .result) (here r) (c .before .if1 .taken)
-          (c .if2 .left) q h,
+          q h .0 (c .if2 .left),
     )
 
 close-end-requires : tie.Need-close-end-requires Inv-loop μ-loop
@@ -77,6 +85,15 @@ closed v x e =
     subst (Closes (now (Start (Of (v .before .before)) .args .doc)) (Of (v .before .before) .loop .pos + v .before .before .wide .result / 4) (Start (Of (v .before .before)) .args .end)
     (v .before .before .wide .result % 4)) e (v .close-end .ensures)
 
+returns-3 : tie.Need-returns-3 Inv-loop μ-loop
+returns-3 c = λ xs b q h.
+    let v = c .before .before in
+    let r = v .before .before in
+    let t = Of r in
+    let a = Start t .args in
+    onward-on (now (a .doc)) (now (a .steps)) (a .end) xs (a .at) (t .loop .pos) (t .loop .j) (t .loop .inv .2 xs b) (r .wide .result) (here r) (v .before .if1 .left) .1 q h
+    (closed v _ (c .enum-told .given .1) q h)
+
 loop-again : tie.Need-loop-again Inv-loop μ-loop
 loop-again c =
     let v = c .before .before .before in
@@ -87,7 +104,7 @@ loop-again c =
       omega (arith, w .0, t .loop .inv .0),
       w .1,
       λ xs b.
-          onward-on (now (a .doc)) (now (a .steps)) (a .end) xs (a .at) (t .loop .pos) (t .loop .j) (t .loop .inv .2 xs b) (r .wide .result) (here r) (v .before .if1 .left) _
+          onward-on (now (a .doc)) (now (a .steps)) (a .end) xs (a .at) (t .loop .pos) (t .loop .j) (t .loop .inv .2 xs b) (r .wide .result) (here r) (v .before .if1 .left) .0 _
           (omega (arith, w .0, w .1)) (w .2),
     )
 
@@ -95,6 +112,6 @@ pub follow-spec : {M : Type 1} → statement M
 follow-spec =
     tie.close
     (tie.spec Inv-loop μ-loop loop-holds (λ c. let h = room c in omega arith) room (λ c κs. search needs)
-    (λ c. let t = Of c in omega (arith, t .loop .inv .1, c .wide .ensures .1, Start t .pre .1, Start t .pre .2)) (λ c. search needs) returns-2
-    (λ c. let h = room (Of (c .before)) in omega arith) close-end-requires (λ c. search needs) (λ c. search needs) (λ c. search needs)
+    (λ c. let t = Of c in omega (arith, t .loop .inv .1, c .wide .ensures .1, Start t .pre .1, Start t .pre .2)) returns returns-2
+    (λ c. let h = room (Of (c .before)) in omega arith) close-end-requires (λ c. search needs) returns-3 (λ c. search needs)
     (λ c. let h = room (Of (c .before .before .before .before .before)) in omega arith) loop-again)

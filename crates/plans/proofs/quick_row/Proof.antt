@@ -1,4 +1,5 @@
--- `plans::quick_row` meets its contract: the number that was found is that of a layout of the book, and its plan passes the row's values. Assumes nothing.
+-- `plans::quick_row` meets its contract: the number that was found is that of a layout of the book, and its plan passes the row's values.
+-- Where it is unsure, no row stands there, its number is not known, or it is refused. Assumes nothing.
 use borrow.Author.Needs.{needs}
 use native.Mathlib.Omega.{arith}
 use Prim.Native.Nat.{ℕ, _+_, _*_, _<_}
@@ -6,13 +7,28 @@ use denote.Ref.{now}
 use mathlib.Core.Path.{_≡_, sym, ap, _∙_, subst}
 use lib.ListN.{getD}
 use Rattle.octets.specs.Reading.{ok, be}
+use Rattle.octets.proofs.Inverse.{ok-value}
 use Rattle.octets.proofs.Ends.{number-ok}
 use Rattle.layouts.specs.Book.{find}
 use Rattle.plans.specs.Answers.{Lasts}
 use Rattle.plans.specs.declared.Passed.{Passed}
-use Rattle.plans.proofs.Keeping.{row-passed}
+use Rattle.plans.proofs.Keeping.{row-passed, row-short, row-refused}
 use Rattle.plans.proofs.quick_row.Statement.{statement}
 use Rattle.plans.proofs.quick_row.Tie as tie
+
+returns : tie.Need-returns
+returns c = λ book p i h n k.
+    let a = c .before .before .args in
+    row-short (now (a .doc)) (a .at + 4) (a .at + 8) book (omega arith) (omega (arith, c .if1 .taken))
+
+returns-2 : tie.Need-returns-2
+returns-2 c = λ book p i h n k.
+    let a = c .before .before .before .before .args in
+    let e = number-ok (now (a .doc)) (a .at) 4 (omega (arith, c .before .before .if1 .left)) in
+    absurd (c .if2 .taken (c .before .u32-at .ensures ∙ ok-value e k))
+
+returns-3 : tie.Need-returns-3
+returns-3 c = λ book p i h n k. absurd (c .before .index-of .ensures .1 (c .if3 .taken) i h (n ∙ sym (c .before .before .u32-at2 .ensures)))
 
 -- The index that was found, by names.
 abbrev Indexed : Type 0
@@ -41,6 +57,15 @@ lasts : (v : tie.After-values-to) (x : Passed) → v .values-to .result ≡ x
     → Lasts (now (Start (v .before) .args .doc)) (Start (v .before) .args .at + 8) (now (Start (v .before) .args .steps)) (I (v .before) * 65) x
 lasts v x e = subst (Lasts (now (Start (v .before) .args .doc)) (Start (v .before) .args .at + 8) (now (Start (v .before) .args .steps)) (I (v .before) * 65)) e (v .values-to .ensures)
 
+returns-4 : tie.Need-returns-4
+returns-4 c = λ book p i h n k.
+    let v = c .before .before in
+    let x = v .before in
+    let a = Start x .args in
+    let e = p .entry (I x) (known x) in
+    row-refused (now (a .doc)) (a .at + 4) (a .at + 8) book (omega arith) (e .layout) (omega arith) (ap (λ (n : ℕ). find n book) (sym (is-number x)) ∙ e .found)
+    (lasts v _ (c .enum-told .given .1) (e .layout .attributes) (e .stands))
+
 returns-5 : tie.Need-returns-5
 returns-5 c = λ book p.
     let v = c .before .before .before in
@@ -58,6 +83,6 @@ returns-5 c = λ book p.
 pub quick-row-spec : {M : Type 1} → statement M
 quick-row-spec =
     tie.close
-    (tie.spec (λ c. search needs) (λ c. search needs) (λ c κs. search needs) (λ c. search needs) (λ c. search needs) (λ c κs. search needs)
-    (λ c κs. search needs) (λ c. search needs) (λ c. search needs) (λ c. search needs) values-to-requires (λ c. search needs) (λ c. search needs)
-    (λ c. search needs) returns-5)
+    (tie.spec (λ c. search needs) returns (λ c κs. search needs) returns-2 (λ c. search needs) (λ c κs. search needs)
+    (λ c κs. search needs) returns-3 (λ c. search needs) (λ c. search needs) values-to-requires (λ c. search needs) (λ c. search needs)
+    returns-4 returns-5)
