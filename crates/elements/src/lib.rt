@@ -242,8 +242,17 @@ pub fn rows_from(doc: &[u8], at: usize) -> Counting
     let mut used: usize = 0;
     let mut first = [0u64; 1];
     loop {
-        let stretch =
-            plans::quick_rows(doc, pos, &numbers, &steps, known, last, &mut first, 0, 1048576);
+        let stretch = plans::quick_rows(
+            doc,
+            pos,
+            &numbers,
+            &steps,
+            known,
+            last,
+            &mut first,
+            0,
+            1048576,
+        );
         pos = stretch.next;
         rows += stretch.count;
         last = stretch.last;

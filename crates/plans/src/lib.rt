@@ -12,7 +12,7 @@ ghost use Rattle.layouts.specs.Book.{Book, find};
 ghost use Rattle.layouts.specs.Answers.{Looks};
 ghost use Rattle.rows.specs.Answers.{Slim, Attributes};
 ghost use Rattle.plans.specs.Plan.{mark, planOf, Begins, Plan, Planned, Plans, Lacks, Kept};
-ghost use Rattle.plans.specs.Answers.{Closes, Follows, Lasts, Passes};
+ghost use Rattle.plans.specs.Answers.{Closes, Follows, Lasts, Refuses, Passes};
 ghost use Rattle.plans.specs.Rows.{rowWord, Passage};
 use kinds::Form;
 use layouts::Looked;
@@ -253,6 +253,15 @@ pub fn row_word(number: u32, stated: bool, next: usize) -> u64
     (number as u64) * 4294967296 + 2147483648 + (next as u64)
 }
 
+// Puts a word at an index, where there is one.
+fn put_word(words: &mut [u64], n: usize, word: u64)
+    ensures { λ _. ⌜ now (words .exit) ≡ set (now (words .entry)) n word ⌝ }
+{
+    if n < words.len() {
+        words[n] = word;
+    }
+}
+
 // Rows one behind another, each passed by the plan of its layout, from one index to another at most; the words of those that have a place are put there.
 pub fn quick_rows<'d, 'n, 'p, 'w>(
     doc: &'d [u8],
@@ -266,7 +275,7 @@ pub fn quick_rows<'d, 'n, 'p, 'w>(
     to: usize,
 ) -> Stretch
     requires { ⌜ (at ≤ length (now doc)) × (length (now doc) ≤ 1048576) × (from ≤ to) × Plans (now numbers) (now steps) known ⌝ }
-    ensures { λ r. ⌜ ((book : Book) → Planned (now (numbers .entry)) (now (steps .entry)) known book → Passage (now (doc .entry)) at book from (now (words .entry)) (now (words .exit)) r) ⌝ }
+    ensures { λ r. ⌜ (r .next ≤ length (now (doc .entry))) × (r .count ≤ to) × ((book : Book) → Planned (now (numbers .entry)) (now (steps .entry)) known book → Passage (now (doc .entry)) at book from (now (words .entry)) (now (words .exit)) r × (r .count < to → Refuses (now (doc .entry)) (r .next) book (now (numbers .entry)) known)) ⌝ }
 {
     let mut pos = at;
     let mut n = from;
@@ -282,10 +291,8 @@ pub fn quick_rows<'d, 'n, 'p, 'w>(
                 };
             }
             Quick::Row(next, i) => {
-                if n < words.len() {
-                    let stated = octets::u32_at(doc, pos + 8) < 0xffff_ffff;
-                    words[n] = row_word(numbers[i], stated, next);
-                }
+                let stated = octets::u32_at(doc, pos + 8) < 0xffff_ffff;
+                put_word(words, n, row_word(numbers[i], stated, next));
                 n += 1;
                 pos = next;
                 latest = i;

@@ -1,5 +1,6 @@
 mod Steps
 mod Mets
 mod Runs
+mod Rows
 mod Entry
 mod Apart

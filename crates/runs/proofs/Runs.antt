@@ -13,7 +13,8 @@ use Rattle.elements.specs.Steps.{holding, stepAt}
 use Rattle.plans.specs.Rows.{laid}
 use Rattle.plans.proofs.Rows.{laid-more}
 use Rattle.runs.specs.Runs.{itemWord, Passed, stopped, behind, ofItem, onItem, runFrom}
-use Rattle.runs.specs.Answers.{isItem}
+use Rattle.runs.specs.Answers.{isItem, wentOf}
+use Rattle.runs.specs.declared.Went.{Went}
 
 -- What follows a step that reads no item.
 stops : {A : Type 0} (r : Read Stepped) (f : Stepped → Item → ℕ → A) (d : A) → isItem r ≡ false → onItem r f d ≡ d
@@ -77,9 +78,19 @@ module _ (s : List ℕ) (at rows : ℕ) (entry : List ℕ) (used : ℕ) (lent : 
         behind-told = omega (arith, w .count)
 
     -- A run that stops here.
-    pub all : runFrom (4096 - n) s pos passed octets filled ≡ stopped pos passed octets filled
+    all : runFrom (4096 - n) s pos passed octets filled ≡ stopped pos passed octets filled
         → runFrom 4096 s at rows entry used ≡ record { words = w .told; next = pos; rows = passed; octets = octets; used = filled }
     all stop =
         w .same
         ∙ (ap (behind (w .told)) stop
         ∙ ap (λ (ws : List ℕ). record { words = ws; next = pos; rows = passed; octets = octets; used = filled }) (append-nil (w .told)))
+
+    pub answered : runFrom (4096 - n) s pos passed octets filled ≡ stopped pos passed octets filled
+        → (_≡_ {A = Went} (record { count = n; next = pos; rows = passed; used = filled }) (wentOf (runFrom 4096 s at rows entry used)))
+        × (octets ≡ runFrom 4096 s at rows entry used .octets) × (words ≡ laid 0 (runFrom 4096 s at rows entry used .words) lent)
+    answered stop =
+        let whole = all stop in (
+          ap (λ (k : ℕ). record { count = k; next = pos; rows = passed; used = filled }) (sym (w .count)) ∙ sym (ap wentOf whole),
+          sym (ap (λ (p : Passed). p .octets) whole),
+          w .put ∙ sym (ap (λ (p : Passed). laid 0 (p .words) lent) whole),
+        )

@@ -15,7 +15,8 @@ use Rattle.layouts.specs.Book.{Book, bookImage, bookOf, bookIn, IsBook}
 use Rattle.layouts.proofs.Books.{GoodBook, Lent, book-forth}
 use Rattle.elements.specs.Element.{Stepped, elementAt}
 use Rattle.elements.specs.Steps.{holding, lentBook, stepAt}
-use Rattle.elements.proofs.Going.{element-place, element-book, holding-book}
+use Rattle.elements.proofs.Going.{few-rows, element-place, element-book, holding-book}
+use Rattle.elements.proofs.Went.{step-rows}
 
 -- Lent octets with a good book at their start.
 pub held : (book : Book) (octets : List ℕ) → GoodBook book → 32768 ≤ length octets → Lent (holding book octets) (length (bookImage book)) book
@@ -32,6 +33,7 @@ module _ (s : List ℕ) (at rows : ℕ) (octets : List ℕ) (used : ℕ) (st : S
   pub record Taken : Type 0 where
     pub far : at < next
     pub near : next ≤ length s
+    pub few : st .rows ≤ 1048577
     pub good : GoodBook (st .book)
     pub room : 32768 ≤ length octets
     pub is : IsBook (holding (st .book) octets) (length (bookImage (st .book)))
@@ -44,12 +46,13 @@ module _ (s : List ℕ) (at rows : ℕ) (octets : List ℕ) (used : ℕ) (st : S
       let (t, l₁) = chosen (leb (length s) 1048576) _ 2 0 l in
       let short = leb-true (length s) 1048576 t in
       let inside : at + 4 ≤ length s = after (number 4 s at) _ g λ kind behind k _. number-room s at 4 (ap isOk k) in
-      let b : Lent octets used book =
+      let (b, told) : Lent octets used book × (rows ≤ 1048576) =
       after (bookOf octets used) _ l₁ λ found end f h.
-      let same : book ≡ found = ok-value (chosen (leb rows 1048576) _ 17 0 h .1) refl in
-      book-forth octets used lent (f ∙ ap (λ (x : Book). ok x end) (sym same)) .0
+      let (t₁, h₁) = chosen (leb rows 1048576) _ 17 0 h in
+      let same : book ≡ found = ok-value h₁ refl in
+      (book-forth octets used lent (f ∙ ap (λ (x : Book). ok x end) (sym same)) .0, leb-true rows 1048576 t₁)
       in
       let place = element-place s short o at rows book (omega arith) st next g in
       let good = element-book s short o at rows book (omega arith) st next g (b .good) in
       let (is, is-book) = holding-book (st .book) octets good (b .room) in
-      record { far = omega arith; near = place .1; good = good; room = b .room; is = is; book = is-book }
+      record { far = omega arith; near = place .1; few = omega (arith, told, step-rows s at rows book st next g, few-rows (st .element)); good = good; room = b .room; is = is; book = is-book }

@@ -163,7 +163,7 @@ fn items<'d, 'b, 'w>(
     used: usize,
     words: &'w mut [u64; 4096],
 ) -> Went
-    requires { ⌜ (at ≤ length (now doc)) × (length (now doc) ≤ 1048576) × IsBook (now book) used ⌝ }
+    requires { ⌜ (at ≤ length (now doc)) × (length (now doc) ≤ 1048576) × (rows ≤ 1048576) × IsBook (now book) used ⌝ }
     ensures { λ r. ⌜ (r ≡ wentOf (runFrom 4096 (now (doc .entry)) at rows (now (book .entry)) used)) × (now (book .exit) ≡ runFrom 4096 (now (doc .entry)) at rows (now (book .entry)) used .octets) × (now (words .exit) ≡ laid 0 (runFrom 4096 (now (doc .entry)) at rows (now (book .entry)) used .words) (now (words .entry))) ⌝ }
 {
     let mut numbers = [0u32; 64];

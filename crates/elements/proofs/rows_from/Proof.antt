@@ -25,18 +25,18 @@ use Rattle.elements.proofs.rows_from.Statement.{statement}
 use Rattle.elements.proofs.rows_from.Tie as tie
 
 abbrev Inv-loop : tie.InvT-loop
-Inv-loop doc at numbers₀ places₀ steps₀ known₀ last₀ pos₀ rows₀ used₀ words₀ numbers places steps known last pos rows used words =
-    OnWay doc at numbers places steps known pos rows used × (length words ≡ 64)
+Inv-loop doc at numbers₀ places₀ steps₀ known₀ last₀ pos₀ rows₀ used₀ first₀ numbers places steps known last pos rows used first =
+    OnWay doc at numbers places steps known pos rows used × (length first ≡ 1)
 
 abbrev μ-loop : tie.MeasureT-loop
-μ-loop doc at numbers₀ places₀ steps₀ known₀ last₀ pos₀ rows₀ used₀ words₀ numbers places steps known last pos rows used words = length doc - pos
+μ-loop doc at numbers₀ places₀ steps₀ known₀ last₀ pos₀ rows₀ used₀ first₀ numbers places steps known last pos rows used first = length doc - pos
 
 loop-holds : tie.Need-loop-holds Inv-loop μ-loop
 loop-holds c =
     let a = c .before .args in (
       way-start (now (a .doc)) (a .at) (replicate 64 0) (replicate 64 0) (replicate 4160 0) (c .before .pre .0) (length-replicate {A = ℕ} 64 0) (length-replicate {A = ℕ} 64 0)
           (length-replicate {A = ℕ} 4160 0),
-      length-replicate {A = ℕ} 64 0,
+      length-replicate {A = ℕ} 1 0,
     )
 
 -- The turn by names.
@@ -53,7 +53,7 @@ quick-rows-requires : tie.Need-quick-rows-requires Inv-loop μ-loop
 quick-rows-requires c κs =
     let t = c .before .before .before in
     let w = t .loop .inv .0 in
-    (w .going .inside, Start t .pre .1, omega arith, omega (arith, t .loop .inv .1), record { book = w .book; planned = w .planned })
+    (w .going .inside, Start t .pre .1, omega arith, record { book = w .book; planned = w .planned })
 
 -- Behind the rows that plans passed.
 abbrev Strode : Type 0
@@ -96,8 +96,8 @@ module _ (q : Strode) where
   octets : Each Octet doc
   octets = each-octet doc (Turned q .before .shared-slice-known .given)
 
-  passage : Passage doc (Turned q .loop .pos) (Turned q .loop .inv .0 .book) 0 (Turned q .loop .words) (q .quick-rows .last .1 .1 .1 .1 .1 .1 .0) (q .quick-rows .result)
-  passage = q .quick-rows .ensures (Turned q .loop .inv .0 .book) (Turned q .loop .inv .0 .planned)
+  passage : Passage doc (Turned q .loop .pos) (Turned q .loop .inv .0 .book) 0 (Turned q .loop .first) (q .quick-rows .last .1 .1 .1 .1 .1 .1 .0) (q .quick-rows .result)
+  passage = q .quick-rows .ensures .2 (Turned q .loop .inv .0 .book) (Turned q .loop .inv .0 .planned) .0
 
   count : length (passage .rows) ≡ q .quick-rows .result .count
   count = omega (arith, passage .count)
@@ -118,29 +118,33 @@ module _ (q : Strode) where
   few-rows : rows ≤ 1048576
   few-rows = omega (arith, way .going .behind, way .going .inside, short)
 
-  -- The words are as many as they were.
-  words-long : length (q .quick-rows .last .1 .1 .1 .1 .1 .1 .0) ≡ 64
+  -- There is room for as many words as there was.
+  words-long : length (q .quick-rows .last .1 .1 .1 .1 .1 .1 .0) ≡ 1
   words-long = q .quick-rows .kept .1 .1 .1 .1 .1 .1 .0 ∙ Turned q .loop .inv .1
 
 add-rows : tie.Need-add-rows Inv-loop μ-loop
 add-rows c = omega (arith, few-rows (c .before .before))
 
 look-up-requires : tie.Need-look-up-requires Inv-loop μ-loop
-look-up-requires c κs = let q = c .before .before .before .before .before .before .before in way q .planned .few
+look-up-requires c κs = let q = c .before .before .before .before .before in way q .planned .few
 
 element-over-requires : tie.Need-element-over-requires Inv-loop μ-loop
 element-over-requires c κs =
-    let q = c .before .before .before .before .before .before .before .before in
-    let w = way q in
-    (short q, few-rows q, short q, omega (arith, w .size, w .going .good .small),
-    stood (doc q) (c .before .number-behind .result) (book q) (c .look-up .result) (c .look-up .ensures (doc q) (book q) (w .kept)))
+    let q = c .before .before .before .before .before .before in
+    let w = way q in (
+      short q,
+      few-rows q,
+      short q,
+      omega (arith, w .size, w .going .good .small),
+      stood (doc q) (c .before .number-behind .result) (book q) (c .look-up .result) (c .look-up .ensures (doc q) (book q) (w .kept)),
+    )
 
 -- The element that was answered.
 abbrev Answered : Type 0
 Answered = tie.After-element-over Inv-loop μ-loop
 
 abbrev Of : Answered → Strode
-Of v = v .before .before .before .before .before .before .before .before .before
+Of v = v .before .before .before .before .before .before .before
 
 is-read : (v : Answered) → v .element-over .result ≡ tells (elementAt (doc (Of v)) (pos (Of v)) (rows (Of v)) (book (Of v)))
 is-read v =
@@ -183,13 +187,13 @@ returns-2 c =
     let t = Of v in
     let step = c .before .before .before .one2 .given .0 .0 in
     let x = told v step (c .before .before .before .one2 .given .1) in
-    let last = last-is v step x true (sym (c .before .is-end .ensures) ∙ c .if2 .taken) in
+    let last = last-is v step x true (sym (c .before .is-end .ensures) ∙ c .if1 .taken) in
     ap (λ (s : Step). ok (s .rows) (s .next)) (sym (x .is))
     ∙ sym (going-end (doc t) (short t) (at t) (book t) (pos t) (rows t) (way t .going) (x .stepped) (x .next) (x .reads) last)
 
 -- An element that is not the last, by names.
 abbrev More : Type 0
-More = tie.Else2 Inv-loop μ-loop
+More = tie.Else1 Inv-loop μ-loop
 
 abbrev By : More → Answered
 By m = m .before .before .before .before .before
@@ -201,7 +205,7 @@ told-of : (m : More) → Told (By m) (step-of m)
 told-of m = told (By m) (step-of m) (m .before .before .before .one2 .given .1)
 
 not-last : (m : More) → isLast (told-of m .stepped .element) ≡ false
-not-last m = last-is (By m) (step-of m) (told-of m) false (sym (m .before .is-end .ensures) ∙ m .if2 .left)
+not-last m = last-is (By m) (step-of m) (told-of m) false (sym (m .before .is-end .ensures) ∙ m .if1 .left)
 
 further : (m : More) → (pos (Of (By m)) + 4 ≤ step-of m .next) × (step-of m .next ≤ length (doc (Of (By m))))
 further m =
@@ -241,12 +245,12 @@ note-requires : tie.Need-note-requires Inv-loop μ-loop
 note-requires c κs =
     let m = c .before .before .before .before in
     let t = Of (By m) in
-    (short t, ap isOk (new m (c .before .before .if3 .taken) .reads), way t .planned .steps-long)
+    (short t, ap isOk (new m (c .before .before .if2 .taken) .reads), way t .planned .steps-long)
 
 loop-again : tie.Need-loop-again Inv-loop μ-loop
 loop-again c =
     let m = c .before .before .before .before .before in
-    let h = c .before .before .before .if3 .taken in
+    let h = c .before .before .before .if2 .taken in
     let t = Of (By m) in
     let x = told-of m in
     let n = new m h in
@@ -254,30 +258,32 @@ loop-again c =
     let (count, is) = noted .1 (has-room m h) in
     let planned = noted .0 (x .stepped .book)
     (found-new (doc t) (short t) (octets t) (at t) (numbers t) (places t) (steps t) (known t) (pos t) (rows t) (used t) (way t) (x .stepped) (x .next) (x .reads) (not-last m) n)
-    (planned-on (doc t) (short t) (octets t) (at t) (numbers t) (places t) (steps t) (known t) (pos t) (rows t) (used t) (way t) (x .stepped) (x .next) (x .reads) (not-last m)) in
-    (subst (λ (s : Step). OnWay (doc t) (at t) (c .note .last .1 .1 .0) (set (places t) (known t) (pos t + 4)) (c .note .last .1 .1 .1 .0) (c .note .result) (s .next) (s .rows) (s .used)) (x .is)
-    (way-new (doc t) (short t) (octets t) (at t) (numbers t) (places t) (steps t) (known t) (pos t) (rows t) (used t) (way t) (x .stepped) (x .next) (x .reads) (not-last m) n
-    (c .note .last .1 .1 .0) (c .note .last .1 .1 .1 .0) (c .note .result) planned count is),
-    words-long t)
+    (planned-on (doc t) (short t) (octets t) (at t) (numbers t) (places t) (steps t) (known t) (pos t) (rows t) (used t) (way t) (x .stepped) (x .next) (x .reads) (not-last m)) in (
+      subst (λ (s : Step). OnWay (doc t) (at t) (c .note .last .1 .1 .0) (set (places t) (known t) (pos t + 4)) (c .note .last .1 .1 .1 .0) (c .note .result) (s .next) (s .rows) (s .used)) (x .is)
+          (way-new (doc t) (short t) (octets t) (at t) (numbers t) (places t) (steps t) (known t) (pos t) (rows t) (used t) (way t) (x .stepped) (x .next) (x .reads) (not-last m) n
+          (c .note .last .1 .1 .0) (c .note .last .1 .1 .1 .0) (c .note .result) planned count is),
+      words-long t,
+    )
 
 loop-again-2 : tie.Need-loop-again-2 Inv-loop μ-loop
 loop-again-2 c =
     let m = c .before .before in
     let t = Of (By m) in
-    let x = told-of m in
-    (subst (λ (s : Step). OnWay (doc t) (at t) (numbers t) (places t) (steps t) (known t) (s .next) (s .rows) (s .used)) (x .is)
-    (way-old (doc t) (short t) (octets t) (at t) (numbers t) (places t) (steps t) (known t) (pos t) (rows t) (used t) (way t) (x .stepped) (x .next) (x .reads) (not-last m)
-    (not-grown m (c .if3 .left))),
-    words-long t)
+    let x = told-of m in (
+      subst (λ (s : Step). OnWay (doc t) (at t) (numbers t) (places t) (steps t) (known t) (s .next) (s .rows) (s .used)) (x .is)
+          (way-old (doc t) (short t) (octets t) (at t) (numbers t) (places t) (steps t) (known t) (pos t) (rows t) (used t) (way t) (x .stepped) (x .next) (x .reads) (not-last m)
+          (not-grown m (c .if2 .left))),
+      words-long t,
+    )
 
 add-places : tie.Need-add-places Inv-loop μ-loop
 add-places c = let m = c .before .before in let w = further m in omega (arith, short (Of (By m)))
 
 mul-places : tie.Need-mul-places Inv-loop μ-loop
-mul-places c = let m = c .before .before in let h = has-room m (c .if3 .taken) in omega arith
+mul-places c = let m = c .before .before in let h = has-room m (c .if2 .taken) in omega arith
 
 array-write-places : tie.Need-array-write-places Inv-loop μ-loop
-array-write-places c = has-room (c .before .before) (c .if3 .taken)
+array-write-places c = has-room (c .before .before) (c .if2 .taken)
 
 add-note : tie.Need-add-note Inv-loop μ-loop
 add-note c = let m = c .before .before in let w = further m in omega (arith, short (Of (By m)))
@@ -288,14 +294,7 @@ loop-less c = let m = c .before .before .before .before .before in let w = furth
 loop-less-2 : tie.Need-loop-less-2 Inv-loop μ-loop
 loop-less-2 c = let m = c .before .before in let w = further m in omega (arith, further-on (Of (By m)))
 
--- The words are full, and the run goes on behind these rows.
-loop-again-3 : tie.Need-loop-again-3 Inv-loop μ-loop
-loop-again-3 c = let q = c .before .before .before .before in (way q, words-long q)
-
-loop-less-3 : tie.Need-loop-less-3 Inv-loop μ-loop
-loop-less-3 c = let q = c .before .before .before .before in omega (arith, further-on q, way q .going .inside, c .if1 .left)
-
 pub rows-from-spec : {M : Type 1} → statement M
 rows-from-spec =
     tie.close
-    (tie.spec Inv-loop μ-loop loop-holds slice-aggregate-quick-rows quick-rows-requires add-rows (λ c κs. search needs) look-up-requires element-over-requires (λ c. search needs) returns (λ c. search needs) (λ c κs. search needs) returns-2 add-places mul-places array-write-places add-note note-requires loop-less loop-again loop-less-2 loop-again-2 loop-less-3 loop-again-3)
+    (tie.spec Inv-loop μ-loop loop-holds slice-aggregate-quick-rows quick-rows-requires add-rows (λ c κs. search needs) look-up-requires element-over-requires (λ c. search needs) returns (λ c. search needs) (λ c κs. search needs) returns-2 add-places mul-places array-write-places add-note note-requires loop-less loop-again loop-less-2 loop-again-2)

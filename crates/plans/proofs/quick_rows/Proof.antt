@@ -6,7 +6,7 @@ use denote.Ref.{now}
 use mathlib.Core.Path.{_≡_, refl, sym, ap, _∙_, subst}
 use mathlib.Core.Bool.{Bool}
 use mathlib.Core.List.{List}
-use lib.ListN.{length, getD, length-set}
+use lib.ListN.{length}
 use lib.Dec.{ltb}
 use Rattle.octets.specs.Reading.{be}
 use Rattle.octets.specs.Writing.{Each, Octet}
@@ -17,7 +17,7 @@ use Rattle.plans.specs.Answers.{Passes}
 use Rattle.plans.specs.Rows.{rowWord, Passage}
 use Rattle.plans.specs.declared.Quick.{Quick}
 use Rattle.plans.specs.declared.Quick.the-variants as quick
-use Rattle.plans.proofs.Rows.{Says, row-says, row-inside, passage-none, passage-more}
+use Rattle.plans.proofs.Rows.{row-says, row-inside, passage-none, passage-more}
 use Rattle.plans.proofs.quick_rows.Statement.{statement}
 use Rattle.plans.proofs.quick_rows.Tie as tie
 
@@ -45,7 +45,7 @@ Start t = t .before .before .before
 quick-row-requires : tie.Need-quick-row-requires Inv-loop μ-loop
 quick-row-requires c κs =
     let t = c .before in
-    (t .loop .inv .0, Start t .pre .1, Start t .pre .4)
+    (t .loop .inv .0, Start t .pre .1, Start t .pre .3)
 
 -- The row that was passed.
 abbrev Tried : Type 0
@@ -91,7 +91,7 @@ here r = passes (By r) (quick.Row (Next r) (I r)) (r .before .quick .given .1)
 bounds : (r : Row) → (pos (By r) + 12 ≤ length (doc (By r))) × (Next r ≤ length (doc (By r))) × (I r < 64)
 bounds r =
     let s = Start (Of (By r)) in
-    let p = s .pre .4 in
+    let p = s .pre .3 in
     let w = here r (p .book) (p .planned) in
     let said = row-says (doc (By r)) (pos (By r) + 4) (w .3 .0) (Next r) (p .book) (w .3 .1) in
     (omega (arith, said .room), row-inside (doc (By r)) (s .pre .1) (octets (By r)) (p .book) (pos (By r) + 4) (w .3 .0) (Next r) (omega (arith, said .room)) (w .3 .1), omega (arith, w .0, p .planned .few))
@@ -103,58 +103,47 @@ u32-at-requires : tie.Need-u32-at-requires Inv-loop μ-loop
 u32-at-requires c κs = let b = bounds c in omega arith
 
 mul-row-word : tie.Need-mul-row-word Inv-loop μ-loop
-mul-row-word c = let b = bounds (c .before) in omega arith
+mul-row-word c = let b = bounds (c .before .before) in omega arith
 
 element-copy-out-row-word : tie.Need-element-copy-out-row-word Inv-loop μ-loop
-element-copy-out-row-word c = bounds (c .before) .2
+element-copy-out-row-word c = bounds (c .before .before) .2
 
 row-word-requires : tie.Need-row-word-requires Inv-loop μ-loop
-row-word-requires c κs = let r = c .before .before in let b = bounds r in omega (arith, Start (Of (By r)) .pre .1)
-
--- Its word is put, and there is room for it.
-abbrev Put : Type 0
-Put = tie.After-row-word Inv-loop μ-loop
-
-abbrev Passed : Put → Row
-Passed w = w .before .before .before
-
-room : (w : Put) → Of (By (Passed w)) .loop .n < length (Of (By (Passed w)) .loop .words)
-room w =
-    let t = Of (By (Passed w)) in
-    omega (arith, By (Passed w) .before .loop-test .taken, t .loop .inv .2, Start t .pre .3)
-
-mul-words : tie.Need-mul-words Inv-loop μ-loop
-mul-words c = let h = room c in let t = Of (By (Passed c)) in omega (arith, t .loop .inv .2)
-
-slice-write-words : tie.Need-slice-write-words Inv-loop μ-loop
-slice-write-words c = room c
+row-word-requires c κs = let r = c .before .before .before in let b = bounds r in omega (arith, Start (Of (By r)) .pre .1)
 
 loop-again : tie.Need-loop-again Inv-loop μ-loop
 loop-again c =
-    let r = Passed c in
+    let y = c .before .before in
+    let w = y .before in
+    let u = w .before .before .before in
+    let r = u .before in
     let q = By r in
     let t = Of q in
     let a = Start t .args in
     let l = t .loop in (
       bounds r .1,
       omega (arith, q .before .loop-test .taken),
-      length-set (l .words) (l .n) (c .row-word .result) ∙ l .inv .2,
+      y .put-word .kept .0 ∙ l .inv .2,
       λ book p.
-          let w = here r book p in
-          let said = row-says (doc q) (pos q + 4) (w .3 .0) (Next r) book (w .3 .1) in
+          let h = here r book p in
+          let said = row-says (doc q) (pos q + 4) (h .3 .0) (Next r) book (h .3 .1) in
           let eight : pos q + 4 + 4 ≡ pos q + 8 = omega arith in
-          passage-more (doc q) (a .at) book (a .from) (now (a .words)) (l .words) (pos q) (l .n) (l .latest) (l .inv .3 book p) (w .3 .0) (Next r) (I r) (c .row-word .result) (w .2) (w .3 .1)
-          (c .row-word .ensures ∙ ap (λ (k : ℕ). rowWord k (ltb (c .before .before .u32-at .result) 0xffffffff) (Next r)) (w .1 ∙ sym (said .number))
-          ∙ ap (λ (b : Bool). rowWord (w .3 .0 .number) b (Next r)) (ap (λ (k : ℕ). ltb k 0xffffffff) (c .before .before .u32-at .ensures ∙ ap (be 4 (doc q)) (sym eight)) ∙ sym (said .stated))),
+          subst (λ (ws : List ℕ). Passage (doc q) (a .at) book (a .from) (now (a .words)) ws (record { next = Next r; count = l .n + 1; last = I r })) (sym (y .put-word .ensures))
+          (passage-more (doc q) (a .at) book (a .from) (now (a .words)) (l .words) (pos q) (l .n) (l .latest) (l .inv .3 book p) (h .3 .0) (Next r) (I r) (w .row-word .result) (h .2) (h .3 .1)
+          (w .row-word .ensures ∙ ap (λ (k : ℕ). rowWord k (ltb (u .u32-at .result) 0xffffffff) (Next r)) (h .1 ∙ sym (said .number))
+          ∙ ap (λ (b : Bool). rowWord (h .3 .0 .number) b (Next r)) (ap (λ (k : ℕ). ltb k 0xffffffff) (u .u32-at .ensures ∙ ap (be 4 (doc q)) (sym eight)) ∙ sym (said .stated)))),
     )
 
 returns : tie.Need-returns Inv-loop μ-loop
-returns c = λ book p. let t = Of (c .before .before) in t .loop .inv .3 book p
+returns c =
+    let q = c .before .before in
+    let l = Of q .loop .inv in
+    (l .0, l .1, λ book p. (l .3 book p, λ h. passes q quick.Unsure (c .enum-told .given .1) book p))
 
 returns-2 : tie.Need-returns-2 Inv-loop μ-loop
-returns-2 c = λ book p. c .before .loop .inv .3 book p
+returns-2 c = let l = c .before .loop .inv in (l .0, l .1, λ book p. (l .3 book p, λ h. absurd (omega (arith, c .loop-test .left))))
 
 pub quick-rows-spec : {M : Type 1} → statement M
 quick-rows-spec =
     tie.close
-    (tie.spec Inv-loop μ-loop loop-holds quick-row-requires (λ c. search needs) (λ c. search needs) returns (λ c. search needs) add-u32-at u32-at-requires mul-row-word element-copy-out-row-word row-word-requires mul-words slice-write-words (λ c. search needs) (λ c. search needs) loop-again (λ c. search needs) returns-2)
+    (tie.spec Inv-loop μ-loop loop-holds quick-row-requires (λ c. search needs) (λ c. search needs) returns (λ c. search needs) add-u32-at u32-at-requires mul-row-word element-copy-out-row-word row-word-requires (λ c κs. search needs) (λ c. search needs) (λ c. search needs) loop-again (λ c. search needs) returns-2)

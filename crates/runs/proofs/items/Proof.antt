@@ -1,7 +1,7 @@
 -- `runs::items` meets its contract. The invariant: what the run will have passed in all is what it has passed and what it will pass from here. The measure is what is left of the words. Assumes nothing.
 use borrow.Author.Needs.{needs}
 use native.Mathlib.Omega.{arith}
-use Prim.Native.Nat.{ℕ, _+_, _-_, _≤_}
+use Prim.Native.Nat.{ℕ, zero, suc, _+_, _-_, _≤_, _<_}
 use denote.Ref.{now}
 use mathlib.Core.Path.{_≡_, refl, sym, ap, _∙_, subst}
 use mathlib.Core.List.{List}
@@ -10,13 +10,14 @@ use Rattle.octets.specs.Writing.{Each, Octet}
 use Rattle.octets.proofs.Spans.{each-octet}
 use Rattle.layouts.specs.Book.{IsBook, bookIn}
 use Rattle.plans.specs.Plan.{Planned}
-use Rattle.plans.specs.Rows.{laid}
-use Rattle.runs.specs.Runs.{Passed, stopped, runFrom}
+use Rattle.plans.specs.Rows.{laid, wordsOf, Passage}
+use Rattle.runs.specs.Runs.{stopped, runFrom}
 use Rattle.runs.specs.Answers.{Turns, wentOf}
-use Rattle.runs.specs.declared.Turn.{Turn}
+use Rattle.runs.specs.declared.Turn as kind
 use Rattle.runs.specs.declared.Turn.the-variants as turn
 use Rattle.runs.specs.declared.Went.{Went}
-use Rattle.runs.proofs.Runs.{OnWay, started, goes, all, run-stops, run-none}
+use Rattle.runs.proofs.Runs.{OnWay, started, goes, answered, run-stops, run-none}
+use Rattle.runs.proofs.Rows.{goes-rows}
 use Rattle.runs.proofs.Steps.{taken}
 use Rattle.runs.proofs.items.Statement.{statement}
 use Rattle.runs.proofs.items.Tie as tie
@@ -24,7 +25,7 @@ use Rattle.runs.proofs.items.Tie as tie
 abbrev Inv-loop : tie.InvT-loop
 Inv-loop doc at rows book₀ used words₀ numbers₀ steps₀ known₀ last₀ pos₀ passed₀ filled₀ n₀ book words numbers steps known last pos passed filled n =
     OnWay doc at rows book₀ used words₀ words book pos passed filled n × (pos ≤ length doc) × Each Octet book × IsBook book filled
-    × Planned numbers steps known (bookIn book filled) × (length book ≡ length book₀)
+    × Planned numbers steps known (bookIn book filled) × (length book ≡ length book₀) × (passed ≤ 1048577)
 
 abbrev μ-loop : tie.MeasureT-loop
 μ-loop doc at rows book₀ used words₀ numbers₀ steps₀ known₀ last₀ pos₀ passed₀ filled₀ n₀ book words numbers steps known last pos passed filled n = 4096 - n
@@ -36,15 +37,181 @@ loop-holds c =
       started (now (a .doc)) (a .at) (a .rows) (now (a .book)) (a .used) (now (a .words)),
       start .pre .0,
       each-octet (now (a .book)) (c .slice-known .given),
-      start .pre .2,
+      start .pre .3,
       record { few = omega arith; numbers-long = length-replicate {A = ℕ} 64 0; steps-long = length-replicate {A = ℕ} 4160 0; entry = λ i h. absurd (omega arith) },
       refl,
+      omega (arith, start .pre .2),
     )
 
+-- The turn by names.
+abbrev Turn : Type 0
+Turn = tie.At-loop Inv-loop μ-loop
+
+abbrev Start : Turn → tie.Start Inv-loop μ-loop
+Start t = t .before .before .before
+
 quick-rows-requires : tie.Need-quick-rows-requires Inv-loop μ-loop
-quick-rows-requires c κs = ?
+quick-rows-requires c κs =
+    let t = c .before .before .before .before .before in
+    (t .loop .inv .1, Start t .pre .1, c .before .before .before .reach .ensures .0, record { book = bookIn (t .loop .book) (t .loop .filled); planned = t .loop .inv .4 })
+
+-- Behind the rows that plans passed.
+abbrev Strode : Type 0
+Strode = tie.After-quick-rows Inv-loop μ-loop
+
+abbrev Turned : Strode → Turn
+Turned q = q .before .before .before .before .before .before
+
+module _ (q : Strode) where
+  abbrev doc : List ℕ
+  doc = now (Start (Turned q) .args .doc)
+
+  abbrev at : ℕ
+  at = Start (Turned q) .args .at
+
+  abbrev rows : ℕ
+  rows = Start (Turned q) .args .rows
+
+  abbrev entry : List ℕ
+  entry = now (Start (Turned q) .args .book)
+
+  abbrev used : ℕ
+  used = Start (Turned q) .args .used
+
+  abbrev lent : List ℕ
+  lent = now (Start (Turned q) .args .words)
+
+  abbrev book : List ℕ
+  book = Turned q .loop .book
+
+  abbrev filled : ℕ
+  filled = Turned q .loop .filled
+
+  abbrev words : List ℕ
+  words = q .quick-rows .last .1 .1 .1 .1 .1 .1 .0
+
+  abbrev pos : ℕ
+  pos = q .quick-rows .result .next
+
+  abbrev n : ℕ
+  n = q .quick-rows .result .count
+
+  abbrev passed : ℕ
+  passed = Turned q .loop .passed + (q .quick-rows .result .count - Turned q .loop .n)
+
+  octets : Each Octet doc
+  octets = each-octet doc (Turned q .before .before .shared-slice-known .given)
+
+  passage : Passage doc (Turned q .loop .pos) (bookIn book filled) (Turned q .loop .n) (Turned q .loop .words) words (q .quick-rows .result)
+  passage = q .quick-rows .ensures .2 (bookIn book filled) (Turned q .loop .inv .4) .0
+
+  count : Turned q .loop .n + length (passage .rows) ≡ n
+  count = sym (passage .count)
+
+  -- No step was told too many rows.
+  few : 0 < length (passage .rows) → Turned q .loop .passed + length (passage .rows) ≤ 1048577
+  few h = let r = q .before .before .before .before .reach in let some = r .ensures .2 (omega (arith, q .quick-rows .ensures .1, count)) in omega (arith, q .quick-rows .ensures .1, count)
+
+  few-passed : passed ≤ 1048577
+  few-passed = let b = go (length (passage .rows)) (Turned q .loop .passed) few (Turned q .loop .inv .6) in omega (arith, count)
+    where
+      go : (k p : ℕ) → (0 < k → p + k ≤ 1048577) → p ≤ 1048577 → p + k ≤ 1048577
+      go zero p some h = omega arith
+      go (suc k) p some h = some (omega arith)
+
+  way : OnWay doc at rows entry used lent words book pos passed filled n
+  way =
+      let w = goes-rows doc (Start (Turned q) .pre .1) at rows entry used lent book filled (Turned q .loop .inv .2) (Turned q .loop .inv .3) (passage .rows) (Turned q .loop .words) (Turned q .loop .pos)
+      (Turned q .loop .passed) (Turned q .loop .n) pos (Turned q .loop .inv .0) (passage .stand) (omega (arith, count, q .quick-rows .ensures .1, q .before .before .before .before .reach .ensures .1)) few in
+      subst (λ (ws : List ℕ). OnWay doc at rows entry used lent ws book pos passed filled n) (sym (passage .put))
+      (subst (λ (m : ℕ). OnWay doc at rows entry used lent (laid (Turned q .loop .n) (wordsOf (passage .rows)) (Turned q .loop .words)) book pos m filled n) (omega (arith, count))
+      (subst (λ (m : ℕ). OnWay doc at rows entry used lent (laid (Turned q .loop .n) (wordsOf (passage .rows)) (Turned q .loop .words)) book pos (Turned q .loop .passed + length (passage .rows)) filled m) count w))
+
+  -- What is answered where the run stops here.
+  stopped-here : runFrom (4096 - n) doc pos passed book filled ≡ stopped pos passed book filled
+      → (_≡_ {A = Went} (record { count = n; next = pos; rows = passed; used = filled }) (wentOf (runFrom 4096 doc at rows entry used)))
+      × (book ≡ runFrom 4096 doc at rows entry used .octets) × (words ≡ laid 0 (runFrom 4096 doc at rows entry used .words) lent)
+  stopped-here stop = answered doc at rows entry used lent way stop
+
+-- The item behind them.
+abbrev Answered : Type 0
+Answered = tie.After-next-item Inv-loop μ-loop
+
+abbrev Of : Answered → Strode
+Of v = v .before .before .before .before .before .before
+
+turns : (v : Answered) (x : kind.Turn) → v .next-item .result ≡ x
+    → Turns (doc (Of v)) (pos (Of v)) (passed (Of v)) (book (Of v)) (filled (Of v)) (v .next-item .last .1 .1 .1 .0) (v .next-item .last .1 .1 .1 .1 .1 .0) (v .next-item .last .1 .1 .1 .1 .1 .1 .0) x
+turns v x e =
+    subst (Turns (doc (Of v)) (pos (Of v)) (passed (Of v)) (book (Of v)) (filled (Of v)) (v .next-item .last .1 .1 .1 .0) (v .next-item .last .1 .1 .1 .1 .1 .0) (v .next-item .last .1 .1 .1 .1 .1 .1 .0)) e
+    (v .next-item .ensures)
+
+next-item-requires : tie.Need-next-item-requires Inv-loop μ-loop
+next-item-requires c κs =
+    let q = c .before .before .before .before .before in
+    (q .quick-rows .ensures .0, Start (Turned q) .pre .1, Turned q .loop .inv .3, Turned q .loop .inv .4)
+
+returns : tie.Need-returns Inv-loop μ-loop
+returns c =
+    let v = c .before .before .before .before in
+    let q = Of v in
+    let (none, kept) = turns v turn.Stop (c .enum-told .given .1) in
+    let (went, same, put) = stopped-here q (run-stops (4096 - n q) (doc q) (pos q) (passed q) (book q) (filled q) none) in
+    (went, kept ∙ same, put)
+
+returns-2 : tie.Need-returns-2 Inv-loop μ-loop
+returns-2 c =
+    let t = c .before in
+    let a = Start t .args in
+    let none : 4096 - t .loop .n ≡ 0 = omega (arith, c .loop-test .left) in
+    answered (now (a .doc)) (a .at) (a .rows) (now (a .book)) (a .used) (now (a .words)) (t .loop .inv .0)
+    (ap (λ (k : ℕ). runFrom k (now (a .doc)) (t .loop .pos) (t .loop .passed) (t .loop .book) (t .loop .filled)) none
+    ∙ run-none (now (a .doc)) (t .loop .pos) (t .loop .passed) (t .loop .book) (t .loop .filled))
+
+-- What holds of a step holds of what was answered of it.
+said : {word word' : ℕ} {exit exit' : List ℕ} {rows rows' used used' : ℕ} (P : ℕ → List ℕ → ℕ → ℕ → Type 0) → word ≡ word' → exit ≡ exit' → rows ≡ rows' → used ≡ used'
+    → P word' exit' rows' used' → P word exit rows used
+said P w x r u h = rw (w, x, r, u) h
+
+loop-again : tie.Need-loop-again Inv-loop μ-loop
+loop-again c =
+    let v = c .before .before .before .before .before in
+    let q = Of v in
+    let gone = c .before .turn .given .0 .0 in
+    let g = turns v (turn.Item gone) (c .before .turn .given .1) in
+    let step = taken (doc q) (pos q) (passed q) (book q) (filled q) (g .stepped) (gone .next) (octets q) (Turned q .loop .inv .2) (g .reads) in (
+      said (λ (word : ℕ) (exit : List ℕ) (rows₁ used₁ : ℕ). OnWay (doc q) (at q) (rows q) (entry q) (used q) (lent q) (set (words q) (n q) word) exit (gone .next) rows₁ used₁ (n q + 1))
+          (g .told) (g .left) (g .counts) (g .fills)
+          (goes (doc q) (at q) (rows q) (entry q) (used q) (lent q) (way q) (g .stepped) (g .which) (gone .next) (v .before .before .before .before .if1 .taken) (g .reads) (g .is)),
+      step .near,
+      each-octet (v .next-item .last .1 .1 .1 .0) (c .before .before .before .slice-known2 .given),
+      said (λ (word : ℕ) (exit : List ℕ) (rows used : ℕ). IsBook exit used) (g .told) (g .left) (g .counts) (g .fills) (step .is),
+      said (λ (word : ℕ) (exit : List ℕ) (rows used : ℕ). Planned (v .next-item .last .1 .1 .1 .1 .1 .0) (v .next-item .last .1 .1 .1 .1 .1 .1 .0) (gone .known) (bookIn exit used)) (g .told) (g .left) (g .counts) (g .fills)
+          (subst (Planned (v .next-item .last .1 .1 .1 .1 .1 .0) (v .next-item .last .1 .1 .1 .1 .1 .1 .0) (gone .known)) (sym (step .book)) (g .planned)),
+      v .next-item .kept .1 .1 .1 .0 ∙ Turned q .loop .inv .5,
+      omega (arith, g .counts, step .few),
+    )
+
+-- The words are full.
+loop-again-2 : tie.Need-loop-again-2 Inv-loop μ-loop
+loop-again-2 c =
+    let q = c .before .before in
+    let l = Turned q .loop .inv in
+    (way q, q .quick-rows .ensures .0, l .2, l .3, l .4, l .5, few-passed q)
+
+sub-passed : tie.Need-sub-passed Inv-loop μ-loop
+sub-passed c = let q = c .before in omega (arith, count q)
+
+add-passed : tie.Need-add-passed Inv-loop μ-loop
+add-passed c = omega (arith, few-passed (c .before))
+
+loop-less : tie.Need-loop-less Inv-loop μ-loop
+loop-less c = let q = Of (c .before .before .before .before .before) in omega (arith, count q)
+
+loop-less-2 : tie.Need-loop-less-2 Inv-loop μ-loop
+loop-less-2 c = let q = c .before .before in omega (arith, c .if1 .left, q .before .before .before .before .before .loop-test .taken)
 
 pub items-spec : {M : Type 1} → statement M
 items-spec =
     tie.close
-    (tie.spec Inv-loop μ-loop loop-holds (λ c κs. search needs) quick-rows-requires (λ c. search needs) (λ c. search needs) (λ c κs. search needs) (λ c. search needs) (λ c. search needs) (λ c. search needs) (λ c. search needs) (λ c. search needs) (λ c. search needs) (λ c. search needs) (λ c. search needs) (λ c. search needs) (λ c. search needs) (λ c. search needs) (λ c. search needs) (λ c. search needs))
+    (tie.spec Inv-loop μ-loop loop-holds (λ c κs. search needs) quick-rows-requires sub-passed add-passed next-item-requires (λ c. search needs) (λ c. search needs) returns (λ c. search needs) (λ c. search needs) (λ c. search needs) (λ c. search needs) loop-less loop-again loop-less-2 loop-again-2 (λ c. search needs) returns-2)

@@ -98,7 +98,7 @@ returns-4 c =
 items-requires : tie.Need-items-requires
 items-requires c κs =
     let v = c .before .before .before .before .before in
-    (c .before .before .if4 .left, omega arith, is v (not-false _ (c .before .before .before .before .if2 .left)))
+    (c .before .before .if4 .left, omega arith, c .before .before .before .if3 .left, is v (not-false _ (c .before .before .before .before .if2 .left)))
 
 returns-5 : tie.Need-returns-5
 returns-5 c =
