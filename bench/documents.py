@@ -189,28 +189,42 @@ def strings(size, seed=3):
 
 
 @functools.cache
-def many(size, seed=4):
+def many(size, seed=4, count=MOST_LAYOUTS):
     """
-    As many layouts of as many attributes as the book holds, used in turn.
+    As many layouts of as many attributes as the book holds, or the first of them, used in turn.
     With names of no octets a layout takes 12 octets and 8 for each attribute,
     so that 64 layouts of 62 and 63 attributes fill the book's 32,768 exactly.
+    Every fourth has the same types, so that any 4 stand for all.
     """
     random = Random(seed)
-    total = (MOST_BOOK - 12 * MOST_LAYOUTS) // 8
-    counts = [total // MOST_LAYOUTS + (i < total % MOST_LAYOUTS) for i in range(MOST_LAYOUTS)]
-    layouts = [Layout(1000 + i, b"", [(b"", random.pick(ALL_TYPES)) for _ in range(count)])
-               for i, count in enumerate(random.shuffled(counts))]
-    return document(layouts, size, seed, 8)
+    mixes = [[(b"", random.pick(ALL_TYPES)) for _ in range(63)] for _ in range(4)]
+    layouts = [Layout(1000 + i, b"", mixes[i % 4][:62 + i % 2]) for i in range(MOST_LAYOUTS)]
+    assert sum(layout.size() for layout in layouts) == MOST_BOOK
+    return document(layouts[:count], size, seed, 8)
+
+
+def few(size):
+    """A sixteenth of those layouts."""
+    return many(size, count=MOST_LAYOUTS // 16)
 
 
 SHAPES = {"short": short, "wide": wide, "strings": strings, "many": many}
 
-# `bare` has no rows: what the header and the layouts alone cost.
-SIZES = {"bare": 0, "64k": 65_536, "1m": MOST_DOCUMENT}
+# What stands for a shape in a sixteenth of a document: the same shape, with a sixteenth of its layouts where it has many.
+SIXTEENTHS = {**SHAPES, "many": few}
+
+SMALL = MOST_DOCUMENT // 16
 
 
 def measured():
-    """Every measured document: its shape, its size's name, and its octets."""
-    for shape, make in SHAPES.items():
-        for name, size in SIZES.items():
-            yield shape, name, bytes(make(size).octets)
+    """
+    Every measured document: its shape, what of it, and its octets. Large and small ones; each without its rows;
+    and a small one with all of many layouts, of which half is layouts.
+    """
+    for shape in SHAPES:
+        large, small = SHAPES[shape], SIXTEENTHS[shape]
+        yield shape, "large", bytes(large(MOST_DOCUMENT).octets)
+        yield shape, "small", bytes(small(SMALL).octets)
+        yield shape, "large bare", bytes(large(0).octets)
+        yield shape, "small bare", bytes(small(0).octets)
+    yield "many", "crowded", bytes(many(SMALL).octets)
