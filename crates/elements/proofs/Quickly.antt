@@ -56,6 +56,10 @@ module _ (s : List ℕ) (o : Each Octet s) (at rows : ℕ) (b : Book) (st : Step
       go (at-row r k f _ _ same) = none same
       go (at-finish n t k f _ _ same) = none same
 
+  -- The book behind it has it.
+  pub found-new : (n : New) → find (n .layout .number) (st .book) ≡ some (n .layout)
+  found-new n = ap (find (n .layout .number)) (n .is) ∙ (find-behind (n .layout .number) b (n .layout ∷ []) (n .fresh) ∙ find-here (n .layout .number) (n .layout) [] refl)
+
   pub element-old : (Grows → ⊥) → st .book ≡ b
   element-old no-more = go (went s at rows b st next e)
     where
@@ -124,10 +128,6 @@ module _ (s : List ℕ) (short : length s ≤ 1048576) (o : Each Octet s) (at : 
         record { book = st .book; going = on; planned = planned-on; kept = subst (Kept s numbers places known) (sym same) (w .kept); size = refl }
 
     module _ (n : New s o pos rows (w .book) st next e) where
-      pub found-new : find (n .layout .number) (st .book) ≡ some (n .layout)
-      found-new =
-          ap (find (n .layout .number)) (n .is) ∙ (find-behind (n .layout .number) (w .book) (n .layout ∷ []) (n .fresh) ∙ find-here (n .layout .number) (n .layout) [] refl)
-
       pub room-new : known < 64
       room-new = omega (arith, n .few, w .kept .count)
 

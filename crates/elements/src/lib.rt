@@ -4,7 +4,7 @@ ghost use mathlib.Core.Path.{_≡_};
 ghost use mathlib.Core.Bool.{true};
 ghost use mathlib.Core.List.{[]};
 ghost use Prim.Native.Nat.{ℕ, _+_, _≤_};
-ghost use lib.ListN.{length};
+ghost use lib.ListN.{length, take};
 ghost use Rattle.octets.specs.Reading.{ok, isOk, be};
 ghost use Rattle.layouts.specs.Layout.{Layout, layoutAt};
 ghost use Rattle.layouts.specs.Book.{Book, bookImage, IsBook, bookIn};
@@ -177,7 +177,7 @@ fn element_over<'d, 's>(
 }
 
 // The number behind the kind at a place; any where the document ends before it.
-fn number_behind(doc: &[u8], at: usize) -> u32
+pub fn number_behind(doc: &[u8], at: usize) -> u32
     requires { ⌜ length (now doc) ≤ 1048576 ⌝ }
     ensures { λ r. ⌜ (at + 4 + 4 ≤ length (now (doc .entry)) → r ≡ be 4 (now (doc .entry)) (at + 4)) ⌝ }
 {
@@ -188,6 +188,32 @@ fn number_behind(doc: &[u8], at: usize) -> u32
         return 0;
     }
     octets::u32_at(doc, at + 4)
+}
+
+// One element at any place, over a book that is known to be good, by where the number behind its kind was looked up; a new layout's octets are put behind the used ones.
+pub fn element_by<'d, 'b>(
+    doc: &'d [u8],
+    at: usize,
+    rows: usize,
+    book: &'b mut [u8],
+    used: usize,
+    looked: Looked,
+) -> Stepping
+    requires { ⌜ (length (now doc) ≤ 1048576) × (rows ≤ 1048576) × IsBook (now book) used × Over (now doc) (at + 4) (take used (now book)) looked used (bookIn (now book) used) ⌝ }
+    ensures { λ r. ⌜ (r ≡ tells (elementAt (now (doc .entry)) at rows (bookIn (now (book .entry)) used))) × (now (book .exit) ≡ leaves (now (book .entry)) (elementAt (now (doc .entry)) at rows (bookIn (now (book .entry)) used))) ⌝ }
+{
+    let one = element_over(doc, at, rows, &book[..used], looked, used);
+    match one {
+        Stepping::Refused(n, p) => Stepping::Refused(n, p),
+        Stepping::Done(step) => {
+            if used < step.used {
+                let start = at + 4;
+                let next = step.next;
+                let filled = octets::lay(book, used, &doc[start..next]);
+            }
+            Stepping::Done(step)
+        }
+    }
 }
 
 // One element at any place, over a book that is known to be good; a new layout's octets are put behind the used ones.
@@ -202,18 +228,7 @@ pub fn element<'d, 'b>(
     ensures { λ r. ⌜ (r ≡ tells (elementAt (now (doc .entry)) at rows (bookIn (now (book .entry)) used))) × (now (book .exit) ≡ leaves (now (book .entry)) (elementAt (now (doc .entry)) at rows (bookIn (now (book .entry)) used))) ⌝ }
 {
     let looked = layouts::look_in(&book[..used], number_behind(doc, at));
-    let one = element_over(doc, at, rows, &book[..used], looked, used);
-    match one {
-        Stepping::Refused(n, p) => Stepping::Refused(n, p),
-        Stepping::Done(step) => {
-            if used < step.used {
-                let start = at + 4;
-                let next = step.next;
-                let filled = octets::lay(book, used, &doc[start..next]);
-            }
-            Stepping::Done(step)
-        }
-    }
+    element_by(doc, at, rows, book, used, looked)
 }
 
 // Whether an element is the end.

@@ -2,12 +2,14 @@
 -- A reading that succeeds is taken apart field by field; attribute n stands behind the run of the first n.
 use Prim.Native.Nat.{ℕ, zero, suc, _+_, _≤_, _<_}
 use mathlib.Core.Path.{_≡_, sym, ap, _∙_, subst}
-use mathlib.Core.List.{List}
+use mathlib.Core.List.{List, _++_}
 use mathlib.Core.Bool.{true}
 use lib.ListN.{length, drop}
 use native.Mathlib.Numerals.{add-one}
 use native.Mathlib.Omega.{arith}
 use Rattle.octets.specs.Reading.{Read, ok, ends, isOk, be, part, number, text, count, run}
+use Rattle.octets.specs.Writing.{Each, Octet}
+use Rattle.octets.proofs.Spans.{spans-front}
 use Rattle.octets.proofs.Inverse.{after, ok-value, ok-place}
 use Rattle.octets.proofs.Ends.{number-ok, number-room, text-ok, text-room, count-ok, count-room, ends-ok, value-is, run-on, run-none, run-first}
 use Rattle.octets.proofs.Runs.{run-item, run-length}
@@ -15,6 +17,7 @@ use Rattle.kinds.specs.Kinds.{kindAt}
 use Rattle.kinds.proofs.Table.{kind-is}
 use Rattle.layouts.specs.Layout.{Attribute, Layout, attributeAt, layoutAt}
 use Rattle.layouts.specs.Answers.{Nth}
+use Rattle.layouts.proofs.Layouts.{layout-inverse}
 
 -- A reading that is accepted ends at one place.
 pub one-end : {A : Type 0} (r : Read A) {a : A} {n m : ℕ} → r ≡ ok a n → ends r ≡ ok m m → m ≡ n
@@ -131,6 +134,12 @@ module _ (s : List ℕ) (at : ℕ) where
 
   pub attribute-text : {a : Attribute} {next : ℕ} → attributeAt s at ≡ ok a next → (mid : ℕ) × (text s at ≡ ok (a .name) mid)
   attribute-text e = let (mid, d) = attribute-split e in (mid, d .name)
+
+-- A layout read in octets is read there with more behind them.
+pub layout-extends : (s t : List ℕ) (at : ℕ) (l : Layout) (next : ℕ) → Each Octet s → layoutAt s at ≡ ok l next → layoutAt (s ++ t) at ≡ ok l next
+layout-extends s t at l next o e =
+    let (u, g, p) = layout-inverse s .forth o (omega (arith, layout-number s at e .0)) e in
+    layout-inverse (s ++ t) .back l tt g (spans-front t p)
 
 -- A run of one more.
 run-last : {A : Type 0} (f : ℕ → Read A) (i at : ℕ) {p q : ℕ} → ends (run f i at) ≡ ok p p → ends (f p) ≡ ok q q → ends (run f (suc i) at) ≡ ok q q

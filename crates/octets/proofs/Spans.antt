@@ -6,7 +6,7 @@ use native.Mathlib.Numerals.{add-one}
 use native.Mathlib.Omega.{arith}
 use native.Mathlib.Nat.{add-zero, add-suc, add-assoc, mul-assoc, zero-add, le-refl, pow-zero, pow-suc, div-lt-iff-lt-mul}
 use lib.ListN.{length, take, drop, getD, replicate, length-append, length-drop, take-append-drop}
-use lib.Seq.{drop-cons, drop-append-seam, drop-drop, drop-length, getD-drop, length-take-le, take-append-seam}
+use lib.Seq.{drop-cons, drop-append-le, drop-append-seam, drop-drop, drop-length, getD-drop, length-take-le, take-append-seam}
 use lib.Dec.{lit<}
 use lib.Arith.{digits-lt, digits-div, digits-mod}
 use mir.Val.{Fits}
@@ -86,6 +86,19 @@ stands pre xs post =
     let p = middle pre (xs ++ post) (all-spans (pre ++ (xs ++ post))) .1 in
     moved (length (pre ++ (xs ++ post))) (length pre) (length pre + length xs) (middle xs post p .0) (omega arith) (omega arith)
     (omega (arith, length-append pre (xs ++ post), length-append xs post))
+
+-- What stands in a list stands there with more behind it.
+pub spans-front : {s : List ℕ} {at next : ℕ} {xs : List ℕ} (t : List ℕ) → Spans s (length s) at next xs → Spans (s ++ t) (length (s ++ t)) at next xs
+spans-front {s} {at} {next} {xs} t p =
+    record {
+      place = p .place;
+      inside = omega (arith, p .inside, length-append s t);
+      same =
+          drop-append-le at s t (omega (arith, p .place, p .inside))
+          ∙ ap (λ (x : List ℕ). x ++ t) (p .same)
+          ∙ append-assoc xs (drop next s) t
+          ∙ ap (λ (x : List ℕ). xs ++ x) (sym (drop-append-le next s t (p .inside)));
+    }
 
 -- What holds of every item of a list, of its parts and of two lists joined.
 module _ {A : Type 0} (P : A → Type 0) where

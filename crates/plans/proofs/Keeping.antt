@@ -1,5 +1,5 @@
 -- Plans kept: they go with every book that finds what theirs finds, one more is added behind them, a row passed by one is a row of the book, and one that its plan does not pass is refused.
--- Layouts kept by their places: one more is added behind them too.
+-- Layouts kept by their places: one more is added behind them too, and more octets behind theirs change nothing.
 use Prim.Native.Nat.{ℕ, _+_, _*_, _≤_, _<_}
 use mathlib.Core.Path.{_≡_, refl, sym, ap, _∙_, subst}
 use mathlib.Core.List.{List, [], _∷_, _++_}
@@ -11,10 +11,12 @@ use lib.Seq.{getD-set-same, getD-set-other}
 use lib.Dec.{leb, ltb}
 use borrow.Author.Tests.{leb-true, leb-false, ltb-true, ltb-false}
 use Rattle.octets.specs.Reading.{ok, ends, isOk, be, document, stated, number}
+use Rattle.octets.specs.Writing.{Each, Octet}
 use Rattle.octets.proofs.Ends.{number-ok, number-no, ended, ends-ok, first-no}
 use Rattle.layouts.specs.Layout.{Attribute, Layout, layoutAt}
 use Rattle.layouts.specs.Book.{Book, find}
 use Rattle.layouts.specs.Answers.{Stands}
+use Rattle.layouts.proofs.Parts.{layout-extends}
 use Rattle.layouts.proofs.Finding.{Within, find-here, find-skip, find-nil, find-front, find-behind}
 use Rattle.rows.specs.Row.{Field, Row, fieldsIn, filled, valuesAt, named, rowAt}
 use Rattle.rows.proofs.Lengths.{values-open, values-past, values-stated, filled-ok, filled-short, row-cut}
@@ -127,6 +129,20 @@ module _ (doc numbers places : List ℕ) (known at next : ℕ) (book : Book) (l 
       none-of n lacks =
           find-behind n book (l ∷ []) (k .all n (λ i h e. lacks i (omega arith) (getD-set-other numbers known i (l .number) 0 (λ z. omega arith) ∙ e)))
           ∙ (find-skip n l [] (λ q. lacks known (omega arith) (numbered ∙ sym q)) ∙ find-nil n)
+
+-- Layouts kept by their places are kept with more octets behind them.
+pub kept-extends : (s t numbers places : List ℕ) (known : ℕ) (book : Book) → Each Octet s → Kept s numbers places known book → Kept (s ++ t) numbers places known book
+kept-extends s t numbers places known book o k =
+    record { numbers-long = k .numbers-long; places-long = k .places-long; count = k .count; entry = λ i h. go i (k .entry i h); all = k .all }
+  where
+    go : (i : ℕ) → Stands s (getD numbers i 0) book (getD places i 0) → Stands (s ++ t) (getD numbers i 0) book (getD places i 0)
+    go i e =
+        record {
+          layout = e .layout;
+          next = e .next;
+          found = e .found;
+          reads = layout-extends s t (getD places i 0) (e .layout) (e .next) o (e .reads);
+        }
 
 -- The values behind a row's length, unstated or stated.
 module _ (s : List ℕ) (at : ℕ) (steps : List ℕ) (from : ℕ) where

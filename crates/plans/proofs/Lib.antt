@@ -1,4 +1,5 @@
 pub mod Walking
 pub mod Making
 pub mod Keeping
+pub mod Indexing
 pub mod Rows

@@ -10,8 +10,8 @@ use Rattle.kinds.specs.declared.Form.{Form}
 use Rattle.kinds.specs.declared.Form.the-variants as form
 use Rattle.kinds.specs.Kinds.{formOf}
 use Rattle.layouts.specs.Layout.{Attribute, Layout}
-use Rattle.layouts.specs.Book.{Book, find}
-use Rattle.layouts.specs.Answers.{Stands}
+use Rattle.layouts.specs.Book.{Book, find, Distinct}
+use Rattle.layouts.specs.Answers.{Stands, Image}
 
 -- What a form adds to a step: four for each octet of a number; one for octets behind a length, two for a boolean, and these close the step.
 abbrev pub mark : Form → ℕ
@@ -67,3 +67,14 @@ pub record Kept (doc numbers places : List ℕ) (known : ℕ) (book : Book) : Ty
   pub count : length book ≡ known
   pub entry : (i : ℕ) → i < known → Stands doc (getD numbers i 0) book (getD places i 0)
   pub all : (n : ℕ) → Lacks numbers known n → find n book ≡ none
+
+-- Octets that are the image of a book of different numbers, at most 64.
+pub record Shelf (s : List ℕ) (book : Book) : Type 0 where
+  pub image : Image s book
+  pub distinct : Distinct book
+  pub few : length book ≤ 64
+
+-- Octets that are the image of such a book.
+pub record Shelved (s : List ℕ) : Type 0 where
+  pub book : Book
+  pub shelf : Shelf s book

@@ -11,7 +11,7 @@ ghost use Rattle.layouts.specs.Layout.{Attribute, Layout, attributeAt, layoutAt
 ghost use Rattle.layouts.specs.Book.{Book, find};
 ghost use Rattle.layouts.specs.Answers.{Looks};
 ghost use Rattle.rows.specs.Answers.{Slim, Attributes};
-ghost use Rattle.plans.specs.Plan.{mark, planOf, Begins, Plan, Planned, Plans, Lacks, Kept};
+ghost use Rattle.plans.specs.Plan.{mark, planOf, Begins, Plan, Planned, Plans, Lacks, Kept, Shelf, Shelved};
 ghost use Rattle.plans.specs.Answers.{Closes, Follows, Lasts, Refuses, Passes};
 ghost use Rattle.plans.specs.Rows.{rowWord, Passage};
 use kinds::Form;
@@ -325,4 +325,24 @@ pub fn note<'d, 'n, 'p>(
     numbers[known] = layouts::layout_number(doc, at);
     put_plan(doc, counted + 4, count, steps, known * 65);
     known + 1
+}
+
+// Keeps all layouts that octets hold by their places there, and makes their plans; how many there are.
+pub fn index<'s, 'n, 'l, 'p>(
+    s: &'s [u8],
+    numbers: &'n mut [u32; 64],
+    places: &'l mut [usize; 64],
+    steps: &'p mut [u16; 4160],
+) -> usize
+    requires { ⌜ (length (now s) ≤ 1048576) × (length (now numbers) ≡ 64) × (length (now places) ≡ 64) × (length (now steps) ≡ 4160) × Shelved (now s) ⌝ }
+    ensures { λ r. ⌜ ((book : Book) → Shelf (now (s .entry)) book → Kept (now (s .entry)) (now (numbers .exit)) (now (places .exit)) r book × Planned (now (numbers .exit)) (now (steps .exit)) r book) ⌝ }
+{
+    let mut pos = 0;
+    let mut known: usize = 0;
+    while pos < s.len() {
+        places[known] = pos;
+        known = note(s, pos, numbers, steps, known);
+        pos = layouts::layout_skip(s, pos);
+    }
+    known
 }

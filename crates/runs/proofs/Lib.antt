@@ -2,5 +2,6 @@ mod Steps
 mod Mets
 mod Runs
 mod Rows
+mod Carrying
 mod Entry
 mod Apart

@@ -1,4 +1,4 @@
--- What an element is, by what an answer says of it; and that the end leaves the book as it is.
+-- What an element is, by what an answer says of it; and that a row and the end leave the book as it is.
 use Prim.Native.Nat.{ℕ}
 use mathlib.Core.Path.{_≡_, refl, sym, _∙_}
 use mathlib.Core.List.{List}
@@ -28,13 +28,24 @@ met-end (item (layout l)) n t e = absurd (let z : _≡_ {A = ℕ} 0 1 = cc in om
 met-end (item (row r)) n t e = absurd (let z : _≡_ {A = ℕ} 0 1 = cc in omega arith)
 met-end (finish m u) n t e = (m, u, refl)
 
-pub end-keeps : (s : List ℕ) (at rows : ℕ) (b : Book) (st : Stepped) (next n t : ℕ) → elementAt s at rows b ≡ ok st next → st .element ≡ finish n t → st .book ≡ b
-end-keeps s at rows b st next n t e end = go (went s at rows b st next e)
+-- What is no layout leaves the book as it is.
+book-keeps : (s : List ℕ) (at rows : ℕ) (b : Book) (st : Stepped) (next : ℕ) → elementAt s at rows b ≡ ok st next → ((l : Layout) → st .element ≡ item (layout l) → ⊥) → st .book ≡ b
+book-keeps s at rows b st next e other = go (went s at rows b st next e)
   where
-    other : {l : Layout} → finish n t ≡ item (layout l) → ⊥
-    other h = let z : _≡_ {A = ℕ} 0 1 = cc in omega arith
-
     go : Went s at rows b st next → st .book ≡ b
-    go (at-layout l x k f m is _) = absurd (other (sym end ∙ is))
+    go (at-layout l x k f m is _) = absurd (other l is)
     go (at-row r k f is _ same) = same
     go (at-finish m u k f is _ same) = same
+
+module _ (s : List ℕ) (at rows : ℕ) (b : Book) (st : Stepped) (next : ℕ) (e : elementAt s at rows b ≡ ok st next) where
+  pub end-keeps : (n t : ℕ) → st .element ≡ finish n t → st .book ≡ b
+  end-keeps n t end = book-keeps s at rows b st next e (λ l q. other l (sym end ∙ q))
+    where
+      other : (l : Layout) → finish n t ≡ item (layout l) → ⊥
+      other l h = let z : _≡_ {A = ℕ} 0 1 = cc in omega arith
+
+  pub row-keeps : (r : Row) → st .element ≡ item (row r) → st .book ≡ b
+  row-keeps r is = book-keeps s at rows b st next e (λ l q. other l (sym is ∙ q))
+    where
+      other : (l : Layout) → item (row r) ≡ item (layout l) → ⊥
+      other l h = let z : _≡_ {A = ℕ} 0 1 = cc in omega arith

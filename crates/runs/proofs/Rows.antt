@@ -1,6 +1,6 @@
 -- Rows of the book one behind another are as many steps of a run: each leaves the lent octets as they were, and puts its word behind those before.
 use Prim.Native.Nat.{ℕ, _+_, _≤_, _<_}
-use mathlib.Core.Path.{_≡_, refl, sym, ap, _∙_, subst}
+use mathlib.Core.Path.{_≡_, refl, _∙_, subst}
 use mathlib.Core.List.{List, [], _∷_}
 use native.Mathlib.Omega.{arith}
 use lib.ListN.{length, set}
@@ -10,7 +10,7 @@ use Rattle.layouts.specs.Book.{bookImage, bookIn, IsBook}
 use Rattle.layouts.proofs.Walks.{lent-book}
 use Rattle.plans.specs.Rows.{rowWord, laid, Passing, Stand, wordsOf}
 use Rattle.elements.specs.Element.{item, row, Stepped}
-use Rattle.elements.specs.Steps.{holding, stepAt}
+use Rattle.elements.specs.Steps.{stepAt}
 use Rattle.elements.proofs.Before.{step-is}
 use Rattle.elements.proofs.Went.{row-step}
 use Rattle.elements.proofs.Told.{holding-same}

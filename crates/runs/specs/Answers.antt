@@ -3,10 +3,10 @@ use Prim.Native.Nat.{ℕ}
 use mathlib.Core.Path.{_≡_}
 use mathlib.Core.List.{List}
 use mathlib.Core.Bool.{Bool, true, false}
-use lib.ListN.{length}
+use lib.ListN.{length, take}
 use Rattle.octets.specs.Reading.{Read, ok, no}
-use Rattle.layouts.specs.Book.{Book, bookImage}
-use Rattle.plans.specs.Plan.{Planned}
+use Rattle.layouts.specs.Book.{Book, bookImage, bookIn}
+use Rattle.plans.specs.Plan.{Planned, Kept}
 use Rattle.elements.specs.Element.{Item, item, Stepped}
 use Rattle.elements.specs.Steps.{holding, stepAt}
 use Rattle.runs.specs.Runs.{itemWord, Passed, onItem}
@@ -17,8 +17,13 @@ use Rattle.runs.specs.declared.Went.{Went}
 use Rattle.runs.specs.declared.Running.{Running}
 use Rattle.runs.specs.declared.Running.the-variants as running
 
+-- What a run carries with the used octets of a book: its layouts by their numbers and by their places there, and their plans.
+pub record Carried (octets : List ℕ) (used : ℕ) (numbers places steps : List ℕ) (known : ℕ) : Type 0 where
+  pub kept : Kept (take used octets) numbers places known (bookIn octets used)
+  pub planned : Planned numbers steps known (bookIn octets used)
+
 -- An item that the step at a place reads, with what is known of it behind the step.
-pub record Goes (s : List ℕ) (at rows : ℕ) (entry : List ℕ) (used : ℕ) (exit numbers steps : List ℕ) (g : Gone) : Type 0 where
+pub record Goes (s : List ℕ) (at rows : ℕ) (entry : List ℕ) (used : ℕ) (exit numbers places steps : List ℕ) (g : Gone) : Type 0 where
   pub stepped : Stepped
   pub which : Item
   pub reads : stepAt s at rows entry used ≡ ok stepped (g .next)
@@ -27,16 +32,16 @@ pub record Goes (s : List ℕ) (at rows : ℕ) (entry : List ℕ) (used : ℕ) (
   pub counts : g .rows ≡ stepped .rows
   pub fills : g .used ≡ length (bookImage (stepped .book))
   pub left : exit ≡ holding (stepped .book) entry
-  pub planned : Planned numbers steps (g .known) (stepped .book)
+  pub carried : Carried exit (g .used) numbers places steps (g .known)
 
 -- Whether a step reads an item.
 abbrev pub isItem : Read Stepped → Bool
 isItem r = onItem r (λ _ _ _. true) false
 
 -- One turn of a run: the item of the step, or that there is none, and then all is as it was.
-abbrev pub Turns : List ℕ → ℕ → ℕ → List ℕ → ℕ → List ℕ → List ℕ → List ℕ → Turn → Type 0
-Turns s at rows entry used exit numbers steps (turn.Item g) = Goes s at rows entry used exit numbers steps g
-Turns s at rows entry used exit numbers steps turn.Stop = (isItem (stepAt s at rows entry used) ≡ false) × (exit ≡ entry)
+abbrev pub Turns : List ℕ → ℕ → ℕ → List ℕ → ℕ → List ℕ → List ℕ → List ℕ → List ℕ → Turn → Type 0
+Turns s at rows entry used exit numbers places steps (turn.Item g) = Goes s at rows entry used exit numbers places steps g
+Turns s at rows entry used exit numbers places steps turn.Stop = (isItem (stepAt s at rows entry used) ≡ false) × (exit ≡ entry)
 
 -- How many items were passed, and where the run stands then.
 abbrev pub wentOf : Passed → Went

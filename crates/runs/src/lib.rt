@@ -3,27 +3,21 @@
 ghost use mathlib.Core.Path.{_≡_};
 ghost use Prim.Native.Nat.{_≤_, _+_, _-_, _<_};
 ghost use lib.ListN.{length};
-ghost use Rattle.octets.specs.Reading.{ok};
-ghost use Rattle.layouts.specs.Book.{Book, IsBook, bookIn};
-ghost use Rattle.layouts.specs.Answers.{Image, Holds};
-ghost use Rattle.rows.specs.Row.{Row, rowAt};
-ghost use Rattle.plans.specs.Plan.{Planned};
+ghost use Rattle.layouts.specs.Book.{IsBook};
 ghost use Rattle.plans.specs.Rows.{laid};
 ghost use Rattle.elements.specs.Steps.{lentBook};
 ghost use Rattle.runs.specs.Runs.{layoutWord, runFrom};
-ghost use Rattle.runs.specs.Answers.{Turns, wentOf, runTells};
+ghost use Rattle.runs.specs.Answers.{Carried, Turns, wentOf, runTells};
 use elements::Met;
 use elements::Stepping;
-use layouts::Looked;
 
-// One step of a run: its item's word, the next place, the rows passed, the octets of the book that are used, how many plans there are, and which was last.
+// One step of a run: its item's word, the next place, the rows passed, the octets of the book that are used, and how many layouts it has.
 pub struct Gone {
     pub word: u64,
     pub next: usize,
     pub rows: usize,
     pub used: usize,
     pub known: usize,
-    pub last: usize,
 }
 
 pub enum Turn {
@@ -52,40 +46,23 @@ fn layout_word(number: u32, next: usize) -> u64
     (number as u64) * 4294967296 + (next as u64)
 }
 
-// Makes the plan of the layout that a book has under a number, where there is room for one more; how many plans there are then.
-fn note_in<'b, 'n, 'p>(
-    book: &'b [u8],
-    number: u32,
-    numbers: &'n mut [u32; 64],
-    steps: &'p mut [u16; 4160],
-    known: usize,
-) -> usize
-    requires { ⌜ (length (now book) ≤ 32768) × Holds (now book) × (length (now steps) ≡ 4160) ⌝ }
-    ensures { λ r. ⌜ ((b : Book) → Image (now (book .entry)) b → Planned (now (numbers .entry)) (now (steps .entry)) known b → Planned (now (numbers .exit)) (now (steps .exit)) r b) ⌝ }
-{
-    let looked = layouts::look_in(book, number);
-    match looked {
-        Looked::Missing(k) => known,
-        Looked::There(place) => plans::note(book, place, numbers, steps, known),
-    }
-}
-
-// The item at a place by the exact reader; a row's layout gets a plan.
-fn exact_item<'d, 'b, 'n, 'p>(
+// The item at a place by the exact reader; a layout that the book grows by is kept by its place there, and gets a plan.
+fn exact_item<'d, 'b, 'n, 'l, 'p>(
     doc: &'d [u8],
     at: usize,
     rows: usize,
     book: &'b mut [u8],
     used: usize,
     numbers: &'n mut [u32; 64],
+    places: &'l mut [usize; 64],
     steps: &'p mut [u16; 4160],
     known: usize,
-    last: usize,
 ) -> Turn
-    requires { ⌜ (at ≤ length (now doc)) × (length (now doc) ≤ 1048576) × (rows ≤ 1048576) × IsBook (now book) used × Planned (now numbers) (now steps) known (bookIn (now book) used) ⌝ }
-    ensures { λ r. ⌜ Turns (now (doc .entry)) at rows (now (book .entry)) used (now (book .exit)) (now (numbers .exit)) (now (steps .exit)) r ⌝ }
+    requires { ⌜ (at ≤ length (now doc)) × (length (now doc) ≤ 1048576) × (rows ≤ 1048576) × IsBook (now book) used × Carried (now book) used (now numbers) (now places) (now steps) known ⌝ }
+    ensures { λ r. ⌜ Turns (now (doc .entry)) at rows (now (book .entry)) used (now (book .exit)) (now (numbers .exit)) (now (places .exit)) (now (steps .exit)) r ⌝ }
 {
-    let one = elements::element(doc, at, rows, book, used);
+    let looked = plans::look_up(numbers, places, known, elements::number_behind(doc, at));
+    let one = elements::element_by(doc, at, rows, book, used, looked);
     match one {
         Stepping::Refused(n, p) => Turn::Stop,
         Stepping::Done(step) => {
@@ -94,49 +71,58 @@ fn exact_item<'d, 'b, 'n, 'p>(
             let filled = step.used;
             match met {
                 Met::End(count, time) => Turn::Stop,
-                Met::Layout(number, count) => Turn::Item(Gone {
-                    word: layout_word(number, next),
+                Met::Layout(number, count) => {
+                    let word = layout_word(number, next);
+                    if used < filled {
+                        places[known] = used;
+                        let more = plans::note(doc, at + 4, numbers, steps, known);
+                        return Turn::Item(Gone {
+                            word,
+                            next,
+                            rows: step.rows,
+                            used: filled,
+                            known: more,
+                        });
+                    }
+                    Turn::Item(Gone {
+                        word,
+                        next,
+                        rows: step.rows,
+                        used: filled,
+                        known,
+                    })
+                }
+                Met::Row(number, stated, count) => Turn::Item(Gone {
+                    word: plans::row_word(number, stated, next),
                     next,
                     rows: step.rows,
                     used: filled,
                     known,
-                    last,
                 }),
-                Met::Row(number, stated, count) => {
-                    let more = note_in(&book[..filled], number, numbers, steps, known);
-                    Turn::Item(Gone {
-                        word: plans::row_word(number, stated, next),
-                        next,
-                        rows: step.rows,
-                        used: filled,
-                        known: more,
-                        last,
-                    })
-                }
             }
         }
     }
 }
 
 // The item at a place by the exact reader, unless the rows passed are too many for a step.
-fn next_item<'d, 'b, 'n, 'p>(
+fn next_item<'d, 'b, 'n, 'l, 'p>(
     doc: &'d [u8],
     at: usize,
     rows: usize,
     book: &'b mut [u8],
     used: usize,
     numbers: &'n mut [u32; 64],
+    places: &'l mut [usize; 64],
     steps: &'p mut [u16; 4160],
     known: usize,
-    last: usize,
 ) -> Turn
-    requires { ⌜ (at ≤ length (now doc)) × (length (now doc) ≤ 1048576) × IsBook (now book) used × Planned (now numbers) (now steps) known (bookIn (now book) used) ⌝ }
-    ensures { λ r. ⌜ Turns (now (doc .entry)) at rows (now (book .entry)) used (now (book .exit)) (now (numbers .exit)) (now (steps .exit)) r ⌝ }
+    requires { ⌜ (at ≤ length (now doc)) × (length (now doc) ≤ 1048576) × IsBook (now book) used × Carried (now book) used (now numbers) (now places) (now steps) known ⌝ }
+    ensures { λ r. ⌜ Turns (now (doc .entry)) at rows (now (book .entry)) used (now (book .exit)) (now (numbers .exit)) (now (places .exit)) (now (steps .exit)) r ⌝ }
 {
     if 1048576 < rows {
         return Turn::Stop;
     }
-    exact_item(doc, at, rows, book, used, numbers, steps, known, last)
+    exact_item(doc, at, rows, book, used, numbers, places, steps, known)
 }
 
 // The index up to which rows may follow one another behind so many items and so many rows: no step is told more than 1,048,576 rows.
@@ -167,8 +153,9 @@ fn items<'d, 'b, 'w>(
     ensures { λ r. ⌜ (r ≡ wentOf (runFrom 4096 (now (doc .entry)) at rows (now (book .entry)) used)) × (now (book .exit) ≡ runFrom 4096 (now (doc .entry)) at rows (now (book .entry)) used .octets) × (now (words .exit) ≡ laid 0 (runFrom 4096 (now (doc .entry)) at rows (now (book .entry)) used .words) (now (words .entry))) ⌝ }
 {
     let mut numbers = [0u32; 64];
+    let mut places = [0usize; 64];
     let mut steps = [0u16; 4160];
-    let mut known: usize = 0;
+    let mut known = plans::index(&book[..used], &mut numbers, &mut places, &mut steps);
     let mut last: usize = 0;
     let mut pos = at;
     let mut passed = rows;
@@ -189,9 +176,9 @@ fn items<'d, 'b, 'w>(
                 book,
                 filled,
                 &mut numbers,
+                &mut places,
                 &mut steps,
                 known,
-                last,
             );
             match turn {
                 Turn::Stop => {
@@ -209,7 +196,6 @@ fn items<'d, 'b, 'w>(
                     passed = gone.rows;
                     filled = gone.used;
                     known = gone.known;
-                    last = gone.last;
                 }
             }
         }

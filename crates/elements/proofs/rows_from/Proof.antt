@@ -257,7 +257,7 @@ loop-again c =
     let noted = c .note .ensures (n .layout) (x .next) (n .reads) in
     let (count, is) = noted .1 (has-room m h) in
     let planned = noted .0 (x .stepped .book)
-    (found-new (doc t) (short t) (octets t) (at t) (numbers t) (places t) (steps t) (known t) (pos t) (rows t) (used t) (way t) (x .stepped) (x .next) (x .reads) (not-last m) n)
+    (found-new (doc t) (octets t) (pos t) (rows t) (book t) (x .stepped) (x .next) (x .reads) n)
     (planned-on (doc t) (short t) (octets t) (at t) (numbers t) (places t) (steps t) (known t) (pos t) (rows t) (used t) (way t) (x .stepped) (x .next) (x .reads) (not-last m)) in (
       subst (λ (s : Step). OnWay (doc t) (at t) (c .note .last .1 .1 .0) (set (places t) (known t) (pos t + 4)) (c .note .last .1 .1 .1 .0) (c .note .result) (s .next) (s .rows) (s .used)) (x .is)
           (way-new (doc t) (short t) (octets t) (at t) (numbers t) (places t) (steps t) (known t) (pos t) (rows t) (used t) (way t) (x .stepped) (x .next) (x .reads) (not-last m) n

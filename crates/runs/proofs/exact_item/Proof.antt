@@ -6,15 +6,13 @@ use denote.Ref.{now}
 use mathlib.Core.Path.{_≡_, sym, ap, _∙_}
 use mathlib.Core.List.{List}
 use mathlib.Core.Bool.{Bool, true, false}
-use lib.ListN.{length, take}
-use lib.Seq.{length-take-le}
-use Rattle.octets.specs.Reading.{ok}
+use lib.ListN.{length, take, set}
+use Rattle.octets.specs.Reading.{ok, isOk}
 use Rattle.octets.specs.Writing.{Each, Octet}
 use Rattle.octets.proofs.Spans.{each-octet}
 use Rattle.layouts.specs.Book.{Book, bookImage, bookIn}
-use Rattle.layouts.specs.Answers.{Image}
 use Rattle.layouts.proofs.Books.{Lent}
-use Rattle.layouts.proofs.Walks.{lent-book, book-image}
+use Rattle.layouts.proofs.Walks.{lent-book}
 use Rattle.plans.specs.Plan.{Planned}
 use Rattle.plans.proofs.Keeping.{planned-within}
 use Rattle.elements.specs.Element.{Element, layout, row, Stepped, elementAt}
@@ -24,22 +22,26 @@ use Rattle.elements.specs.declared.Step.{Step}
 use Rattle.elements.specs.declared.Stepping.the-variants.{Done}
 use Rattle.elements.proofs.Before.{step-is}
 use Rattle.elements.proofs.Going.{done, refusing}
-use Rattle.elements.proofs.Quickly.{element-keeps}
+use Rattle.elements.proofs.Quickly.{New, element-new, element-old, element-keeps, found-new}
 use Rattle.elements.proofs.Told.{holding-same}
 use Rattle.plans.specs.Rows.{rowWord}
 use Rattle.runs.specs.Runs.{layoutWord, ofItem}
-use Rattle.runs.specs.Answers.{isItem}
-use Rattle.runs.proofs.Steps.{Taken, taken, held}
-use Rattle.runs.proofs.Mets.{met-layout, met-row, met-end, end-keeps}
+use Rattle.runs.specs.Answers.{Carried, Goes, isItem}
+use Rattle.runs.proofs.Steps.{Taken, taken}
+use Rattle.runs.proofs.Mets.{met-layout, met-row, met-end, end-keeps, row-keeps}
+use Rattle.runs.proofs.Carrying.{room-new, carried-same, carried-new}
 use Rattle.runs.proofs.exact_item.Statement.{statement}
 use Rattle.runs.proofs.exact_item.Tie as tie
 
 -- The answer of the exact reader, by names.
 abbrev Answered : Type 0
-Answered = tie.After-element
+Answered = tie.After-element-by
+
+abbrev Known : Answered → tie.After-slice-known
+Known v = v .before .before .before .before .before .before
 
 abbrev Start : Answered → tie.Start
-Start v = v .before .before .before .before
+Start v = Known v .before .before
 
 module _ (v : Answered) where
   abbrev doc : List ℕ
@@ -58,13 +60,13 @@ module _ (v : Answered) where
   used = Start v .args .used
 
   abbrev exit : List ℕ
-  exit = v .element .last .1 .1 .1 .0
+  exit = v .element-by .last .1 .1 .1 .0
 
   octets : Each Octet doc
-  octets = each-octet doc (v .before .before .before .shared-slice-known .given)
+  octets = each-octet doc (Known v .before .shared-slice-known .given)
 
   lent : Each Octet entry
-  lent = each-octet entry (v .before .before .slice-known .given)
+  lent = each-octet entry (Known v .slice-known .given)
 
   lent-here : Lent entry used (bookIn entry used)
   lent-here = lent-book entry used lent (Start v .pre .3)
@@ -72,16 +74,36 @@ module _ (v : Answered) where
   step : stepAt doc at rows entry used ≡ elementAt doc at rows (bookIn entry used)
   step = step-is doc rows entry used at (Start v .pre .1) (Start v .pre .3) (Start v .pre .2)
 
+look-up-requires : tie.Need-look-up-requires
+look-up-requires c κs = c .before .before .before .before .before .pre .4 .planned .few
+
+element-by-requires : tie.Need-element-by-requires
+element-by-requires c κs =
+    let l = c .before in
+    let k = l .before .before .before .before in
+    let start = k .before .before in
+    let a = start .args in (
+      start .pre .1,
+      start .pre .2,
+      start .pre .3,
+      record {
+        number = l .before .number-behind .result;
+        is = l .before .number-behind .ensures;
+        looks = l .look-up .ensures (take (a .used) (now (a .book))) (bookIn (now (a .book)) (a .used)) (start .pre .4 .kept);
+        size = lent-book (now (a .book)) (a .used) (each-octet (now (a .book)) (k .slice-known .given)) (start .pre .3) .size;
+      },
+    )
+
 -- The element that a step tells of.
-pub record Told (v : Answered) (x : Step) : Type 0 where
+record Told (v : Answered) (x : Step) : Type 0 where
   pub stepped : Stepped
   pub next : ℕ
   pub reads : elementAt (doc v) (at v) (rows v) (bookIn (entry v) (used v)) ≡ ok stepped next
   pub is : stepOf stepped next ≡ x
 
-told : (v : Answered) (x : Step) → v .element .result ≡ Done x → Told v x
+told : (v : Answered) (x : Step) → v .element-by .result ≡ Done x → Told v x
 told v x q =
-    let (st, next, e, same) = done (elementAt (doc v) (at v) (rows v) (bookIn (entry v) (used v))) x (sym (v .element .ensures .0) ∙ q) in
+    let (st, next, e, same) = done (elementAt (doc v) (at v) (rows v) (bookIn (entry v) (used v))) x (sym (v .element-by .ensures .0) ∙ q) in
     record { stepped = st; next = next; reads = e; is = same }
 
 module _ (v : Answered) (x : Step) (t : Told v x) where
@@ -92,7 +114,7 @@ module _ (v : Answered) (x : Step) (t : Told v x) where
   gone = taken (doc v) (at v) (rows v) (entry v) (used v) (t .stepped) (x .next) (octets v) (lent v) steps
 
   left : exit v ≡ holding (t .stepped .book) (entry v)
-  left = v .element .ensures .1 ∙ ap (leaves (entry v)) (t .reads)
+  left = v .element-by .ensures .1 ∙ ap (leaves (entry v)) (t .reads)
 
   fills : x .used ≡ length (bookImage (t .stepped .book))
   fills = sym (ap (λ (y : Step). y .used) (t .is))
@@ -100,32 +122,34 @@ module _ (v : Answered) (x : Step) (t : Told v x) where
   small : x .next < 1073741824
   small = omega (arith, gone .near, Start v .pre .1)
 
-  -- The book behind the element stands at the start of the lent octets.
-  stands : Image (take (x .used) (exit v)) (t .stepped .book)
-  stands =
-      rw (left, fills) (book-image (holding (t .stepped .book) (entry v)) (length (bookImage (t .stepped .book))) (t .stepped .book)
-      (held (t .stepped .book) (entry v) (gone .good) (gone .room)))
-
   kept : Planned (now (Start v .args .numbers)) (now (Start v .args .steps)) (Start v .args .known) (t .stepped .book)
   kept =
       planned-within (now (Start v .args .numbers)) (now (Start v .args .steps)) (Start v .args .known) (bookIn (entry v) (used v)) (t .stepped .book)
-      (element-keeps (doc v) (octets v) (at v) (rows v) (bookIn (entry v) (used v)) (t .stepped) (t .next) (t .reads) (lent-here v .good)) (Start v .pre .4)
+      (element-keeps (doc v) (octets v) (at v) (rows v) (bookIn (entry v) (used v)) (t .stepped) (t .next) (t .reads) (lent-here v .good)) (Start v .pre .4 .planned)
 
-returns : tie.Need-returns
-returns c =
-    let v = c .before .before .before .before .before in
-    let e = refusing (elementAt (doc v) (at v) (rows v) (bookIn (entry v) (used v))) _ _ (sym (v .element .ensures .0) ∙ c .before .one .given .1) in
-    (ap isItem (step v ∙ e), v .element .ensures .1 ∙ ap (leaves (entry v)) e)
+  -- What is carried on over a book that did not grow.
+  carried : (length (bookImage (bookIn (entry v) (used v))) < length (bookImage (t .stepped .book)) → ⊥)
+      → Carried (exit v) (x .used) (now (Start v .args .numbers)) (now (Start v .args .places)) (now (Start v .args .steps)) (Start v .args .known)
+  carried no-more =
+      carried-same (entry v) (used v) (lent v) (Start v .pre .3) (now (Start v .args .numbers)) (now (Start v .args .places)) (now (Start v .args .steps)) (Start v .args .known) (Start v .pre .4)
+      (exit v) (x .used) (t .stepped .book)
+      (element-old (doc v) (octets v) (at v) (rows v) (bookIn (entry v) (used v)) (t .stepped) (t .next) (t .reads) no-more) left fills
 
 returns-2 : tie.Need-returns-2
 returns-2 c =
+    let v = c .before .before .before .before .before in
+    let e = refusing (elementAt (doc v) (at v) (rows v) (bookIn (entry v) (used v))) _ _ (sym (v .element-by .ensures .0) ∙ c .before .one .given .1) in
+    (ap isItem (step v ∙ e), v .element-by .ensures .1 ∙ ap (leaves (entry v)) e)
+
+returns-3 : tie.Need-returns-3
+returns-3 c =
     let v = c .before .before .before .before .before .before .before .before in
     let x = c .before .before .before .before .one2 .given .0 .0 in
     let t = told v x (c .before .before .before .before .one2 .given .1) in
     let (n, u, is) = met-end (t .stepped .element) _ _ (ap (λ (y : Step). y .met) (t .is) ∙ c .before .met .given .1) in (
       ap isItem (steps v x t) ∙ ap (λ (y : Element). ofItem y (λ _. true) false) is,
       left v x t
-          ∙ (ap (λ (b : Book). holding b (entry v)) (end-keeps (doc v) (at v) (rows v) (bookIn (entry v) (used v)) (t .stepped) (t .next) n u (t .reads) is)
+          ∙ (ap (λ (b : Book). holding b (entry v)) (end-keeps (doc v) (at v) (rows v) (bookIn (entry v) (used v)) (t .stepped) (t .next) (t .reads) n u is)
           ∙ holding-same (entry v) (used v) (lent v) (Start v .pre .3)),
     )
 
@@ -135,81 +159,123 @@ layout-word-requires c κs =
     let v = one .before .before .before .before in
     small v (one .one2 .given .0 .0) (told v (one .one2 .given .0 .0) (one .one2 .given .1))
 
-returns-3 : tie.Need-returns-3
-returns-3 c =
-    let one = c .before .before .before .before .before in
-    let v = one .before .before .before .before in
-    let x = one .one2 .given .0 .0 in
-    let t = told v x (one .one2 .given .1) in
-    let (l, is, number) = met-layout (t .stepped .element) _ _ (ap (λ (y : Step). y .met) (t .is) ∙ c .before .before .met2 .given .1) in
-    record {
-      stepped = t .stepped;
-      which = layout l;
-      reads = steps v x t;
-      is = is;
-      told = c .layout-word .ensures ∙ ap (λ (n : ℕ). layoutWord n (x .next)) (sym number);
-      counts = sym (ap (λ (y : Step). y .rows) (t .is));
-      fills = fills v x t;
-      left = left v x t;
-      planned = kept v x t;
-    }
+-- The layout's arm.
+abbrev Layed : Type 0
+Layed = tie.After-layout-word
 
--- The row's arm.
-within : (v : Answered) (x : Step) (t : Told v x) → x .used ≤ length (exit v)
-within v x t = omega (arith, fills v x t, gone v x t .good .small, gone v x t .room, v .element .kept .1 .1 .1 .0)
+module _ (w : Layed) where
+  abbrev one : tie.After-one2
+  one = w .before .before .before .before .before
 
-slice-reshare-prefix-note-in : tie.Need-slice-reshare-prefix-note-in
-slice-reshare-prefix-note-in c =
-    let one = c .before .before .before .before in
-    let v = one .before .before .before .before in
-    within v (one .one2 .given .0 .0) (told v (one .one2 .given .0 .0) (one .one2 .given .1))
+  abbrev by : Answered
+  by = one .before .before .before .before
 
-slice-aggregate-note-in : tie.Need-slice-aggregate-note-in
-slice-aggregate-note-in c =
-    let one = c .before .before .before .before .before in
-    let v = one .before .before .before .before in
-    let x = one .one2 .given .0 .0 in
-    sym (length-take-le (x .used) (exit v) (within v x (told v x (one .one2 .given .1))))
+  abbrev told-step : Step
+  told-step = one .one2 .given .0 .0
 
-note-in-requires : tie.Need-note-in-requires
-note-in-requires c κs =
-    let one = c .before .before .before .before .before .before .before in
-    let v = one .before .before .before .before in
-    let x = one .one2 .given .0 .0 in
-    let t = told v x (one .one2 .given .1) in (
-      omega (arith, length-take-le (x .used) (exit v) (within v x t), fills v x t, gone v x t .good .small),
-      record { book = t .stepped .book; image = stands v x t },
-      Start v .pre .4 .steps-long,
-    )
+  here : Told by told-step
+  here = told by told-step (one .one2 .given .1)
 
-row-word-requires : tie.Need-row-word-requires
-row-word-requires c κs =
-    let one = c .before .before .before .before .before .before .before .before in
-    let v = one .before .before .before .before in
-    small v (one .one2 .given .0 .0) (told v (one .one2 .given .0 .0) (one .one2 .given .1))
+  -- An item that goes, whatever is carried on.
+  goes : (numbers places steps₁ : List ℕ) (known : ℕ) → Carried (exit by) (told-step .used) numbers places steps₁ known
+      → Goes (doc by) (at by) (rows by) (entry by) (used by) (exit by) numbers places steps₁
+      (record { word = w .layout-word .result; next = told-step .next; rows = told-step .rows; used = told-step .used; known = known })
+  goes numbers places steps₁ known c =
+      let (l, is, number) = met-layout (here .stepped .element) _ _ (ap (λ (y : Step). y .met) (here .is) ∙ w .before .before .met2 .given .1) in
+      record {
+        stepped = here .stepped;
+        which = layout l;
+        reads = steps by told-step here;
+        is = is;
+        told = w .layout-word .ensures ∙ ap (λ (n : ℕ). layoutWord n (told-step .next)) (sym number);
+        counts = sym (ap (λ (y : Step). y .rows) (here .is));
+        fills = fills by told-step here;
+        left = left by told-step here;
+        carried = c;
+      }
+
+  -- The layout that the book grew by.
+  new : used by < told-step .used → New (doc by) (octets by) (at by) (rows by) (bookIn (entry by) (used by)) (here .stepped) (here .next) (here .reads)
+  new h =
+      element-new (doc by) (octets by) (at by) (rows by) (bookIn (entry by) (used by)) (here .stepped) (here .next) (here .reads)
+      (omega (arith, lent-here by .size, fills by told-step here, h))
+
+  room : used by < told-step .used → Start by .args .known < 64
+  room h =
+      room-new (entry by) (used by) (lent by) (Start by .pre .3) (now (Start by .args .numbers)) (now (Start by .args .places)) (now (Start by .args .steps)) (Start by .args .known) (Start by .pre .4)
+      (new h .few)
+
+mul-places : tie.Need-mul-places
+mul-places c = let h = room (c .before) (c .if1 .taken) in omega arith
+
+element-write-places : tie.Need-element-write-places
+element-write-places c = room (c .before) (c .if1 .taken)
+
+add-note : tie.Need-add-note
+add-note c = let w = c .before in omega (arith, Start (by w) .pre .0, Start (by w) .pre .1)
+
+note-requires : tie.Need-note-requires
+note-requires c κs =
+    let w = c .before .before .before in
+    (Start (by w) .pre .1, ap isOk (new w (c .before .before .if1 .taken) .reads), Start (by w) .pre .4 .planned .steps-long)
+
+returns : tie.Need-returns
+returns c =
+    let w = c .before .before .before .before in
+    let h = c .before .before .before .if1 .taken in
+    let v = by w in
+    let x = told-step w in
+    let t = here w in
+    let n = new w h in
+    let a = Start v .args in
+    let noted = c .note .ensures (n .layout) (t .next) (n .reads) in
+    let (count, numbered) = noted .1 (room w h) in
+    let planned = noted .0 (t .stepped .book)
+    (found-new (doc v) (octets v) (at v) (rows v) (bookIn (entry v) (used v)) (t .stepped) (t .next) (t .reads) n) (kept v x t) in
+    goes w (c .note .last .1 .1 .0) (set (now (a .places)) (a .known) (used v)) (c .note .last .1 .1 .1 .0) (c .note .result)
+    (carried-new (entry v) (used v) (lent v) (Start v .pre .3) (now (a .numbers)) (now (a .places)) (now (a .steps)) (a .known) (Start v .pre .4)
+    (doc v) (octets v) (at v) (rows v) (t .stepped) (t .next) (t .reads) n (x .next) (gone v x t) (exit v) (x .used) (left v x t) (fills v x t)
+    (c .note .last .1 .1 .0) (c .note .last .1 .1 .1 .0) (c .note .result) planned count numbered)
 
 returns-4 : tie.Need-returns-4
 returns-4 c =
-    let one = c .before .before .before .before .before .before .before .before .before in
+    let w = c .before in
+    let v = by w in
+    let a = Start v .args in
+    goes w (now (a .numbers)) (now (a .places)) (now (a .steps)) (a .known)
+    (carried v (told-step w) (here w) (stays (lent-here v .size) (fills v (told-step w) (here w)) (c .if1 .left)))
+  where
+    stays : {a b c d : ℕ} → a ≡ b → d ≡ c → d ≤ b → a < c → ⊥
+    stays p q r z = omega arith
+
+-- The row's arm.
+row-word-requires : tie.Need-row-word-requires
+row-word-requires c κs =
+    let one = c .before .before .before .before in
+    let v = one .before .before .before .before in
+    small v (one .one2 .given .0 .0) (told v (one .one2 .given .0 .0) (one .one2 .given .1))
+
+returns-5 : tie.Need-returns-5
+returns-5 c =
+    let one = c .before .before .before .before .before in
     let v = one .before .before .before .before in
     let x = one .one2 .given .0 .0 in
     let t = told v x (one .one2 .given .1) in
-    let (r, is, number, stated) = met-row (t .stepped .element) _ _ _ (ap (λ (y : Step). y .met) (t .is) ∙ c .before .before .before .before .before .before .met3 .given .1) in
+    let (r, is, number, stated) = met-row (t .stepped .element) _ _ _ (ap (λ (y : Step). y .met) (t .is) ∙ c .before .before .met3 .given .1) in
+    let same = row-keeps (doc v) (at v) (rows v) (bookIn (entry v) (used v)) (t .stepped) (t .next) (t .reads) r is in
     record {
       stepped = t .stepped;
       which = row r;
       reads = steps v x t;
       is = is;
-      told = c .row-word .ensures ∙ (ap (λ (n : ℕ). rowWord n (c .before .before .before .before .before .before .met3 .given .0 .1 .0) (x .next)) (sym number) ∙ ap (λ (b : Bool). rowWord (r .number) b (x .next)) (sym stated));
+      told = c .row-word .ensures ∙ (ap (λ (n : ℕ). rowWord n (c .before .before .met3 .given .0 .1 .0) (x .next)) (sym number) ∙ ap (λ (b : Bool). rowWord (r .number) b (x .next)) (sym stated));
       counts = sym (ap (λ (y : Step). y .rows) (t .is));
       fills = fills v x t;
       left = left v x t;
-      planned = c .before .note-in .ensures (t .stepped .book) (stands v x t) (kept v x t);
+      carried = carried v x t (λ h. let z = ap (λ (b : Book). length (bookImage b)) same in omega arith);
     }
 
 pub exact-item-spec : {M : Type 1} → statement M
 exact-item-spec =
     tie.close
-    (tie.spec (λ c κs. search needs) (λ c. search needs) (λ c. search needs) (λ c. search needs) (λ c. search needs) layout-word-requires
-    (λ c. search needs) slice-reshare-prefix-note-in slice-aggregate-note-in note-in-requires row-word-requires (λ c. search needs) returns
-    (λ c. search needs) returns-2 (λ c. search needs) returns-3 (λ c. search needs) returns-4)
+    (tie.spec (λ c κs. search needs) look-up-requires element-by-requires (λ c. search needs) (λ c. search needs) (λ c. search needs) (λ c. search needs) layout-word-requires mul-places element-write-places add-note note-requires (λ c. search needs) returns (λ c. search needs) row-word-requires (λ c. search needs) returns-2 (λ c. search needs) returns-3 (λ c. search needs) returns-4 (λ c. search needs) returns-5)

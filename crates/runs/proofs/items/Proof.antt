@@ -5,14 +5,17 @@ use Prim.Native.Nat.{ℕ, zero, suc, _+_, _-_, _≤_, _<_}
 use denote.Ref.{now}
 use mathlib.Core.Path.{_≡_, refl, sym, ap, _∙_, subst}
 use mathlib.Core.List.{List}
-use lib.ListN.{length, set, length-replicate}
+use lib.ListN.{length, take, set, length-replicate}
+use lib.Seq.{length-take-le}
 use Rattle.octets.specs.Writing.{Each, Octet}
 use Rattle.octets.proofs.Spans.{each-octet}
 use Rattle.layouts.specs.Book.{IsBook, bookIn}
-use Rattle.plans.specs.Plan.{Planned}
+use Rattle.layouts.proofs.Books.{Lent}
+use Rattle.layouts.proofs.Walks.{lent-book, book-image}
+use Rattle.plans.specs.Plan.{Shelf}
 use Rattle.plans.specs.Rows.{laid, wordsOf, Passage}
 use Rattle.runs.specs.Runs.{stopped, runFrom}
-use Rattle.runs.specs.Answers.{Turns, wentOf}
+use Rattle.runs.specs.Answers.{Carried, Turns, wentOf}
 use Rattle.runs.specs.declared.Turn as kind
 use Rattle.runs.specs.declared.Turn.the-variants as turn
 use Rattle.runs.specs.declared.Went.{Went}
@@ -23,22 +26,55 @@ use Rattle.runs.proofs.items.Statement.{statement}
 use Rattle.runs.proofs.items.Tie as tie
 
 abbrev Inv-loop : tie.InvT-loop
-Inv-loop doc at rows book₀ used words₀ numbers₀ steps₀ known₀ last₀ pos₀ passed₀ filled₀ n₀ book words numbers steps known last pos passed filled n =
+Inv-loop doc at rows book₀ used words₀ numbers₀ places₀ steps₀ known₀ last₀ pos₀ passed₀ filled₀ n₀ book words numbers places steps known last pos passed filled n =
     OnWay doc at rows book₀ used words₀ words book pos passed filled n × (pos ≤ length doc) × Each Octet book × IsBook book filled
-    × Planned numbers steps known (bookIn book filled) × (length book ≡ length book₀) × (passed ≤ 1048577)
+    × Carried book filled numbers places steps known × (length book ≡ length book₀) × (passed ≤ 1048577)
 
 abbrev μ-loop : tie.MeasureT-loop
-μ-loop doc at rows book₀ used words₀ numbers₀ steps₀ known₀ last₀ pos₀ passed₀ filled₀ n₀ book words numbers steps known last pos passed filled n = 4096 - n
+μ-loop doc at rows book₀ used words₀ numbers₀ places₀ steps₀ known₀ last₀ pos₀ passed₀ filled₀ n₀ book words numbers places steps known last pos passed filled n = 4096 - n
+
+-- The arguments by names, where the octets of both slices are known.
+abbrev Known : Type 0
+Known = tie.After-slice-known Inv-loop μ-loop
+
+module _ (k : Known) where
+  abbrev lent-book-octets : List ℕ
+  lent-book-octets = now (k .before .before .args .book)
+
+  abbrev lent-used : ℕ
+  lent-used = k .before .before .args .used
+
+  held : Lent lent-book-octets lent-used (bookIn lent-book-octets lent-used)
+  held = lent-book lent-book-octets lent-used (each-octet lent-book-octets (k .slice-known .given)) (k .before .before .pre .3)
+
+  used-length : length (take lent-used lent-book-octets) ≡ lent-used
+  used-length = length-take-le lent-used lent-book-octets (omega (arith, held .room, held .most))
+
+  shelf : Shelf (take lent-used lent-book-octets) (bookIn lent-book-octets lent-used)
+  shelf = record { image = book-image lent-book-octets lent-used (bookIn lent-book-octets lent-used) held; distinct = held .good .distinct; few = held .good .few }
+
+slice-reshare-prefix-index : tie.Need-slice-reshare-prefix-index Inv-loop μ-loop
+slice-reshare-prefix-index c = omega (arith, held c .room, held c .most)
+
+slice-aggregate-index : tie.Need-slice-aggregate-index Inv-loop μ-loop
+slice-aggregate-index c = sym (used-length (c .before))
+
+index-requires : tie.Need-index-requires Inv-loop μ-loop
+index-requires c κs =
+    let k = c .before .before .before .before in
+    (omega (arith, used-length k, held k .most), length-replicate {A = ℕ} 64 0, length-replicate {A = ℕ} 64 0, length-replicate {A = ℕ} 4160 0, record { book = _; shelf = shelf k })
 
 loop-holds : tie.Need-loop-holds Inv-loop μ-loop
 loop-holds c =
-    let start = c .before .before in
-    let a = start .args in (
+    let k = c .before .before .before .before .before in
+    let start = k .before .before in
+    let a = start .args in
+    let (kept, planned) = c .index .ensures (bookIn (now (a .book)) (a .used)) (shelf k) in (
       started (now (a .doc)) (a .at) (a .rows) (now (a .book)) (a .used) (now (a .words)),
       start .pre .0,
-      each-octet (now (a .book)) (c .slice-known .given),
+      each-octet (now (a .book)) (k .slice-known .given),
       start .pre .3,
-      record { few = omega arith; numbers-long = length-replicate {A = ℕ} 64 0; steps-long = length-replicate {A = ℕ} 4160 0; entry = λ i h. absurd (omega arith) },
+      record { kept = kept; planned = planned },
       refl,
       omega (arith, start .pre .2),
     )
@@ -47,13 +83,16 @@ loop-holds c =
 abbrev Turn : Type 0
 Turn = tie.At-loop Inv-loop μ-loop
 
+abbrev Before : Turn → Known
+Before t = t .before .before .before .before .before .before
+
 abbrev Start : Turn → tie.Start Inv-loop μ-loop
-Start t = t .before .before .before
+Start t = Before t .before .before
 
 quick-rows-requires : tie.Need-quick-rows-requires Inv-loop μ-loop
 quick-rows-requires c κs =
     let t = c .before .before .before .before .before in
-    (t .loop .inv .1, Start t .pre .1, c .before .before .before .reach .ensures .0, record { book = bookIn (t .loop .book) (t .loop .filled); planned = t .loop .inv .4 })
+    (t .loop .inv .1, Start t .pre .1, c .before .before .before .reach .ensures .0, record { book = bookIn (t .loop .book) (t .loop .filled); planned = t .loop .inv .4 .planned })
 
 -- Behind the rows that plans passed.
 abbrev Strode : Type 0
@@ -100,10 +139,10 @@ module _ (q : Strode) where
   passed = Turned q .loop .passed + (q .quick-rows .result .count - Turned q .loop .n)
 
   octets : Each Octet doc
-  octets = each-octet doc (Turned q .before .before .shared-slice-known .given)
+  octets = each-octet doc (Before (Turned q) .before .shared-slice-known .given)
 
   passage : Passage doc (Turned q .loop .pos) (bookIn book filled) (Turned q .loop .n) (Turned q .loop .words) words (q .quick-rows .result)
-  passage = q .quick-rows .ensures .2 (bookIn book filled) (Turned q .loop .inv .4) .0
+  passage = q .quick-rows .ensures .2 (bookIn book filled) (Turned q .loop .inv .4 .planned) .0
 
   count : Turned q .loop .n + length (passage .rows) ≡ n
   count = sym (passage .count)
@@ -138,17 +177,17 @@ abbrev Answered : Type 0
 Answered = tie.After-next-item Inv-loop μ-loop
 
 abbrev Of : Answered → Strode
-Of v = v .before .before .before .before .before .before
+Of v = v .before .before .before .before .before .before .before
 
 turns : (v : Answered) (x : kind.Turn) → v .next-item .result ≡ x
-    → Turns (doc (Of v)) (pos (Of v)) (passed (Of v)) (book (Of v)) (filled (Of v)) (v .next-item .last .1 .1 .1 .0) (v .next-item .last .1 .1 .1 .1 .1 .0) (v .next-item .last .1 .1 .1 .1 .1 .1 .0) x
+    → Turns (doc (Of v)) (pos (Of v)) (passed (Of v)) (book (Of v)) (filled (Of v)) (v .next-item .last .1 .1 .1 .0) (v .next-item .last .1 .1 .1 .1 .1 .0) (v .next-item .last .1 .1 .1 .1 .1 .1 .0) (v .next-item .last .1 .1 .1 .1 .1 .1 .1 .0) x
 turns v x e =
-    subst (Turns (doc (Of v)) (pos (Of v)) (passed (Of v)) (book (Of v)) (filled (Of v)) (v .next-item .last .1 .1 .1 .0) (v .next-item .last .1 .1 .1 .1 .1 .0) (v .next-item .last .1 .1 .1 .1 .1 .1 .0)) e
+    subst (Turns (doc (Of v)) (pos (Of v)) (passed (Of v)) (book (Of v)) (filled (Of v)) (v .next-item .last .1 .1 .1 .0) (v .next-item .last .1 .1 .1 .1 .1 .0) (v .next-item .last .1 .1 .1 .1 .1 .1 .0) (v .next-item .last .1 .1 .1 .1 .1 .1 .1 .0)) e
     (v .next-item .ensures)
 
 next-item-requires : tie.Need-next-item-requires Inv-loop μ-loop
 next-item-requires c κs =
-    let q = c .before .before .before .before .before in
+    let q = c .before .before .before .before .before .before in
     (q .quick-rows .ensures .0, Start (Turned q) .pre .1, Turned q .loop .inv .3, Turned q .loop .inv .4)
 
 returns : tie.Need-returns Inv-loop μ-loop
@@ -182,12 +221,11 @@ loop-again c =
     let step = taken (doc q) (pos q) (passed q) (book q) (filled q) (g .stepped) (gone .next) (octets q) (Turned q .loop .inv .2) (g .reads) in (
       said (λ (word : ℕ) (exit : List ℕ) (rows₁ used₁ : ℕ). OnWay (doc q) (at q) (rows q) (entry q) (used q) (lent q) (set (words q) (n q) word) exit (gone .next) rows₁ used₁ (n q + 1))
           (g .told) (g .left) (g .counts) (g .fills)
-          (goes (doc q) (at q) (rows q) (entry q) (used q) (lent q) (way q) (g .stepped) (g .which) (gone .next) (v .before .before .before .before .if1 .taken) (g .reads) (g .is)),
+          (goes (doc q) (at q) (rows q) (entry q) (used q) (lent q) (way q) (g .stepped) (g .which) (gone .next) (v .before .before .before .before .before .if1 .taken) (g .reads) (g .is)),
       step .near,
       each-octet (v .next-item .last .1 .1 .1 .0) (c .before .before .before .slice-known2 .given),
       said (λ (word : ℕ) (exit : List ℕ) (rows used : ℕ). IsBook exit used) (g .told) (g .left) (g .counts) (g .fills) (step .is),
-      said (λ (word : ℕ) (exit : List ℕ) (rows used : ℕ). Planned (v .next-item .last .1 .1 .1 .1 .1 .0) (v .next-item .last .1 .1 .1 .1 .1 .1 .0) (gone .known) (bookIn exit used)) (g .told) (g .left) (g .counts) (g .fills)
-          (subst (Planned (v .next-item .last .1 .1 .1 .1 .1 .0) (v .next-item .last .1 .1 .1 .1 .1 .1 .0) (gone .known)) (sym (step .book)) (g .planned)),
+      g .carried,
       v .next-item .kept .1 .1 .1 .0 ∙ Turned q .loop .inv .5,
       omega (arith, g .counts, step .few),
     )
@@ -214,4 +252,4 @@ loop-less-2 c = let q = c .before .before in omega (arith, c .if1 .left, q .befo
 pub items-spec : {M : Type 1} → statement M
 items-spec =
     tie.close
-    (tie.spec Inv-loop μ-loop loop-holds (λ c κs. search needs) quick-rows-requires sub-passed add-passed next-item-requires (λ c. search needs) (λ c. search needs) returns (λ c. search needs) (λ c. search needs) (λ c. search needs) (λ c. search needs) loop-less loop-again loop-less-2 loop-again-2 (λ c. search needs) returns-2)
+    (tie.spec Inv-loop μ-loop slice-reshare-prefix-index slice-aggregate-index index-requires loop-holds (λ c κs. search needs) quick-rows-requires sub-passed add-passed next-item-requires (λ c. search needs) (λ c. search needs) returns (λ c. search needs) (λ c. search needs) (λ c. search needs) (λ c. search needs) loop-less loop-again loop-less-2 loop-again-2 (λ c. search needs) returns-2)
