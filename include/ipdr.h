@@ -14,7 +14,7 @@
  * - `out`: eight words of 64 bits, aligned as uint64_t is.
  * No pointer may be null, not even with a length of 0, and what is lent for writing overlaps nothing else that is lent.
  *
- * ipdr_whole uses some 42,000 octets of stack, ipdr_run some 9,000, the other two less than 1,000.
+ * ipdr_whole and ipdr_run use some 10,000 octets of stack, the other two less than 1,000.
  *
  * To check a document:
  *
