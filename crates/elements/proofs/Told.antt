@@ -1,4 +1,4 @@
--- The equations of one element that functions over a book cite: which branch is taken, what it answers, and what it leaves in the lent octets.
+-- The equations of one element that functions over a book cite: which branch is taken and what it answers; and that lent octets hold their book as they are.
 use Prim.Native.Nat.{ℕ, _+_, _≤_, _<_}
 use mathlib.Core.Path.{_≡_, refl, ap, subst}
 use mathlib.Core.List.{List}
@@ -18,8 +18,8 @@ use Rattle.layouts.proofs.Books.{Lent}
 use Rattle.layouts.proofs.Walks.{lent-book}
 use Rattle.rows.specs.Row.{Row, named, rowAt}
 use Rattle.rows.specs.Answers.{Shape, shape}
-use Rattle.elements.specs.Element.{Element, item, layout, row, finish, finishAt, layoutElement, rowElement, endElement, elementAt}
-use Rattle.elements.specs.Steps.{holding, leaves}
+use Rattle.elements.specs.Element.{item, layout, row, finish, finishAt, layoutElement, rowElement, endElement, elementAt}
+use Rattle.elements.specs.Steps.{holding}
 use Rattle.elements.specs.Answers.{tells, Over}
 use Rattle.elements.specs.declared.Met.the-variants as met
 use Rattle.elements.specs.declared.Stepping.the-variants.{Done}
@@ -135,18 +135,3 @@ holding-lent octets used book l = rw (l .size, l .image) (take-append-drop used 
 
 pub holding-same : (octets : List ℕ) (used : ℕ) → Each Octet octets → IsBook octets used → holding (bookIn octets used) octets ≡ octets
 holding-same octets used o is = holding-lent octets used (bookIn octets used) (lent-book octets used o is)
-
-module _ (octets : List ℕ) (used : ℕ) (o : Each Octet octets) (is : IsBook octets used) where
-  pub row-leaves : (s : List ℕ) (at rows : ℕ) → leaves octets (rowElement s at rows (bookIn octets used)) ≡ octets
-  row-leaves s at rows = go (rowAt (bookIn octets used) s at)
-    where
-      go : (r : Read Row) → leaves octets (r then λ x end. ok (record { element = item (row x); rows = rows + 1; book = bookIn octets used }) end) ≡ octets
-      go (ok x end) = holding-same octets used o is
-      go (no n p) = refl
-
-  pub end-leaves : (s : List ℕ) (at rows : ℕ) → leaves octets (endElement s at rows (bookIn octets used)) ≡ octets
-  end-leaves s at rows = go (finishAt rows s at)
-    where
-      go : (r : Read Element) → leaves octets (r then λ x end. ok (record { element = x; rows = rows; book = bookIn octets used }) end) ≡ octets
-      go (ok x end) = holding-same octets used o is
-      go (no n p) = refl

@@ -9,13 +9,13 @@ use lib.ListN.{length, set, length-append}
 use Rattle.octets.specs.Reading.{ok, ends, isOk}
 use Rattle.octets.specs.Writing.{Each}
 use Rattle.octets.proofs.Spans.{Spans, middle, all-spans}
-use Rattle.layouts.specs.Layout.{Layout, layoutAt, layoutImage, GoodLayout}
+use Rattle.layouts.specs.Layout.{layoutAt, layoutImage, GoodLayout}
 use Rattle.layouts.specs.Book.{Book, find, bookImage, Distinct}
 use Rattle.layouts.proofs.Layouts.{layout-inverse, layout-long}
 use Rattle.layouts.proofs.Books.{image-nil, image-cons}
 use Rattle.layouts.proofs.Finding.{find-here, find-behind, within-front, distinct-mid}
 use Rattle.layouts.proofs.Parts.{one-end}
-use Rattle.plans.specs.Plan.{Planned, Kept, Shelf}
+use Rattle.plans.specs.Plan.{Planned, Notes, Kept, Shelf}
 use Rattle.plans.proofs.Keeping.{planned-none, planned-within, kept-none, kept-more}
 
 -- The layouts met are kept and planned, and those left stand from a place on.
@@ -27,13 +27,6 @@ pub record Walk (s numbers places steps : List ℕ) (pos known : ℕ) (book : Bo
   pub spans : Spans s (length s) pos (length s) (bookImage more)
   pub kept : Kept s numbers places known met
   pub planned : Planned numbers steps known book
-
--- What a layout at a place makes of numbers, steps and how many are known: it is planned in every book that finds it, and its number is put behind the others.
-abbrev pub Notes : (s numbers steps : List ℕ) (pos known : ℕ) (numbers₁ steps₁ : List ℕ) (known₁ : ℕ) → Type 0
-Notes s numbers steps pos known numbers₁ steps₁ known₁ =
-    (l : Layout) (end : ℕ) → layoutAt s pos ≡ ok l end
-    → ((book : Book) → find (l .number) book ≡ some l → Planned numbers steps known book → Planned numbers₁ steps₁ known₁ book)
-    × (known < 64 → (known₁ ≡ known + 1) × (numbers₁ ≡ set numbers known (l .number)))
 
 -- The layout at a place, and the walk behind it.
 pub record Here (s numbers places steps : List ℕ) (pos known : ℕ) (book : Book) : Type 0 where

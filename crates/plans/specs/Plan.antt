@@ -3,13 +3,13 @@ use Prim.Native.Nat.{ℕ, _+_, _*_, _%_, _≤_, _<_}
 use mathlib.Core.Path.{_≡_}
 use mathlib.Core.List.{List, [], _∷_}
 use mathlib.Core.Option.{some, none}
-use lib.ListN.{length, getD}
+use lib.ListN.{length, getD, set}
 use lib.Dec.{eqb}
-use Rattle.octets.specs.Reading.{choose, part}
+use Rattle.octets.specs.Reading.{ok, choose, part}
 use Rattle.kinds.specs.declared.Form.{Form}
 use Rattle.kinds.specs.declared.Form.the-variants as form
 use Rattle.kinds.specs.Kinds.{formOf}
-use Rattle.layouts.specs.Layout.{Attribute, Layout}
+use Rattle.layouts.specs.Layout.{Attribute, Layout, layoutAt}
 use Rattle.layouts.specs.Book.{Book, find, Distinct}
 use Rattle.layouts.specs.Answers.{Stands, Image}
 
@@ -55,6 +55,13 @@ pub record Planned (numbers steps : List ℕ) (known : ℕ) (book : Book) : Type
 pub record Plans (numbers steps : List ℕ) (known : ℕ) : Type 0 where
   pub book : Book
   pub planned : Planned numbers steps known book
+
+-- What a layout at a place makes of numbers, steps and how many are known: it is planned in every book that finds it, and its number is put behind the others.
+abbrev pub Notes : (s numbers steps : List ℕ) (pos known : ℕ) (numbers₁ steps₁ : List ℕ) (known₁ : ℕ) → Type 0
+Notes s numbers steps pos known numbers₁ steps₁ known₁ =
+    (l : Layout) (end : ℕ) → layoutAt s pos ≡ ok l end
+    → ((book : Book) → find (l .number) book ≡ some l → Planned numbers steps known book → Planned numbers₁ steps₁ known₁ book)
+    × (known < 64 → (known₁ ≡ known + 1) × (numbers₁ ≡ set numbers known (l .number)))
 
 -- None of the numbers known is this one.
 abbrev pub Lacks : List ℕ → ℕ → ℕ → Type 0

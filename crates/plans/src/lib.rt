@@ -2,16 +2,15 @@
 
 ghost use mathlib.Core.Path.{_≡_};
 ghost use mathlib.Core.List.{List};
-ghost use mathlib.Core.Option.{some};
 ghost use mathlib.Core.Bool.{true};
 ghost use Prim.Native.Nat.{ℕ, _+_, _≤_, _<_};
 ghost use lib.ListN.{length, getD, set, take};
 ghost use Rattle.octets.specs.Reading.{ok, isOk, run};
-ghost use Rattle.layouts.specs.Layout.{Attribute, Layout, attributeAt, layoutAt};
-ghost use Rattle.layouts.specs.Book.{Book, find};
+ghost use Rattle.layouts.specs.Layout.{Attribute, attributeAt, layoutAt};
+ghost use Rattle.layouts.specs.Book.{Book};
 ghost use Rattle.layouts.specs.Answers.{Looks};
 ghost use Rattle.rows.specs.Answers.{Slim, Attributes};
-ghost use Rattle.plans.specs.Plan.{mark, planOf, Begins, Plan, Planned, Plans, Lacks, Kept, Shelf, Shelved};
+ghost use Rattle.plans.specs.Plan.{mark, planOf, Begins, Plan, Planned, Plans, Notes, Lacks, Kept, Shelf, Shelved};
 ghost use Rattle.plans.specs.Answers.{Closes, Follows, Lasts, Refuses, Passes};
 ghost use Rattle.plans.specs.Rows.{rowWord, Passage};
 use kinds::Form;
@@ -315,7 +314,7 @@ pub fn note<'d, 'n, 'p>(
     known: usize,
 ) -> usize
     requires { ⌜ (length (now doc) ≤ 1048576) × (isOk (layoutAt (now doc) at) ≡ true) × (length (now steps) ≡ 4160) ⌝ }
-    ensures { λ r. ⌜ ((l : Layout) (end : ℕ) → layoutAt (now (doc .entry)) at ≡ ok l end → ((book : Book) → find (l .number) book ≡ some l → Planned (now (numbers .entry)) (now (steps .entry)) known book → Planned (now (numbers .exit)) (now (steps .exit)) r book) × (known < 64 → (r ≡ known + 1) × (now (numbers .exit) ≡ set (now (numbers .entry)) known (l .number)))) ⌝ }
+    ensures { λ r. ⌜ Notes (now (doc .entry)) (now (numbers .entry)) (now (steps .entry)) at known (now (numbers .exit)) (now (steps .exit)) r ⌝ }
 {
     if 64 <= known {
         return known;
