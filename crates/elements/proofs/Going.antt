@@ -1,8 +1,8 @@
 -- A run of elements on the way: the book behind an accepted element is good again, and what is counted from the start is what is counted from here.
 use Prim.Native.Nat.{ℕ, zero, suc, _+_, _-_, _≤_, _<_}
-use mathlib.Core.Path.{_≡_, refl, ap, _∙_}
+use mathlib.Core.Path.{_≡_, refl, sym, ap, _∙_}
 use mathlib.Core.List.{List, [], _∷_, _++_}
-use mathlib.Core.Bool.{true, false}
+use mathlib.Core.Bool.{Bool, true, false}
 use native.Mathlib.Omega.{arith}
 use lib.ListN.{length, drop, length-append, length-drop}
 use Rattle.octets.specs.Reading.{Read, ok, no, _then_}
@@ -22,19 +22,32 @@ use Rattle.elements.specs.declared.Stepping.the-variants.{Done, Refused}
 use Rattle.elements.proofs.Elements.{Came, a-layout, a-row, an-end, element-forth}
 use Rattle.elements.proofs.Went.{step-rows}
 
--- What an answer says of the reading.
-pub done : (r : Read Stepped) (step : Step) → tells r ≡ Done step → (st : Stepped) × (next : ℕ) × (r ≡ ok st next) × (stepOf st next ≡ step)
-done (ok st next) step e = (st, next, refl, (let same : stepOf st next ≡ step = cc in same))
-done (no n p) step e = absurd (let z : _≡_ {A = ℕ} 0 1 = cc in omega arith)
+-- The reading that a step tells of.
+pub record Told (r : Read Stepped) (step : Step) : Type 0 where
+  pub stepped : Stepped
+  pub next : ℕ
+  pub reads : r ≡ ok stepped next
+  pub is : stepOf stepped next ≡ step
+
+pub told : (r : Read Stepped) (step : Step) → tells r ≡ Done step → Told r step
+told (ok st next) step e = record { stepped = st; next = next; reads = refl; is = (let same : stepOf st next ≡ step = cc in same) }
+told (no n p) step e = absurd (let z : _≡_ {A = ℕ} 0 1 = cc in omega arith)
+
+last-met : (e : Element) → isLastMet (metOf e) ≡ isLast e
+last-met (item (layout l)) = refl
+last-met (item (row r)) = refl
+last-met (finish n t) = refl
+
+-- Whether it is the last, and how much of the book is used behind it.
+pub told-last : {r : Read Stepped} {step : Step} (t : Told r step) (b : Bool) → isLastMet (step .met) ≡ b → isLast (t .stepped .element) ≡ b
+told-last t b e = sym (last-met (t .stepped .element)) ∙ (ap (λ (x : Step). isLastMet (x .met)) (t .is) ∙ e)
+
+pub told-used : {r : Read Stepped} {step : Step} (t : Told r step) → length (bookImage (t .stepped .book)) ≡ step .used
+told-used t = ap (λ (x : Step). x .used) (t .is)
 
 pub refusing : (r : Read Stepped) (n p : ℕ) → tells r ≡ Refused n p → r ≡ no n p
 refusing (ok st next) n p e = absurd (let z : _≡_ {A = ℕ} 0 1 = cc in omega arith)
 refusing (no m q) n p e = let a : m ≡ n = cc in let b : q ≡ p = cc in cc
-
-pub last-met : (e : Element) → isLastMet (metOf e) ≡ isLast e
-last-met (item (layout l)) = refl
-last-met (item (row r)) = refl
-last-met (finish n t) = refl
 
 -- Where an element that was read ends, and that the book behind it is good.
 behind-kind : (s : List ℕ) (at next kind : ℕ) (xs : List ℕ) → Spans s (length s) at next (word 4 kind ++ xs) → (at + 4 ≤ next) × (next ≤ length s)

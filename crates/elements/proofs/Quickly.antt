@@ -35,14 +35,12 @@ module _ (s : List ℕ) (o : Each Octet s) (at rows : ℕ) (b : Book) (st : Step
     pub small : length (bookImage b) + length (layoutImage layout) ≤ 32768
     pub is : st .book ≡ b ++ layout ∷ []
 
-  abbrev Grows : Type 0
-  Grows = length (bookImage b) < length (bookImage (st .book))
-
-  longer : (l : Layout) → st .book ≡ b ++ l ∷ [] → Grows
+  longer : (l : Layout) → st .book ≡ b ++ l ∷ [] → length (bookImage b) < length (bookImage (st .book))
   longer l q = let long = ap (λ (c : Book). length (bookImage c)) q ∙ (ap length (image-snoc b l) ∙ length-append (bookImage b) (layoutImage l)) in omega (arith, long, layout-long l)
 
-  pub element-new : Grows → New
-  element-new more = go (went s at rows b st next e)
+  -- Whether it grew shows in how much of it is used.
+  pub element-new : (used filled : ℕ) → length (bookImage b) ≡ used → length (bookImage (st .book)) ≡ filled → used < filled → New
+  element-new used filled before after more = go (went s at rows b st next e)
     where
       none : st .book ≡ b → New
       none same = absurd (let h = ap (λ (c : Book). length (bookImage c)) same in omega arith)
@@ -60,12 +58,12 @@ module _ (s : List ℕ) (o : Each Octet s) (at rows : ℕ) (b : Book) (st : Step
   pub found-new : (n : New) → find (n .layout .number) (st .book) ≡ some (n .layout)
   found-new n = ap (find (n .layout .number)) (n .is) ∙ (find-behind (n .layout .number) b (n .layout ∷ []) (n .fresh) ∙ find-here (n .layout .number) (n .layout) [] refl)
 
-  pub element-old : (Grows → ⊥) → st .book ≡ b
-  element-old no-more = go (went s at rows b st next e)
+  pub element-old : (used filled : ℕ) → length (bookImage b) ≡ used → length (bookImage (st .book)) ≡ filled → filled ≤ used → st .book ≡ b
+  element-old used filled before after no-more = go (went s at rows b st next e)
     where
       by : (l : Layout) → Learnt b l (st .book) → st .book ≡ b
       by l (inl h) = h .3
-      by l (inr h) = absurd (no-more (longer l (h .3)))
+      by l (inr h) = absurd (let z = longer l (h .3) in omega arith)
 
       go : Went s at rows b st next → st .book ≡ b
       go (at-layout l x k f m _ _) = by l (learnt b l (at + 4) (st .book) x m)
@@ -122,9 +120,9 @@ module _ (s : List ℕ) (short : length s ≤ 1048576) (o : Each Octet s) (at : 
     pub planned-on : Planned numbers steps known (st .book)
     planned-on = planned-within numbers steps known (w .book) (st .book) (element-keeps s o pos rows (w .book) st next e (w .going .good)) (w .planned)
 
-    pub way-old : (length (bookImage (w .book)) < length (bookImage (st .book)) → ⊥) → OnWay s at numbers places steps known next (st .rows) (length (bookImage (st .book)))
+    pub way-old : length (bookImage (st .book)) ≤ used → OnWay s at numbers places steps known next (st .rows) (length (bookImage (st .book)))
     way-old no-more =
-        let same = element-old s o pos rows (w .book) st next e no-more in
+        let same = element-old s o pos rows (w .book) st next e used (length (bookImage (st .book))) (w .size) refl no-more in
         record { book = st .book; going = on; planned = planned-on; kept = subst (Kept s numbers places known) (sym same) (w .kept); size = refl }
 
     module _ (n : New s o pos rows (w .book) st next e) where

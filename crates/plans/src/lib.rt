@@ -1,4 +1,4 @@
-// Plans: each layout's values as steps made once, so that a row is passed without its layout's octets. What is unsure is left to the exact readers.
+// Plans: each layout's values as steps made once, so that a row is passed without its layout's octets. What no plan passes is left to the exact readers, for its refusal.
 
 ghost use mathlib.Core.Path.{_≡_};
 ghost use mathlib.Core.List.{List};

@@ -1,28 +1,27 @@
 -- `elements::element_by` meets its contract: the element is read over the used octets, and a layout that the book grew by is laid behind them. Assumes nothing.
 use borrow.Author.Needs.{needs}
 use native.Mathlib.Omega.{arith}
-use Prim.Native.Nat.{ℕ, _+_, _-_, _<_, _≤_}
+use Prim.Native.Nat.{ℕ, _+_, _-_, _≤_}
 use denote.Ref.{now}
 use mathlib.Core.Path.{_≡_, sym, ap, _∙_, subst}
 use mathlib.Core.List.{List, []}
 use lib.ListN.{length, take, drop}
 use lib.Seq.{length-take-le}
-use Rattle.octets.specs.Reading.{ok}
 use Rattle.octets.specs.Writing.{Each, Octet, over}
 use Rattle.octets.proofs.Spans.{each-octet}
 use Rattle.layouts.specs.Layout.{layoutImage}
-use Rattle.layouts.specs.Book.{Book, bookImage, bookIn}
+use Rattle.layouts.specs.Book.{Book, bookIn}
 use Rattle.layouts.proofs.Books.{Lent}
 use Rattle.layouts.proofs.Lends.{stood, layout-part, put-learnt}
 use Rattle.layouts.proofs.Parts.{layout-number}
 use Rattle.layouts.proofs.Walks.{lent-book}
-use Rattle.elements.specs.Element.{Stepped, elementAt}
+use Rattle.elements.specs.Element.{elementAt}
 use Rattle.elements.specs.Steps.{leaves, holding}
 use Rattle.elements.specs.Answers.{tells}
 use Rattle.elements.specs.declared.Step.{Step}
 use Rattle.elements.specs.declared.Stepping.the-variants.{Done}
 use Rattle.elements.proofs.Told.{holding-same}
-use Rattle.elements.proofs.Going.{done, refusing}
+use Rattle.elements.proofs.Going.{Told, told, told-used, refusing}
 use Rattle.elements.proofs.Quickly.{New, element-new, element-old}
 use Rattle.elements.proofs.element_by.Statement.{statement}
 use Rattle.elements.proofs.element_by.Tie as tie
@@ -86,17 +85,11 @@ returns c =
     (sym (ap tells e), sym (ap (leaves (lent k)) e))
 
 -- The element that a step tells of.
-record Told (v : Answered) (step : Step) : Type 0 where
-  pub stepped : Stepped
-  pub next : ℕ
-  pub reads : elementAt (doc (Of v)) (at (Of v)) (rows (Of v)) (book (Of v)) ≡ ok stepped next
-  pub place : next ≡ step .next
-  pub filled : length (bookImage (stepped .book)) ≡ step .used
+abbrev Reads : Answered → Step → Type 0
+Reads v step = Told (elementAt (doc (Of v)) (at (Of v)) (rows (Of v)) (book (Of v))) step
 
-told : (v : Answered) (step : Step) → v .element-over .result ≡ Done step → Told v step
-told v step q =
-    let (st, next, e, s) = done (elementAt (doc (Of v)) (at (Of v)) (rows (Of v)) (book (Of v))) step (sym (is-read v) ∙ q) in
-    record { stepped = st; next = next; reads = e; place = ap (λ (x : Step). x .next) s; filled = ap (λ (x : Step). x .used) s }
+reads : (v : Answered) (step : Step) → v .element-over .result ≡ Done step → Reads v step
+reads v step q = told (elementAt (doc (Of v)) (at (Of v)) (rows (Of v)) (book (Of v))) step (sym (is-read v) ∙ q)
 
 -- A layout that the book grew by.
 abbrev More : Type 0
@@ -109,16 +102,13 @@ module _ (m : More) where
   abbrev step : Step
   step = m .before .before .before .one2 .given .0 .0
 
-  here : Told by step
-  here = told by step (m .before .before .before .one2 .given .1)
+  here : Reads by step
+  here = reads by step (m .before .before .before .one2 .given .1)
 
   new : New (doc (Of by)) (octets (Of by)) (at (Of by)) (rows (Of by)) (book (Of by)) (here .stepped) (here .next) (here .reads)
   new =
-      element-new (doc (Of by)) (octets (Of by)) (at (Of by)) (rows (Of by)) (book (Of by)) (here .stepped) (here .next) (here .reads)
-      (grows (held (Of by) .size) (here .filled) (m .if1 .taken))
-    where
-      grows : {a b c d : ℕ} → a ≡ b → c ≡ d → b < d → a < c
-      grows p q r = omega arith
+      element-new (doc (Of by)) (octets (Of by)) (at (Of by)) (rows (Of by)) (book (Of by)) (here .stepped) (here .next) (here .reads) (used (Of by)) (step .used)
+      (held (Of by) .size) (told-used here) (m .if1 .taken)
 
   room : at (Of by) + 4 + 4 ≤ length (doc (Of by))
   room = layout-number (doc (Of by)) (at (Of by) + 4) (new .reads) .0
@@ -126,7 +116,7 @@ module _ (m : More) where
   stands : (at (Of by) + 4 ≤ step .next) × (step .next ≤ length (doc (Of by))) × (take (step .next - (at (Of by) + 4)) (drop (at (Of by) + 4) (doc (Of by))) ≡ layoutImage (new .layout))
   stands =
       let (_, far, near, is) = layout-part (doc (Of by)) (at (Of by) + 4) (here .next) (new .layout) (octets (Of by)) (omega (arith, room)) (new .reads) in
-      subst (λ (n : ℕ). (at (Of by) + 4 ≤ n) × (n ≤ length (doc (Of by))) × (take (n - (at (Of by) + 4)) (drop (at (Of by) + 4) (doc (Of by))) ≡ layoutImage (new .layout))) (here .place) (far, near, is)
+      subst (λ (n : ℕ). (at (Of by) + 4 ≤ n) × (n ≤ length (doc (Of by))) × (take (n - (at (Of by) + 4)) (drop (at (Of by) + 4) (doc (Of by))) ≡ layoutImage (new .layout))) (ap (λ (x : Step). x .next) (here .is)) (far, near, is)
 
 lay-requires : tie.Need-lay-requires
 lay-requires c κs =
@@ -151,14 +141,11 @@ returns-3 : tie.Need-returns-3
 returns-3 c =
     let v = c .before .before .before .before .before in
     let k = Of v in
-    let x = told v _ (c .before .before .before .one2 .given .1) in
-    let same = element-old (doc k) (octets k) (at k) (rows k) (book k) (x .stepped) (x .next) (x .reads) (stays (held k .size) (x .filled) (c .if1 .left)) in (
+    let x = reads v _ (c .before .before .before .one2 .given .1) in
+    let same = element-old (doc k) (octets k) (at k) (rows k) (book k) (x .stepped) (x .next) (x .reads) (used k) _ (held k .size) (told-used x) (c .if1 .left) in (
       sym (c .before .before .before .one2 .given .1) ∙ is-read v,
       sym (holding-same (lent k) (used k) (lent-octets k) (k .before .before .pre .2)) ∙ (ap (λ (b : Book). holding b (lent k)) (sym same) ∙ sym (ap (leaves (lent k)) (x .reads))),
     )
-  where
-    stays : {a b c d : ℕ} → a ≡ b → c ≡ d → d ≤ b → a < c → ⊥
-    stays p q r h = omega arith
 
 slice-reshare-prefix-element-over : tie.Need-slice-reshare-prefix-element-over
 slice-reshare-prefix-element-over c = omega (arith, held c .room, held c .most)

@@ -6,20 +6,20 @@ use Prim.Native.Nat.{ℕ, _+_, _-_, _≤_, _<_}
 use denote.Ref.{now}
 use mathlib.Core.Path.{_≡_, sym, ap, _∙_, subst}
 use mathlib.Core.List.{List}
-use mathlib.Core.Bool.{Bool, true, false}
+use mathlib.Core.Bool.{true, false}
 use lib.ListN.{length, set, replicate, length-replicate}
 use Rattle.octets.specs.Reading.{ok, isOk}
 use Rattle.octets.specs.Writing.{Each, Octet}
 use Rattle.octets.proofs.Spans.{each-octet}
-use Rattle.layouts.specs.Book.{Book, bookImage}
+use Rattle.layouts.specs.Book.{Book}
 use Rattle.layouts.proofs.Lends.{stood}
 use Rattle.plans.specs.Rows.{Passage}
-use Rattle.elements.specs.Element.{Stepped, elementAt}
+use Rattle.elements.specs.Element.{elementAt}
 use Rattle.elements.specs.Steps.{isLast}
-use Rattle.elements.specs.Answers.{tells, stepOf, isLastMet}
+use Rattle.elements.specs.Answers.{tells}
 use Rattle.elements.specs.declared.Step.{Step}
 use Rattle.elements.specs.declared.Stepping.the-variants.{Done}
-use Rattle.elements.proofs.Going.{going-refused, going-end, done, refusing, last-met, element-place}
+use Rattle.elements.proofs.Going.{going-refused, going-end, Told, told, told-last, told-used, refusing, element-place}
 use Rattle.elements.proofs.Quickly.{OnWay, way-start, way-rows, rows-further, planned-on, way-old, found-new, room-new, way-new, New, element-new}
 use Rattle.elements.proofs.rows_from.Statement.{statement}
 use Rattle.elements.proofs.rows_from.Tie as tie
@@ -159,20 +159,11 @@ is-read v =
     })
 
 -- The element that a step tells of.
-record Told (v : Answered) (step : Step) : Type 0 where
-  pub stepped : Stepped
-  pub next : ℕ
-  pub reads : elementAt (doc (Of v)) (pos (Of v)) (rows (Of v)) (book (Of v)) ≡ ok stepped next
-  pub is : stepOf stepped next ≡ step
+abbrev Reads : Answered → Step → Type 0
+Reads v step = Told (elementAt (doc (Of v)) (pos (Of v)) (rows (Of v)) (book (Of v))) step
 
-told : (v : Answered) (step : Step) → v .element-over .result ≡ Done step → Told v step
-told v step q =
-    let (st, next, e, s) = done (elementAt (doc (Of v)) (pos (Of v)) (rows (Of v)) (book (Of v))) step (sym (is-read v) ∙ q) in
-    record { stepped = st; next = next; reads = e; is = s }
-
--- Whether it is the last.
-last-is : (v : Answered) (step : Step) (t : Told v step) (b : Bool) → isLastMet (step .met) ≡ b → isLast (t .stepped .element) ≡ b
-last-is v step t b q = sym (last-met (t .stepped .element)) ∙ (ap (λ (s : Step). isLastMet (s .met)) (t .is) ∙ q)
+reads : (v : Answered) (step : Step) → v .element-over .result ≡ Done step → Reads v step
+reads v step q = told (elementAt (doc (Of v)) (pos (Of v)) (rows (Of v)) (book (Of v))) step (sym (is-read v) ∙ q)
 
 returns : tie.Need-returns Inv-loop μ-loop
 returns c =
@@ -186,8 +177,8 @@ returns-2 c =
     let v = c .before .before .before .before .before in
     let t = Of v in
     let step = c .before .before .before .one2 .given .0 .0 in
-    let x = told v step (c .before .before .before .one2 .given .1) in
-    let last = last-is v step x true (sym (c .before .is-end .ensures) ∙ c .if1 .taken) in
+    let x = reads v step (c .before .before .before .one2 .given .1) in
+    let last = told-last x true (sym (c .before .is-end .ensures) ∙ c .if1 .taken) in
     ap (λ (s : Step). ok (s .rows) (s .next)) (sym (x .is))
     ∙ sym (going-end (doc t) (short t) (at t) (book t) (pos t) (rows t) (way t .going) (x .stepped) (x .next) (x .reads) last)
 
@@ -201,11 +192,11 @@ By m = m .before .before .before .before .before
 abbrev step-of : More → Step
 step-of m = m .before .before .before .one2 .given .0 .0
 
-told-of : (m : More) → Told (By m) (step-of m)
-told-of m = told (By m) (step-of m) (m .before .before .before .one2 .given .1)
+told-of : (m : More) → Reads (By m) (step-of m)
+told-of m = reads (By m) (step-of m) (m .before .before .before .one2 .given .1)
 
 not-last : (m : More) → isLast (told-of m .stepped .element) ≡ false
-not-last m = last-is (By m) (step-of m) (told-of m) false (sym (m .before .is-end .ensures) ∙ m .if1 .left)
+not-last m = told-last (told-of m) false (sym (m .before .is-end .ensures) ∙ m .if1 .left)
 
 further : (m : More) → (pos (Of (By m)) + 4 ≤ step-of m .next) × (step-of m .next ≤ length (doc (Of (By m))))
 further m =
@@ -214,26 +205,13 @@ further m =
     subst (λ (s : Step). (pos t + 4 ≤ s .next) × (s .next ≤ length (doc t))) (x .is)
     (element-place (doc t) (short t) (octets t) (pos t) (rows t) (book t) (way t .going .inside) (x .stepped) (x .next) (x .reads))
 
--- Whether the book grew.
-grown : (m : More) → used (Of (By m)) < step-of m .used → length (bookImage (book (Of (By m)))) < length (bookImage (told-of m .stepped .book))
-grown m h = grows (way (Of (By m)) .size) (ap (λ (s : Step). s .used) (told-of m .is)) h
-  where
-    grows : {a b c d : ℕ} → a ≡ b → c ≡ d → b < d → a < c
-    grows p q r = omega arith
-
-not-grown : (m : More) → step-of m .used ≤ used (Of (By m)) → length (bookImage (book (Of (By m)))) < length (bookImage (told-of m .stepped .book)) → ⊥
-not-grown m h = stays (way (Of (By m)) .size) (ap (λ (s : Step). s .used) (told-of m .is)) h
-  where
-    stays : {a b c d : ℕ} → a ≡ b → c ≡ d → d ≤ b → a < c → ⊥
-    stays p q r z = omega arith
-
--- The layout that it grew by.
+-- The layout that the book grew by.
 new : (m : More) → used (Of (By m)) < step-of m .used
     → New (doc (Of (By m))) (octets (Of (By m))) (pos (Of (By m))) (rows (Of (By m))) (book (Of (By m))) (told-of m .stepped) (told-of m .next) (told-of m .reads)
 new m h =
     let t = Of (By m) in
     let x = told-of m in
-    element-new (doc t) (octets t) (pos t) (rows t) (book t) (x .stepped) (x .next) (x .reads) (grown m h)
+    element-new (doc t) (octets t) (pos t) (rows t) (book t) (x .stepped) (x .next) (x .reads) (used t) (step-of m .used) (way t .size) (told-used x) h
 
 has-room : (m : More) → used (Of (By m)) < step-of m .used → known (Of (By m)) < 64
 has-room m h =
@@ -272,7 +250,7 @@ loop-again-2 c =
     let x = told-of m in (
       subst (λ (s : Step). OnWay (doc t) (at t) (numbers t) (places t) (steps t) (known t) (s .next) (s .rows) (s .used)) (x .is)
           (way-old (doc t) (short t) (octets t) (at t) (numbers t) (places t) (steps t) (known t) (pos t) (rows t) (used t) (way t) (x .stepped) (x .next) (x .reads) (not-last m)
-          (not-grown m (c .if2 .left))),
+          (subst (λ (n : ℕ). n ≤ used t) (sym (told-used x)) (c .if2 .left))),
       words-long t,
     )
 

@@ -4,18 +4,16 @@ use borrow.Author.Needs.{needs}
 use native.Mathlib.Omega.{arith}
 use mathlib.Core.Path.{_≡_, refl, sym, ap, _∙_, subst}
 use mathlib.Core.List.{List}
-use mathlib.Core.Bool.{Bool, true, false}
+use mathlib.Core.Bool.{true, false}
 use Prim.Native.Nat.{ℕ, _+_, _-_, _≤_}
 use lib.ListN.{length, replicate, length-replicate}
 use denote.Ref.{now}
 use Rattle.octets.specs.Reading.{ok}
 use Rattle.octets.specs.Writing.{Each, Octet}
 use Rattle.octets.proofs.Spans.{each-octet, each-replicate}
-use Rattle.elements.specs.Element.{Stepped}
-use Rattle.elements.specs.Steps.{leaves, holding, stepAt, isLast}
-use Rattle.elements.specs.Answers.{stepOf, isLastMet}
+use Rattle.elements.specs.Steps.{leaves, holding, stepAt}
 use Rattle.elements.specs.declared.Step.{Step}
-use Rattle.elements.proofs.Going.{done, refusing, last-met}
+use Rattle.elements.proofs.Going as going
 use Rattle.listing.specs.Lines.{Puts, ElementText}
 use Rattle.listing.proofs.Passed.{Passed, passed-start, passed-refused, passed-last, passed-more, further, again}
 use Rattle.listing.proofs.element_lines.Statement.{statement}
@@ -73,7 +71,7 @@ returns c =
     let l = t .loop in
     let no = line .before .before .before .one .given in
     passed-refused (doc t) (short t) (octets t) (at t) (entry t) (n t) (l .book) (l .pos) (l .rows) (l .used) (l .out) (l .to) (passed t) _ _ _ _
-    (refusing (stepAt (doc t) (l .pos) (l .rows) (l .book) (l .used)) _ _ (sym (v .step .ensures .0) ∙ no .1)) (line .refused-line .ensures)
+    (going.refusing (stepAt (doc t) (l .pos) (l .rows) (l .book) (l .used)) _ _ (sym (v .step .ensures .0) ∙ no .1)) (line .refused-line .ensures)
 
 -- An answer that is an element.
 abbrev Told : Type 0
@@ -92,25 +90,22 @@ module _ (k : Told) where
   abbrev exit : List ℕ
   exit = by .step .last .1 .1 .1 .0
 
-  told : let l = turn .loop in (st : Stepped) × (next : ℕ) × (stepAt (doc turn) (l .pos) (l .rows) (l .book) (l .used) ≡ ok st next) × (stepOf st next ≡ step-of)
-  told = let l = turn .loop in done (stepAt (doc turn) (l .pos) (l .rows) (l .book) (l .used)) step-of (sym (by .step .ensures .0) ∙ k .before .one2 .given .1)
+  told : let l = turn .loop in going.Told (stepAt (doc turn) (l .pos) (l .rows) (l .book) (l .used)) step-of
+  told = let l = turn .loop in going.told (stepAt (doc turn) (l .pos) (l .rows) (l .book) (l .used)) step-of (sym (by .step .ensures .0) ∙ k .before .one2 .given .1)
 
-  left : exit ≡ holding (told .0 .book) (turn .loop .book)
-  left = by .step .ensures .1 ∙ ap (leaves (turn .loop .book)) (told .2)
+  left : exit ≡ holding (told .stepped .book) (turn .loop .book)
+  left = by .step .ensures .1 ∙ ap (leaves (turn .loop .book)) (told .reads)
 
-  asked : let l = turn .loop in stepAt (doc turn) (l .pos) (l .rows) exit (l .used) ≡ ok (told .0) (told .1)
+  asked : let l = turn .loop in stepAt (doc turn) (l .pos) (l .rows) exit (l .used) ≡ ok (told .stepped) (told .next)
   asked =
       let l = turn .loop in
-      again (doc turn) (short turn) (octets turn) (l .book) (l .pos) (l .rows) (l .used) (passed turn .stands) (told .0) (told .1) (told .2) exit left (by .step .kept .1 .1 .1 .0)
+      again (doc turn) (short turn) (octets turn) (l .book) (l .pos) (l .rows) (l .used) (passed turn .stands) (told .stepped) (told .next) (told .reads) exit left (by .step .kept .1 .1 .1 .0)
 
   goes-on : (turn .loop .pos + 4 ≤ step-of .next) × (step-of .next ≤ length (doc turn))
   goes-on =
       let l = turn .loop in
-      subst (λ (x : Step). (l .pos + 4 ≤ x .next) × (x .next ≤ length (doc turn))) (told .3)
-      (further (doc turn) (short turn) (octets turn) (l .book) (l .pos) (l .rows) (l .used) (passed turn .stands) (told .0) (told .1) (told .2))
-
-  last-is : (b : Bool) → isLastMet (step-of .met) ≡ b → isLast (told .0 .element) ≡ b
-  last-is b e = sym (last-met (told .0 .element)) ∙ (ap (λ (x : Step). isLastMet (x .met)) (told .3) ∙ e)
+      subst (λ (x : Step). (l .pos + 4 ≤ x .next) × (x .next ≤ length (doc turn))) (told .is)
+      (further (doc turn) (short turn) (octets turn) (l .book) (l .pos) (l .rows) (l .used) (passed turn .stands) (told .stepped) (told .next) (told .reads))
 
 -- Its line.
 abbrev Lined : Type 0
@@ -120,8 +115,8 @@ module _ (line : Lined) where
   abbrev about : Told
   about = line .before .before .before
 
-  put : let l = turn about .loop in Puts (ElementText (l .pos) (told about .0 .element)) (l .out) (l .to) (line .element-line .last .1 .1 .1 .1 .1 .1 .0) (line .element-line .result)
-  put = line .element-line .ensures (told about .0) (told about .1) (asked about) (ap (λ (x : Step). x .met) (told about .3))
+  put : let l = turn about .loop in Puts (ElementText (l .pos) (told about .stepped .element)) (l .out) (l .to) (line .element-line .last .1 .1 .1 .1 .1 .1 .0) (line .element-line .result)
+  put = line .element-line .ensures (told about .stepped) (told about .next) (asked about) (ap (λ (x : Step). x .met) (told about .is))
 
 returns-2 : tie.Need-returns-2 Inv-loop μ-loop
 returns-2 c =
@@ -130,7 +125,7 @@ returns-2 c =
     let t = turn k in
     let l = t .loop in
     passed-last (doc t) (short t) (octets t) (at t) (entry t) (n t) (l .book) (l .pos) (l .rows) (l .used) (l .out) (l .to) (passed t) _ _
-    (told k .0) (told k .1) (told k .2) (put line) (last-is k true (sym (c .before .is-end .ensures) ∙ c .if1 .taken))
+    (told k .stepped) (told k .next) (told k .reads) (put line) (going.told-last (told k) true (sym (c .before .is-end .ensures) ∙ c .if1 .taken))
 
 loop-again : tie.Need-loop-again Inv-loop μ-loop
 loop-again c =
@@ -141,10 +136,10 @@ loop-again c =
     let out = line .element-line .last .1 .1 .1 .1 .1 .1 .0 in
     let to = line .element-line .result in
     let p = passed-more (doc t) (short t) (octets t) (at t) (entry t) (n t) (l .book) (l .pos) (l .rows) (l .used) (l .out) (l .to) (passed t) out to
-    (told k .0) (told k .1) (told k .2) (put line) (last-is k false (sym (c .before .is-end .ensures) ∙ c .if1 .left)) in (
+    (told k .stepped) (told k .next) (told k .reads) (put line) (going.told-last (told k) false (sym (c .before .is-end .ensures) ∙ c .if1 .left)) in (
       line .element-line .kept .1 .1 .1 .1 .1 .1 .0 ∙ l .inv .0,
       subst (λ (b : List ℕ). Passed (doc t) (at t) (entry t) (n t) b (step-of k .next) (step-of k .rows) (step-of k .used) out to) (sym (left k))
-          (subst (λ (x : Step). Passed (doc t) (at t) (entry t) (n t) (holding (told k .0 .book) (l .book)) (x .next) (x .rows) (x .used) out to) (told k .3) p),
+          (subst (λ (x : Step). Passed (doc t) (at t) (entry t) (n t) (holding (told k .stepped .book) (l .book)) (x .next) (x .rows) (x .used) out to) (told k .is) p),
     )
 
 slice-aggregate-element-line : tie.Need-slice-aggregate-element-line Inv-loop μ-loop

@@ -15,13 +15,12 @@ use Rattle.layouts.proofs.Books.{Lent}
 use Rattle.layouts.proofs.Walks.{lent-book}
 use Rattle.plans.specs.Plan.{Planned}
 use Rattle.plans.proofs.Keeping.{planned-within}
-use Rattle.elements.specs.Element.{Element, layout, row, Stepped, elementAt}
+use Rattle.elements.specs.Element.{Element, layout, row, elementAt}
 use Rattle.elements.specs.Steps.{leaves, holding, stepAt}
-use Rattle.elements.specs.Answers.{stepOf}
 use Rattle.elements.specs.declared.Step.{Step}
 use Rattle.elements.specs.declared.Stepping.the-variants.{Done}
 use Rattle.elements.proofs.Before.{step-is}
-use Rattle.elements.proofs.Going.{done, refusing}
+use Rattle.elements.proofs.Going.{Told, told, told-used, refusing}
 use Rattle.elements.proofs.Quickly.{New, element-new, element-old, element-keeps, found-new}
 use Rattle.elements.proofs.Told.{holding-same}
 use Rattle.plans.specs.Rows.{rowWord}
@@ -95,18 +94,13 @@ element-by-requires c κs =
     )
 
 -- The element that a step tells of.
-record Told (v : Answered) (x : Step) : Type 0 where
-  pub stepped : Stepped
-  pub next : ℕ
-  pub reads : elementAt (doc v) (at v) (rows v) (bookIn (entry v) (used v)) ≡ ok stepped next
-  pub is : stepOf stepped next ≡ x
+abbrev Reads : Answered → Step → Type 0
+Reads v x = Told (elementAt (doc v) (at v) (rows v) (bookIn (entry v) (used v))) x
 
-told : (v : Answered) (x : Step) → v .element-by .result ≡ Done x → Told v x
-told v x q =
-    let (st, next, e, same) = done (elementAt (doc v) (at v) (rows v) (bookIn (entry v) (used v))) x (sym (v .element-by .ensures .0) ∙ q) in
-    record { stepped = st; next = next; reads = e; is = same }
+reads : (v : Answered) (x : Step) → v .element-by .result ≡ Done x → Reads v x
+reads v x q = told (elementAt (doc v) (at v) (rows v) (bookIn (entry v) (used v))) x (sym (v .element-by .ensures .0) ∙ q)
 
-module _ (v : Answered) (x : Step) (t : Told v x) where
+module _ (v : Answered) (x : Step) (t : Reads v x) where
   steps : stepAt (doc v) (at v) (rows v) (entry v) (used v) ≡ ok (t .stepped) (x .next)
   steps = step v ∙ (t .reads ∙ ap (ok (t .stepped)) (ap (λ (y : Step). y .next) (t .is)))
 
@@ -117,7 +111,7 @@ module _ (v : Answered) (x : Step) (t : Told v x) where
   left = v .element-by .ensures .1 ∙ ap (leaves (entry v)) (t .reads)
 
   fills : x .used ≡ length (bookImage (t .stepped .book))
-  fills = sym (ap (λ (y : Step). y .used) (t .is))
+  fills = sym (told-used t)
 
   small : x .next < 1073741824
   small = omega (arith, gone .near, Start v .pre .1)
@@ -128,12 +122,11 @@ module _ (v : Answered) (x : Step) (t : Told v x) where
       (element-keeps (doc v) (octets v) (at v) (rows v) (bookIn (entry v) (used v)) (t .stepped) (t .next) (t .reads) (lent-here v .good)) (Start v .pre .4 .planned)
 
   -- What is carried on over a book that did not grow.
-  carried : (length (bookImage (bookIn (entry v) (used v))) < length (bookImage (t .stepped .book)) → ⊥)
-      → Carried (exit v) (x .used) (now (Start v .args .numbers)) (now (Start v .args .places)) (now (Start v .args .steps)) (Start v .args .known)
+  carried : x .used ≤ used v → Carried (exit v) (x .used) (now (Start v .args .numbers)) (now (Start v .args .places)) (now (Start v .args .steps)) (Start v .args .known)
   carried no-more =
       carried-same (entry v) (used v) (lent v) (Start v .pre .3) (now (Start v .args .numbers)) (now (Start v .args .places)) (now (Start v .args .steps)) (Start v .args .known) (Start v .pre .4)
       (exit v) (x .used) (t .stepped .book)
-      (element-old (doc v) (octets v) (at v) (rows v) (bookIn (entry v) (used v)) (t .stepped) (t .next) (t .reads) no-more) left fills
+      (element-old (doc v) (octets v) (at v) (rows v) (bookIn (entry v) (used v)) (t .stepped) (t .next) (t .reads) (used v) (x .used) (lent-here v .size) (told-used t) no-more) left fills
 
 returns-2 : tie.Need-returns-2
 returns-2 c =
@@ -145,7 +138,7 @@ returns-3 : tie.Need-returns-3
 returns-3 c =
     let v = c .before .before .before .before .before .before .before .before in
     let x = c .before .before .before .before .one2 .given .0 .0 in
-    let t = told v x (c .before .before .before .before .one2 .given .1) in
+    let t = reads v x (c .before .before .before .before .one2 .given .1) in
     let (n, u, is) = met-end (t .stepped .element) _ _ (ap (λ (y : Step). y .met) (t .is) ∙ c .before .met .given .1) in (
       ap isItem (steps v x t) ∙ ap (λ (y : Element). ofItem y (λ _. true) false) is,
       left v x t
@@ -157,7 +150,7 @@ layout-word-requires : tie.Need-layout-word-requires
 layout-word-requires c κs =
     let one = c .before .before .before .before in
     let v = one .before .before .before .before in
-    small v (one .one2 .given .0 .0) (told v (one .one2 .given .0 .0) (one .one2 .given .1))
+    small v (one .one2 .given .0 .0) (reads v (one .one2 .given .0 .0) (one .one2 .given .1))
 
 -- The layout's arm.
 abbrev Layed : Type 0
@@ -173,8 +166,8 @@ module _ (w : Layed) where
   abbrev told-step : Step
   told-step = one .one2 .given .0 .0
 
-  here : Told by told-step
-  here = told by told-step (one .one2 .given .1)
+  here : Reads by told-step
+  here = reads by told-step (one .one2 .given .1)
 
   -- An item that goes, whatever is carried on.
   goes : (numbers places steps₁ : List ℕ) (known : ℕ) → Carried (exit by) (told-step .used) numbers places steps₁ known
@@ -197,8 +190,8 @@ module _ (w : Layed) where
   -- The layout that the book grew by.
   new : used by < told-step .used → New (doc by) (octets by) (at by) (rows by) (bookIn (entry by) (used by)) (here .stepped) (here .next) (here .reads)
   new h =
-      element-new (doc by) (octets by) (at by) (rows by) (bookIn (entry by) (used by)) (here .stepped) (here .next) (here .reads)
-      (omega (arith, lent-here by .size, fills by told-step here, h))
+      element-new (doc by) (octets by) (at by) (rows by) (bookIn (entry by) (used by)) (here .stepped) (here .next) (here .reads) (used by) (told-step .used)
+      (lent-here by .size) (told-used here) h
 
   room : used by < told-step .used → Start by .args .known < 64
   room h =
@@ -243,24 +236,21 @@ returns-4 c =
     let v = by w in
     let a = Start v .args in
     goes w (now (a .numbers)) (now (a .places)) (now (a .steps)) (a .known)
-    (carried v (told-step w) (here w) (stays (lent-here v .size) (fills v (told-step w) (here w)) (c .if1 .left)))
-  where
-    stays : {a b c d : ℕ} → a ≡ b → d ≡ c → d ≤ b → a < c → ⊥
-    stays p q r z = omega arith
+    (carried v (told-step w) (here w) (c .if1 .left))
 
 -- The row's arm.
 row-word-requires : tie.Need-row-word-requires
 row-word-requires c κs =
     let one = c .before .before .before .before in
     let v = one .before .before .before .before in
-    small v (one .one2 .given .0 .0) (told v (one .one2 .given .0 .0) (one .one2 .given .1))
+    small v (one .one2 .given .0 .0) (reads v (one .one2 .given .0 .0) (one .one2 .given .1))
 
 returns-5 : tie.Need-returns-5
 returns-5 c =
     let one = c .before .before .before .before .before in
     let v = one .before .before .before .before in
     let x = one .one2 .given .0 .0 in
-    let t = told v x (one .one2 .given .1) in
+    let t = reads v x (one .one2 .given .1) in
     let (r, is, number, stated) = met-row (t .stepped .element) _ _ _ (ap (λ (y : Step). y .met) (t .is) ∙ c .before .before .met3 .given .1) in
     let same = row-keeps (doc v) (at v) (rows v) (bookIn (entry v) (used v)) (t .stepped) (t .next) (t .reads) r is in
     record {
@@ -272,7 +262,7 @@ returns-5 c =
       counts = sym (ap (λ (y : Step). y .rows) (t .is));
       fills = fills v x t;
       left = left v x t;
-      carried = carried v x t (λ h. let z = ap (λ (b : Book). length (bookImage b)) same in omega arith);
+      carried = carried v x t (let z = ap (λ (b : Book). length (bookImage b)) same in omega (arith, lent-here v .size, fills v x t));
     }
 
 pub exact-item-spec : {M : Type 1} → statement M
