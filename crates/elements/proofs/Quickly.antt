@@ -16,7 +16,7 @@ use Rattle.layouts.proofs.Layouts.{layout-forth, layout-long}
 use Rattle.layouts.proofs.Finding.{Within, find-here, find-behind}
 use Rattle.layouts.proofs.Books.{GoodBook, image-nil, image-snoc}
 use Rattle.layouts.proofs.Growing.{Learnt, learnt, grown}
-use Rattle.plans.specs.Plan.{Planned, Kept}
+use Rattle.plans.specs.Plan.{Planned, Keeps, Kept}
 use Rattle.plans.specs.Rows.{Passing, Stand}
 use Rattle.plans.proofs.Keeping.{planned-none, planned-within, kept-none, kept-more}
 use Rattle.elements.specs.Element.{Stepped, elementAt}
@@ -117,7 +117,7 @@ module _ (s : List ℕ) (short : length s ≤ 1048576) (o : Each Octet s) (at : 
     on : Going s at (st .book) next (st .rows)
     on = going-on s short at (w .book) pos rows (w .going) st next e o more
 
-    pub planned-on : Planned numbers steps known (st .book)
+    planned-on : Planned numbers steps known (st .book)
     planned-on = planned-within numbers steps known (w .book) (st .book) (element-keeps s o pos rows (w .book) st next e (w .going .good)) (w .planned)
 
     pub way-old : length (bookImage (st .book)) ≤ used → OnWay s at numbers places steps known next (st .rows) (length (bookImage (st .book)))
@@ -129,15 +129,16 @@ module _ (s : List ℕ) (short : length s ≤ 1048576) (o : Each Octet s) (at : 
       pub room-new : known < 64
       room-new = omega (arith, n .few, w .kept .count)
 
-      pub way-new : (numbers₁ steps₁ : List ℕ) (known₁ : ℕ) → Planned numbers₁ steps₁ known₁ (st .book) → known₁ ≡ known + 1 → numbers₁ ≡ set numbers known (n .layout .number)
-          → OnWay s at numbers₁ (set places known (pos + 4)) steps₁ known₁ next (st .rows) (length (bookImage (st .book)))
-      way-new numbers₁ steps₁ known₁ planned count is =
+      pub way-new : (numbers₁ places₁ steps₁ : List ℕ) → Keeps s (pos + 4) numbers steps known numbers₁ steps₁ → places₁ ≡ set places known (pos + 4)
+          → OnWay s at numbers₁ places₁ steps₁ (known + 1) next (st .rows) (length (bookImage (st .book)))
+      way-new numbers₁ places₁ steps₁ keeps placed =
+          let (numbered, plans) = keeps (n .layout) next (n .reads) in
           record {
             book = st .book;
             going = on;
-            planned = planned;
+            planned = plans (st .book) (found-new s o pos rows (w .book) st next e n) planned-on;
             kept =
-                rw (count, is, n .is)
+                rw (placed, numbered, n .is)
                 (kept-more s numbers places known (pos + 4) next (w .book) (n .layout) (w .kept) room-new (n .reads) (n .fresh));
             size = refl;
           }

@@ -283,8 +283,17 @@ pub fn rows_from(doc: &[u8], at: usize) -> Counting
                     return Counting::Rows(step.rows, step.next);
                 }
                 if used < step.used {
-                    places[known] = pos + 4;
-                    known = plans::note(doc, pos + 4, &mut numbers, &mut steps, known);
+                    let here = pos + 4;
+                    plans::keep(
+                        doc,
+                        here,
+                        here,
+                        &mut numbers,
+                        &mut places,
+                        &mut steps,
+                        known,
+                    );
+                    known += 1;
                 }
                 pos = step.next;
                 rows = step.rows;

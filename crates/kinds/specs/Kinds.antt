@@ -1,10 +1,9 @@
 -- The thirteen basic types and what a type number means.
-use Prim.Native.Nat.{ℕ, zero, suc, _+_, _-_, _*_, _^_, _%_, _/_}
+use Prim.Native.Nat.{ℕ, _+_, _-_, _*_, _^_, _%_, _/_}
 use mathlib.Core.List.{List, [], _∷_}
-use mathlib.Core.Bool.{Bool, true, false}
 use mathlib.Core.Option.{Option, some, none}
 use lib.Dec.{leb, ltb, eqb}
-use lib.IntN.{ℤ, pos, negsuc, subℕ}
+use lib.IntN.{ℤ, pos, subℕ}
 use Rattle.octets.specs.Reading.{Read, ok, no, _then_, choose, number}
 use Rattle.kinds.specs.declared.Basic.{Basic}
 use Rattle.kinds.specs.declared.Basic.the-variants.{Int, UnsignedInt, Long, UnsignedLong, Float, Double, HexBinary, String, Boolean, Byte, UnsignedByte, Short, UnsignedShort}

@@ -15,7 +15,7 @@ use Rattle.layouts.proofs.Layouts.{layout-inverse, layout-long}
 use Rattle.layouts.proofs.Books.{image-nil, image-cons}
 use Rattle.layouts.proofs.Finding.{find-here, find-behind, within-front, distinct-mid}
 use Rattle.layouts.proofs.Parts.{one-end}
-use Rattle.plans.specs.Plan.{Planned, Notes, Kept, Shelf}
+use Rattle.plans.specs.Plan.{Planned, Keeps, Kept, Shelf}
 use Rattle.plans.proofs.Keeping.{planned-none, planned-within, kept-none, kept-more}
 
 -- The layouts met are kept and planned, and those left stand from a place on.
@@ -32,8 +32,8 @@ pub record Walk (s numbers places steps : List ℕ) (pos known : ℕ) (book : Bo
 pub record Here (s numbers places steps : List ℕ) (pos known : ℕ) (book : Book) : Type 0 where
   pub accepted : isOk (layoutAt s pos) ≡ true
   pub room : known < 64
-  pub on : (numbers₁ steps₁ : List ℕ) (known₁ next : ℕ) → Notes s numbers steps pos known numbers₁ steps₁ known₁ → ends (layoutAt s pos) ≡ ok next next
-      → (pos < next) × Walk s numbers₁ (set places known pos) steps₁ next known₁ book
+  pub on : (numbers₁ places₁ steps₁ : List ℕ) (next : ℕ) → Keeps s pos numbers steps known numbers₁ steps₁ → places₁ ≡ set places known pos → ends (layoutAt s pos) ≡ ok next next
+      → (pos < next) × Walk s numbers₁ places₁ steps₁ next (known + 1) book
 
 pub walk-start : (s : List ℕ) (book : Book) → Shelf s book → (numbers places steps : List ℕ) → length numbers ≡ 64 → length places ≡ 64 → length steps ≡ 4160 → Walk s numbers places steps 0 0 book
 walk-start s book shelf numbers places steps n p t =
@@ -63,9 +63,8 @@ module _ (s numbers places steps : List ℕ) (pos known : ℕ) (book : Book) (w 
           record {
             accepted = ap isOk reads;
             room = room;
-            on = λ numbers₁ steps₁ known₁ next notes e.
-                let (plans, counts) = notes l (pos + length (layoutImage l)) reads in
-                let (counted, numbered) = counts room in
+            on = λ numbers₁ places₁ steps₁ next keeps placed e.
+                let (numbered, plans) = keeps l (pos + length (layoutImage l)) reads in
                 let place : next ≡ pos + length (layoutImage l) = one-end (layoutAt s pos) reads e in (
                   omega (arith, layout-long l),
                   record {
@@ -74,7 +73,7 @@ module _ (s numbers places steps : List ℕ) (pos known : ℕ) (book : Book) (w 
                     is = q ∙ sym (append-assoc met (l ∷ []) rest);
                     good = g .1;
                     spans = rw place p₂;
-                    kept = rw (counted, numbered) (kept-more s numbers places known pos (pos + length (layoutImage l)) met l k room reads new);
+                    kept = rw (placed, numbered) (kept-more s numbers places known pos (pos + length (layoutImage l)) met l k room reads new);
                     planned = plans book found (w .planned);
                   },
                 );

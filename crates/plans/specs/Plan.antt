@@ -56,12 +56,12 @@ pub record Plans (numbers steps : List ℕ) (known : ℕ) : Type 0 where
   pub book : Book
   pub planned : Planned numbers steps known book
 
--- What a layout at a place makes of numbers, steps and how many are known: it is planned in every book that finds it, and its number is put behind the others.
-abbrev pub Notes : (s numbers steps : List ℕ) (pos known : ℕ) (numbers₁ steps₁ : List ℕ) (known₁ : ℕ) → Type 0
-Notes s numbers steps pos known numbers₁ steps₁ known₁ =
-    (l : Layout) (end : ℕ) → layoutAt s pos ≡ ok l end
-    → ((book : Book) → find (l .number) book ≡ some l → Planned numbers steps known book → Planned numbers₁ steps₁ known₁ book)
-    × (known < 64 → (known₁ ≡ known + 1) × (numbers₁ ≡ set numbers known (l .number)))
+-- A layout at a place is kept behind those known: its number is put behind theirs, and in every book that finds it there is one plan more.
+abbrev pub Keeps : (s : List ℕ) (at : ℕ) (numbers steps : List ℕ) (known : ℕ) (numbers₁ steps₁ : List ℕ) → Type 0
+Keeps s at numbers steps known numbers₁ steps₁ =
+    (l : Layout) (end : ℕ) → layoutAt s at ≡ ok l end
+    → (numbers₁ ≡ set numbers known (l .number))
+    × ((book : Book) → find (l .number) book ≡ some l → Planned numbers steps known book → Planned numbers₁ steps₁ (known + 1) book)
 
 -- None of the numbers known is this one.
 abbrev pub Lacks : List ℕ → ℕ → ℕ → Type 0

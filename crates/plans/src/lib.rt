@@ -10,7 +10,7 @@ ghost use Rattle.layouts.specs.Layout.{Attribute, attributeAt, layoutAt};
 ghost use Rattle.layouts.specs.Book.{Book};
 ghost use Rattle.layouts.specs.Answers.{Looks};
 ghost use Rattle.rows.specs.Answers.{Slim, Attributes};
-ghost use Rattle.plans.specs.Plan.{mark, planOf, Begins, Plan, Planned, Plans, Notes, Lacks, Kept, Shelf, Shelved};
+ghost use Rattle.plans.specs.Plan.{mark, planOf, Begins, Plan, Planned, Plans, Keeps, Lacks, Kept, Shelf, Shelved};
 ghost use Rattle.plans.specs.Answers.{Closes, Follows, Lasts, Refuses, Passes};
 ghost use Rattle.plans.specs.Rows.{rowWord, Passage};
 use kinds::Form;
@@ -170,7 +170,7 @@ fn index_of(numbers: &[u32; 64], known: usize, last: usize, number: u32) -> usiz
     known
 }
 
-// Looks a number up among the layouts of a document that were kept by their places.
+// Looks a number up among layouts that were kept by their places.
 pub fn look_up<'n, 'p>(
     numbers: &'n [u32; 64],
     places: &'p [usize; 64],
@@ -305,25 +305,24 @@ pub fn quick_rows<'d, 'n, 'p, 'w>(
     }
 }
 
-// Makes the plan of the layout whose number stands at a place of a document, where there is room for one more; how many plans there are then.
-pub fn note<'d, 'n, 'p>(
+// Keeps one more layout, which stands at a place of a document: its number, where it is to be looked for, and its plan.
+pub fn keep<'d, 'n, 'l, 'p>(
     doc: &'d [u8],
     at: usize,
+    place: usize,
     numbers: &'n mut [u32; 64],
+    places: &'l mut [usize; 64],
     steps: &'p mut [u16; 4160],
     known: usize,
-) -> usize
-    requires { ⌜ (length (now doc) ≤ 1048576) × (isOk (layoutAt (now doc) at) ≡ true) × (length (now steps) ≡ 4160) ⌝ }
-    ensures { λ r. ⌜ Notes (now (doc .entry)) (now (numbers .entry)) (now (steps .entry)) at known (now (numbers .exit)) (now (steps .exit)) r ⌝ }
+)
+    requires { ⌜ (length (now doc) ≤ 1048576) × (isOk (layoutAt (now doc) at) ≡ true) × (length (now steps) ≡ 4160) × (known < 64) ⌝ }
+    ensures { λ _. ⌜ Keeps (now (doc .entry)) at (now (numbers .entry)) (now (steps .entry)) known (now (numbers .exit)) (now (steps .exit)) × (now (places .exit) ≡ set (now (places .entry)) known place) ⌝ }
 {
-    if 64 <= known {
-        return known;
-    }
     let counted = layouts::attributes_at(doc, at);
     let count = octets::u32_at(doc, counted);
     numbers[known] = layouts::layout_number(doc, at);
+    places[known] = place;
     put_plan(doc, counted + 4, count, steps, known * 65);
-    known + 1
 }
 
 // Keeps all layouts that octets hold by their places there, and makes their plans; how many there are.
@@ -339,8 +338,8 @@ pub fn index<'s, 'n, 'l, 'p>(
     let mut pos = 0;
     let mut known: usize = 0;
     while pos < s.len() {
-        places[known] = pos;
-        known = note(s, pos, numbers, steps, known);
+        keep(s, pos, pos, numbers, places, steps, known);
+        known += 1;
         pos = layouts::layout_skip(s, pos);
     }
     known

@@ -62,15 +62,15 @@ module _ (entry : List ℕ) (used : ℕ) (o : Each Octet entry) (is : IsBook ent
         (subst (λ (xs : List ℕ). layoutAt (front ++ xs) (length front) ≡ ok (n .layout) (length front + length (layoutImage (n .layout)))) (append-nil (layoutImage (n .layout)))
         (layout-back (n .layout) front [] good))
 
-    pub carried-new : (exit : List ℕ) (filled : ℕ) → exit ≡ holding (st .book) entry → filled ≡ length (bookImage (st .book)) → (numbers₁ steps₁ : List ℕ) (known₁ : ℕ)
-        → Planned numbers₁ steps₁ known₁ (st .book) → known₁ ≡ known + 1 → numbers₁ ≡ set numbers known (n .layout .number)
-        → Carried exit filled numbers₁ (set places known used) steps₁ known₁
-    carried-new exit filled left fills numbers₁ steps₁ known₁ planned count numbered =
+    pub carried-new : (exit : List ℕ) (filled : ℕ) → exit ≡ holding (st .book) entry → filled ≡ length (bookImage (st .book)) → (numbers₁ places₁ steps₁ : List ℕ)
+        → Planned numbers₁ steps₁ (known + 1) (st .book) → numbers₁ ≡ set numbers known (n .layout .number) → places₁ ≡ set places known used
+        → Carried exit filled numbers₁ places₁ steps₁ (known + 1)
+    carried-new exit filled left fills numbers₁ places₁ steps₁ planned numbered placed =
         let kept : Kept (front ++ layoutImage (n .layout)) (set numbers known (n .layout .number)) (set places known used) (known + 1) (book ++ n .layout ∷ []) =
         kept-more (front ++ layoutImage (n .layout)) numbers places known used (used + length (layoutImage (n .layout))) book (n .layout)
         (kept-extends front (layoutImage (n .layout)) numbers places known book (each-take Octet used entry o) (c .kept)) (room-new (n .few)) reads (n .fresh) in
-        rw (left, fills, count, numbered)
+        rw (left, fills, numbered, placed)
         (record {
           kept = rw (grown, t .book, n .is) kept;
-          planned = rw (t .book) (rw (← count, ← numbered) planned);
+          planned = rw (t .book) (rw (← numbered) planned);
         })

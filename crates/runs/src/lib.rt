@@ -74,14 +74,13 @@ fn exact_item<'d, 'b, 'n, 'l, 'p>(
                 Met::Layout(number, count) => {
                     let word = layout_word(number, next);
                     if used < filled {
-                        places[known] = used;
-                        let more = plans::note(doc, at + 4, numbers, steps, known);
+                        plans::keep(doc, at + 4, used, numbers, places, steps, known);
                         return Turn::Item(Gone {
                             word,
                             next,
                             rows: step.rows,
                             used: filled,
-                            known: more,
+                            known: known + 1,
                         });
                     }
                     Turn::Item(Gone {

@@ -7,7 +7,7 @@ use denote.Ref.{now}
 use mathlib.Core.Path.{_≡_, sym, ap, _∙_, subst}
 use mathlib.Core.List.{List}
 use mathlib.Core.Bool.{true, false}
-use lib.ListN.{length, set, replicate, length-replicate}
+use lib.ListN.{length, replicate, length-replicate}
 use Rattle.octets.specs.Reading.{ok, isOk}
 use Rattle.octets.specs.Writing.{Each, Octet}
 use Rattle.octets.proofs.Spans.{each-octet}
@@ -20,7 +20,7 @@ use Rattle.elements.specs.Answers.{tells}
 use Rattle.elements.specs.declared.Step.{Step}
 use Rattle.elements.specs.declared.Stepping.the-variants.{Done}
 use Rattle.elements.proofs.Going.{going-refused, going-end, Told, told, told-last, told-used, refusing, element-place}
-use Rattle.elements.proofs.Quickly.{OnWay, way-start, way-rows, rows-further, planned-on, way-old, found-new, room-new, way-new, New, element-new}
+use Rattle.elements.proofs.Quickly.{OnWay, way-start, way-rows, rows-further, way-old, room-new, way-new, New, element-new}
 use Rattle.elements.proofs.rows_from.Statement.{statement}
 use Rattle.elements.proofs.rows_from.Tie as tie
 
@@ -219,27 +219,23 @@ has-room m h =
     let x = told-of m in
     room-new (doc t) (short t) (octets t) (at t) (numbers t) (places t) (steps t) (known t) (pos t) (rows t) (used t) (way t) (x .stepped) (x .next) (x .reads) (not-last m) (new m h)
 
-note-requires : tie.Need-note-requires Inv-loop μ-loop
-note-requires c κs =
-    let m = c .before .before .before .before in
+keep-requires : tie.Need-keep-requires Inv-loop μ-loop
+keep-requires c κs =
+    let m = c .before .before .before .before .before in
     let t = Of (By m) in
-    (short t, ap isOk (new m (c .before .before .if2 .taken) .reads), way t .planned .steps-long)
+    let h = c .before .before .before .if2 .taken in
+    (short t, ap isOk (new m h .reads), way t .planned .steps-long, has-room m h)
 
 loop-again : tie.Need-loop-again Inv-loop μ-loop
 loop-again c =
-    let m = c .before .before .before .before .before in
-    let h = c .before .before .before .if2 .taken in
+    let m = c .before .before .before .before .before .before in
+    let h = c .before .before .before .before .if2 .taken in
     let t = Of (By m) in
     let x = told-of m in
-    let n = new m h in
-    let noted = c .note .ensures (n .layout) (x .next) (n .reads) in
-    let (count, is) = noted .1 (has-room m h) in
-    let planned = noted .0 (x .stepped .book)
-    (found-new (doc t) (octets t) (pos t) (rows t) (book t) (x .stepped) (x .next) (x .reads) n)
-    (planned-on (doc t) (short t) (octets t) (at t) (numbers t) (places t) (steps t) (known t) (pos t) (rows t) (used t) (way t) (x .stepped) (x .next) (x .reads) (not-last m)) in (
-      subst (λ (s : Step). OnWay (doc t) (at t) (c .note .last .1 .1 .0) (set (places t) (known t) (pos t + 4)) (c .note .last .1 .1 .1 .0) (c .note .result) (s .next) (s .rows) (s .used)) (x .is)
-          (way-new (doc t) (short t) (octets t) (at t) (numbers t) (places t) (steps t) (known t) (pos t) (rows t) (used t) (way t) (x .stepped) (x .next) (x .reads) (not-last m) n
-          (c .note .last .1 .1 .0) (c .note .last .1 .1 .1 .0) (c .note .result) planned count is),
+    let k = c .keep in (
+      subst (λ (s : Step). OnWay (doc t) (at t) (k .last .1 .1 .1 .0) (k .last .1 .1 .1 .1 .0) (k .last .1 .1 .1 .1 .1 .0) (known t + 1) (s .next) (s .rows) (s .used)) (x .is)
+          (way-new (doc t) (short t) (octets t) (at t) (numbers t) (places t) (steps t) (known t) (pos t) (rows t) (used t) (way t) (x .stepped) (x .next) (x .reads) (not-last m) (new m h)
+          (k .last .1 .1 .1 .0) (k .last .1 .1 .1 .1 .0) (k .last .1 .1 .1 .1 .1 .0) (k .ensures .0) (k .ensures .1)),
       words-long t,
     )
 
@@ -254,20 +250,14 @@ loop-again-2 c =
       words-long t,
     )
 
-add-places : tie.Need-add-places Inv-loop μ-loop
-add-places c = let m = c .before .before in let w = further m in omega (arith, short (Of (By m)))
+add-here : tie.Need-add-here Inv-loop μ-loop
+add-here c = let m = c .before .before in let w = further m in omega (arith, short (Of (By m)))
 
-mul-places : tie.Need-mul-places Inv-loop μ-loop
-mul-places c = let m = c .before .before in let h = has-room m (c .if2 .taken) in omega arith
-
-array-write-places : tie.Need-array-write-places Inv-loop μ-loop
-array-write-places c = has-room (c .before .before) (c .if2 .taken)
-
-add-note : tie.Need-add-note Inv-loop μ-loop
-add-note c = let m = c .before .before in let w = further m in omega (arith, short (Of (By m)))
+add-known : tie.Need-add-known Inv-loop μ-loop
+add-known c = let m = c .before .before .before .before .before .before in let h = has-room m (c .before .before .before .before .if2 .taken) in omega arith
 
 loop-less : tie.Need-loop-less Inv-loop μ-loop
-loop-less c = let m = c .before .before .before .before .before in let w = further m in omega (arith, further-on (Of (By m)))
+loop-less c = let m = c .before .before .before .before .before .before in let w = further m in omega (arith, further-on (Of (By m)))
 
 loop-less-2 : tie.Need-loop-less-2 Inv-loop μ-loop
 loop-less-2 c = let m = c .before .before in let w = further m in omega (arith, further-on (Of (By m)))
@@ -275,4 +265,4 @@ loop-less-2 c = let m = c .before .before in let w = further m in omega (arith, 
 pub rows-from-spec : {M : Type 1} → statement M
 rows-from-spec =
     tie.close
-    (tie.spec Inv-loop μ-loop loop-holds slice-aggregate-quick-rows quick-rows-requires add-rows (λ c κs. search needs) look-up-requires element-over-requires (λ c. search needs) returns (λ c. search needs) (λ c κs. search needs) returns-2 add-places mul-places array-write-places add-note note-requires loop-less loop-again loop-less-2 loop-again-2)
+    (tie.spec Inv-loop μ-loop loop-holds slice-aggregate-quick-rows quick-rows-requires add-rows (λ c κs. search needs) look-up-requires element-over-requires (λ c. search needs) returns (λ c. search needs) (λ c κs. search needs) returns-2 add-here keep-requires add-known loop-less loop-again loop-less-2 loop-again-2)

@@ -1,10 +1,10 @@
 -- `plans::index` meets its contract. The invariant: of every such book the layouts met are kept and planned, and those left stand from here on.
 -- The measure is what is left of the octets. Assumes nothing.
 use native.Mathlib.Omega.{arith}
-use Prim.Native.Nat.{ℕ, _-_, _<_}
+use Prim.Native.Nat.{ℕ, _+_, _-_, _<_}
 use denote.Ref.{now}
 use mathlib.Core.List.{List}
-use lib.ListN.{length, set}
+use lib.ListN.{length}
 use Rattle.layouts.specs.Book.{Book}
 use Rattle.plans.specs.Plan.{Shelf}
 use Rattle.plans.proofs.Indexing.{Walk, Here, walk-start, walk-here, walk-end}
@@ -42,33 +42,29 @@ here-in t book shelf =
 held : (t : Turn) → Here (S t) (t .before .loop .numbers) (t .before .loop .places) (t .before .loop .steps) (t .before .loop .pos) (t .before .loop .known) (Start t .pre .4 .book)
 held t = here-in t (Start t .pre .4 .book) (Start t .pre .4 .shelf)
 
-mul-places : tie.Need-mul-places Inv-loop μ-loop
-mul-places c = omega (arith, held c .room)
+keep-requires : tie.Need-keep-requires Inv-loop μ-loop
+keep-requires c κs =
+    let t = c .before .before .before in
+    (Start t .pre .0, held t .accepted, t .before .loop .inv (Start t .pre .4 .book) (Start t .pre .4 .shelf) .planned .steps-long, held t .room)
 
-element-write-places : tie.Need-element-write-places Inv-loop μ-loop
-element-write-places c = held c .room
-
-note-requires : tie.Need-note-requires Inv-loop μ-loop
-note-requires c κs =
-    let t = c .before .before in
-    (Start t .pre .0, held t .accepted, t .before .loop .inv (Start t .pre .4 .book) (Start t .pre .4 .shelf) .planned .steps-long)
+add-known : tie.Need-add-known Inv-loop μ-loop
+add-known c = let t = c .before .before .before .before in omega (arith, held t .room)
 
 layout-skip-requires : tie.Need-layout-skip-requires Inv-loop μ-loop
-layout-skip-requires c κs = let t = c .before .before .before in (Start t .pre .0, held t .accepted)
+layout-skip-requires c κs = let t = c .before .before .before .before in (Start t .pre .0, held t .accepted)
 
 -- The next place, and the walk from there on.
 abbrev Skipped : Type 0
 Skipped = tie.After-layout-skip Inv-loop μ-loop
 
 abbrev Of : Skipped → Turn
-Of f = f .before .before .before .before
+Of f = f .before .before .before .before .before
 
 next-at : (f : Skipped) (book : Book) → Shelf (S (Of f)) book → (Of f .before .loop .pos < f .layout-skip .result)
-    × Walk (S (Of f)) (f .before .note .last .1 .1 .0) (set (Of f .before .loop .places) (Of f .before .loop .known) (Of f .before .loop .pos)) (f .before .note .last .1 .1 .1 .0) (f .layout-skip .result)
-    (f .before .note .result) book
+    × Walk (S (Of f)) (f .before .keep .last .1 .1 .1 .0) (f .before .keep .last .1 .1 .1 .1 .0) (f .before .keep .last .1 .1 .1 .1 .1 .0) (f .layout-skip .result) (Of f .before .loop .known + 1) book
 next-at f book shelf =
-    let n = f .before .note in
-    here-in (Of f) book shelf .on (n .last .1 .1 .0) (n .last .1 .1 .1 .0) (n .result) (f .layout-skip .result) (n .ensures) (f .layout-skip .ensures)
+    let k = f .before .keep in
+    here-in (Of f) book shelf .on (k .last .1 .1 .1 .0) (k .last .1 .1 .1 .1 .0) (k .last .1 .1 .1 .1 .1 .0) (f .layout-skip .result) (k .ensures .0) (k .ensures .1) (f .layout-skip .ensures)
 
 loop-less : tie.Need-loop-less Inv-loop μ-loop
 loop-less c = let t = Of c in omega (arith, next-at c (Start t .pre .4 .book) (Start t .pre .4 .shelf) .0, t .loop-test .taken)
@@ -85,4 +81,4 @@ returns c = λ book shelf.
 pub index-spec : {M : Type 1} → statement M
 index-spec =
     tie.close
-    (tie.spec Inv-loop μ-loop loop-holds mul-places element-write-places note-requires layout-skip-requires loop-less loop-again returns)
+    (tie.spec Inv-loop μ-loop loop-holds keep-requires add-known layout-skip-requires loop-less loop-again returns)

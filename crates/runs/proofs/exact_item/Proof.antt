@@ -1,12 +1,12 @@
 -- `runs::exact_item` meets its contract: what the exact reader answers, taken apart by what was met. Assumes nothing.
 use borrow.Author.Needs.{needs}
 use native.Mathlib.Omega.{arith}
-use Prim.Native.Nat.{ℕ, _≤_, _<_}
+use Prim.Native.Nat.{ℕ, _+_, _≤_, _<_}
 use denote.Ref.{now}
 use mathlib.Core.Path.{_≡_, sym, ap, _∙_}
 use mathlib.Core.List.{List}
 use mathlib.Core.Bool.{Bool, true, false}
-use lib.ListN.{length, take, set}
+use lib.ListN.{length, take}
 use Rattle.octets.specs.Reading.{ok, isOk}
 use Rattle.octets.specs.Writing.{Each, Octet}
 use Rattle.octets.proofs.Spans.{each-octet}
@@ -198,37 +198,35 @@ module _ (w : Layed) where
       room-new (entry by) (used by) (lent by) (Start by .pre .3) (now (Start by .args .numbers)) (now (Start by .args .places)) (now (Start by .args .steps)) (Start by .args .known) (Start by .pre .4)
       (new h .few)
 
-mul-places : tie.Need-mul-places
-mul-places c = let h = room (c .before) (c .if1 .taken) in omega arith
+add-keep : tie.Need-add-keep
+add-keep c = let w = c .before in omega (arith, Start (by w) .pre .0, Start (by w) .pre .1)
 
-element-write-places : tie.Need-element-write-places
-element-write-places c = room (c .before) (c .if1 .taken)
+keep-requires : tie.Need-keep-requires
+keep-requires c κs =
+    let w = c .before .before .before .before in
+    let h = c .before .before .before .if1 .taken in
+    (Start (by w) .pre .1, ap isOk (new w h .reads), Start (by w) .pre .4 .planned .steps-long, room w h)
 
-add-note : tie.Need-add-note
-add-note c = let w = c .before in omega (arith, Start (by w) .pre .0, Start (by w) .pre .1)
-
-note-requires : tie.Need-note-requires
-note-requires c κs =
-    let w = c .before .before .before in
-    (Start (by w) .pre .1, ap isOk (new w (c .before .before .if1 .taken) .reads), Start (by w) .pre .4 .planned .steps-long)
+add-t35 : tie.Need-add-t35
+add-t35 c = let w = c .before .before .before .before .before in let h = room w (c .before .before .before .before .if1 .taken) in omega arith
 
 returns : tie.Need-returns
 returns c =
-    let w = c .before .before .before .before in
-    let h = c .before .before .before .if1 .taken in
+    let w = c .before .before .before .before .before in
+    let h = c .before .before .before .before .if1 .taken in
     let v = by w in
     let x = told-step w in
     let t = here w in
     let n = new w h in
     let a = Start v .args in
-    let noted = c .note .ensures (n .layout) (t .next) (n .reads) in
-    let (count, numbered) = noted .1 (room w h) in
-    let planned = noted .0 (t .stepped .book)
+    let k = c .keep in
+    let (numbered, plans) = k .ensures .0 (n .layout) (t .next) (n .reads) in
+    let planned = plans (t .stepped .book)
     (found-new (doc v) (octets v) (at v) (rows v) (bookIn (entry v) (used v)) (t .stepped) (t .next) (t .reads) n) (kept v x t) in
-    goes w (c .note .last .1 .1 .0) (set (now (a .places)) (a .known) (used v)) (c .note .last .1 .1 .1 .0) (c .note .result)
+    goes w (k .last .1 .1 .1 .0) (k .last .1 .1 .1 .1 .0) (k .last .1 .1 .1 .1 .1 .0) (a .known + 1)
     (carried-new (entry v) (used v) (lent v) (Start v .pre .3) (now (a .numbers)) (now (a .places)) (now (a .steps)) (a .known) (Start v .pre .4)
     (doc v) (octets v) (at v) (rows v) (t .stepped) (t .next) (t .reads) n (x .next) (gone v x t) (exit v) (x .used) (left v x t) (fills v x t)
-    (c .note .last .1 .1 .0) (c .note .last .1 .1 .1 .0) (c .note .result) planned count numbered)
+    (k .last .1 .1 .1 .0) (k .last .1 .1 .1 .1 .0) (k .last .1 .1 .1 .1 .1 .0) planned numbered (k .ensures .1))
 
 returns-4 : tie.Need-returns-4
 returns-4 c =
@@ -268,4 +266,4 @@ returns-5 c =
 pub exact-item-spec : {M : Type 1} → statement M
 exact-item-spec =
     tie.close
-    (tie.spec (λ c κs. search needs) look-up-requires element-by-requires (λ c. search needs) (λ c. search needs) (λ c. search needs) (λ c. search needs) layout-word-requires mul-places element-write-places add-note note-requires (λ c. search needs) returns (λ c. search needs) row-word-requires (λ c. search needs) returns-2 (λ c. search needs) returns-3 (λ c. search needs) returns-4 (λ c. search needs) returns-5)
+    (tie.spec (λ c κs. search needs) look-up-requires element-by-requires (λ c. search needs) (λ c. search needs) (λ c. search needs) (λ c. search needs) layout-word-requires add-keep keep-requires add-t35 (λ c. search needs) returns (λ c. search needs) row-word-requires (λ c. search needs) returns-2 (λ c. search needs) returns-3 (λ c. search needs) returns-4 (λ c. search needs) returns-5)
