@@ -70,9 +70,10 @@ fn put_plan<'d, 'p>(
     let mut sum: u16 = 0;
     let mut i: u32 = 0;
     while i < count {
-        let form = rows::form_at(doc, place);
+        let kind = layouts::name_end(doc, place);
+        let form = rows::form_here(doc, kind);
         let more = mark_of(form);
-        place = layouts::attribute_skip(doc, place);
+        place = kind + 4;
         i += 1;
         if more % 4 == 0 {
             sum += more;

@@ -76,20 +76,12 @@ pub fn value_end(s: &[u8], at: usize, end: usize, form: Form) -> Valued
 }
 
 // The form of the values of the type at a place, which is known to be accepted.
-fn form_here(s: &[u8], at: usize) -> Form
+pub fn form_here(s: &[u8], at: usize) -> Form
     requires { ⌜ isOk (kindAt (now s) at) ≡ true ⌝ }
     ensures { λ r. ⌜ ((k : Kind) (next : ℕ) → kindAt (now (s .entry)) at ≡ ok k next → r ≡ formOf (k .basic)) × Slim r ⌝ }
 {
     let code = octets::u32_at(s, at) % 256;
     kinds::form_of(kinds::basic_of(code))
-}
-
-// The form of the values of the attribute at a place, which is known to be accepted.
-pub fn form_at(s: &[u8], at: usize) -> Form
-    requires { ⌜ (length (now s) ≤ 1048576) × (isOk (attributeAt (now s) at) ≡ true) ⌝ }
-    ensures { λ r. ⌜ ((a : Attribute) (next : ℕ) → attributeAt (now (s .entry)) at ≡ ok a next → r ≡ formOf (a .kind .basic)) × Slim r ⌝ }
-{
-    form_here(s, layouts::name_end(s, at))
 }
 
 // The place behind the values of so many attributes, which stand at a place of a book.

@@ -8,11 +8,12 @@ use mathlib.Core.List.{List}
 use mathlib.Core.Bool.{true}
 use lib.ListN.{length, take, set, length-set}
 use lib.Seq.{take-set-le}
-use Rattle.octets.specs.Reading.{ok, ends, isOk, run}
-use Rattle.octets.proofs.Inverse.{ok-place}
+use Rattle.octets.specs.Reading.{ok, isOk, run}
 use Rattle.octets.proofs.Ends.{left-suc, none-left, sub-none}
 use Rattle.kinds.specs.Kinds.{formOf}
 use Rattle.layouts.specs.Layout.{Attribute, attributeAt}
+use Rattle.layouts.proofs.Parts.{Described, attribute-fields, attribute-named}
+use Rattle.rows.proofs.Values.{attribute-kind}
 use Rattle.plans.specs.Plan.{mark}
 use Rattle.plans.proofs.Making.{Making, making-start, Next, making-next, making-last}
 use Rattle.plans.proofs.put_plan.Statement.{statement}
@@ -66,24 +67,30 @@ accepted : (t : Turn) → isOk (attributeAt (Doc t) (t .before .loop .place)) �
 accepted t = let r = Start t .pre .4 in ap isOk (next-of t (r .list) (r .end) (r .reads) .1 .reads)
 
 -- The mark of the attribute here, and the place behind it.
-abbrev Skipped : Type 0
-Skipped = tie.After-attribute-skip Inv-loop μ-loop
+abbrev Marked : Type 0
+Marked = tie.After-mark-of Inv-loop μ-loop
 
-abbrev Of : Skipped → Turn
+abbrev Of : Marked → Turn
 Of s = s .before .before .before
 
-is-mark : (s : Skipped) (a : Attribute) (next : ℕ) → attributeAt (Doc (Of s)) (Of s .before .loop .place) ≡ ok a next → mark (formOf (a .kind .basic)) ≡ s .before .mark-of .result
-is-mark s a next e = sym (s .before .mark-of .ensures .0 ∙ ap mark (s .before .before .form-at .ensures .0 a next e))
+abbrev Kind : Marked → ℕ
+Kind s = s .before .before .name-end .result
 
-is-place : (s : Skipped) (a : Attribute) (next : ℕ) → attributeAt (Doc (Of s)) (Of s .before .loop .place) ≡ ok a next → next ≡ s .attribute-skip .result
-is-place s a next e = ok-place (ap ends e) (s .attribute-skip .ensures)
+described : (s : Marked) (a : Attribute) (next : ℕ) → attributeAt (Doc (Of s)) (Of s .before .loop .place) ≡ ok a next → Described (Doc (Of s)) (Of s .before .loop .place) a next (Kind s)
+described s a next e = attribute-fields (Doc (Of s)) (Of s .before .loop .place) (Kind s) (s .before .before .name-end .ensures .0) e
 
-bounds : (s : Skipped) → (Of s .before .loop .sum + s .before .mark-of .result ≤ 2080) × (Of s .before .loop .j < 4160)
+is-mark : (s : Marked) (a : Attribute) (next : ℕ) → attributeAt (Doc (Of s)) (Of s .before .loop .place) ≡ ok a next → mark (formOf (a .kind .basic)) ≡ s .mark-of .result
+is-mark s a next e = sym (s .mark-of .ensures .0 ∙ ap mark (s .before .form-here .ensures .0 (a .kind) next (described s a next e .kind)))
+
+is-place : (s : Marked) (a : Attribute) (next : ℕ) → attributeAt (Doc (Of s)) (Of s .before .loop .place) ≡ ok a next → next ≡ Kind s + 4
+is-place s a next e = described s a next e .place
+
+bounds : (s : Marked) → (Of s .before .loop .sum + s .mark-of .result ≤ 2080) × (Of s .before .loop .j < 4160)
 bounds s =
     let t = Of s in
     let l = t .before .loop .inv in
     let p = Start t .pre in
-    (omega (arith, l .0, l .3, p .1, s .before .mark-of .ensures .1, t .loop-test .taken), omega (arith, l .0, l .1, p .1, p .2, t .loop-test .taken))
+    (omega (arith, l .0, l .3, p .1, s .mark-of .ensures .1, t .loop-test .taken), omega (arith, l .0, l .1, p .1, p .2, t .loop-test .taken))
 
 loop-again : tie.Need-loop-again Inv-loop μ-loop
 loop-again c =
@@ -93,13 +100,13 @@ loop-again c =
       omega (arith, t .loop-test .taken),
       omega (arith, l .1),
       l .2,
-      omega (arith, l .3, s .before .mark-of .ensures .1),
+      omega (arith, l .3, s .mark-of .ensures .1),
       l .4,
       l .5,
       λ xs last e.
           let (m, n) = next-of t xs last e in
           let q = is-mark s (n .attribute) (n .next) (n .reads) in
-          subst (λ (x : ℕ). Making (Doc t) (t .before .loop .steps) xs last (Start t .args .from) (More t) (s .attribute-skip .result) (t .before .loop .j) (t .before .loop .sum + x)) q
+          subst (λ (x : ℕ). Making (Doc t) (t .before .loop .steps) xs last (Start t .args .from) (More t) (Kind s + 4) (t .before .loop .j) (t .before .loop .sum + x)) q
           (subst (λ (p : ℕ). Making (Doc t) (t .before .loop .steps) xs last (Start t .args .from) (More t) p (t .before .loop .j) (t .before .loop .sum + mark (formOf (n .attribute .kind .basic))))
           (is-place s (n .attribute) (n .next) (n .reads)) (n .on (ap (λ (x : ℕ). x % 4) q ∙ c .if1 .taken))),
     )
@@ -114,11 +121,11 @@ loop-again-2 c =
       omega (arith, l .2),
       omega arith,
       simp length-set (l .4),
-      take-set-le (Start t .args .from) (t .before .loop .steps) (t .before .loop .j) (t .before .loop .sum + s .before .mark-of .result) (l .2) ∙ l .5,
+      take-set-le (Start t .args .from) (t .before .loop .steps) (t .before .loop .j) (t .before .loop .sum + s .mark-of .result) (l .2) ∙ l .5,
       λ xs last e.
           let (m, n) = next-of t xs last e in
           let q = is-mark s (n .attribute) (n .next) (n .reads) in
-          subst (λ (x : ℕ). Making (Doc t) (set (t .before .loop .steps) (t .before .loop .j) (t .before .loop .sum + x)) xs last (Start t .args .from) (More t) (s .attribute-skip .result) (t .before .loop .j + 1) 0) q
+          subst (λ (x : ℕ). Making (Doc t) (set (t .before .loop .steps) (t .before .loop .j) (t .before .loop .sum + x)) xs last (Start t .args .from) (More t) (Kind s + 4) (t .before .loop .j + 1) 0) q
           (subst (λ (p : ℕ). Making (Doc t) (set (t .before .loop .steps) (t .before .loop .j) (t .before .loop .sum + mark (formOf (n .attribute .kind .basic)))) xs last (Start t .args .from) (More t) p (t .before .loop .j + 1) 0)
           (is-place s (n .attribute) (n .next) (n .reads)) (n .close (λ z. c .if1 .left (sym (ap (λ (x : ℕ). x % 4) q) ∙ z)) (omega (arith, bounds s .1, l .4)))),
     )
@@ -147,7 +154,9 @@ returns c =
 pub put-plan-spec : {M : Type 1} → statement M
 put-plan-spec =
     tie.close
-    (tie.spec Inv-loop μ-loop loop-holds (λ c κs. (Start c .pre .0, accepted c)) (λ c κs. c .form-at .ensures .1) (λ c κs. (Start (c .before .before) .pre .0, accepted (c .before .before)))
-    (λ c. let t = Of c in omega (arith, t .loop-test .taken)) (λ c. let b = bounds (c .before) in omega arith) (λ c. let t = Of (c .before) in omega (arith, t .loop-test .taken)) loop-again
+    (tie.spec Inv-loop μ-loop loop-holds (λ c κs. (Start c .pre .0, attribute-named (Doc c) (c .before .loop .place) (accepted c)))
+    (λ c κs. attribute-kind (Doc (c .before)) (c .before .before .loop .place) (c .name-end .result) (c .name-end .ensures .0) (accepted (c .before))) (λ c κs. c .form-here .ensures .1)
+    (λ c. omega (arith, c .before .before .name-end .ensures .2, Start (Of c) .pre .0)) (λ c. let t = Of c in omega (arith, t .loop-test .taken))
+    (λ c. let b = bounds (c .before) in omega arith) (λ c. let t = Of (c .before) in omega (arith, t .loop-test .taken)) loop-again
     (λ c. let b = bounds (c .before) in omega arith) (λ c. let b = bounds (c .before) in omega arith) (λ c. bounds (c .before) .1) (λ c. let b = bounds (c .before) in omega arith)
     (λ c. let t = Of (c .before) in omega (arith, t .loop-test .taken)) loop-again-2 (λ c. let b = last-room c in omega arith) last-room returns)
