@@ -3,7 +3,7 @@
 ghost use mathlib.Core.Path.{_≡_};
 ghost use mathlib.Core.Bool.{true};
 ghost use mathlib.Core.List.{[]};
-ghost use Prim.Native.Nat.{ℕ, _+_, _≤_};
+ghost use Prim.Native.Nat.{ℕ, _+_, _≤_, _<_};
 ghost use lib.ListN.{length, take};
 ghost use Rattle.octets.specs.Reading.{ok, isOk, be};
 ghost use Rattle.layouts.specs.Layout.{Layout, layoutAt};
@@ -176,10 +176,10 @@ fn element_over<'d, 's>(
     Stepping::Refused(7, at)
 }
 
-// The number behind the kind at a place; any where the document ends before it.
+// The number behind the kind at a place; 0 where the document ends before it.
 pub fn number_behind(doc: &[u8], at: usize) -> u32
     requires { ⌜ length (now doc) ≤ 1048576 ⌝ }
-    ensures { λ r. ⌜ (at + 4 + 4 ≤ length (now (doc .entry)) → r ≡ be 4 (now (doc .entry)) (at + 4)) ⌝ }
+    ensures { λ r. ⌜ (at + 4 + 4 ≤ length (now (doc .entry)) → r ≡ be 4 (now (doc .entry)) (at + 4)) × (length (now (doc .entry)) < at + 4 + 4 → r ≡ 0) ⌝ }
 {
     if doc.len() < at {
         return 0;
@@ -251,26 +251,14 @@ pub fn rows_from(doc: &[u8], at: usize) -> Counting
     let mut places = [0usize; 64];
     let mut steps = [0u16; 4160];
     let mut known: usize = 0;
-    let mut last: usize = 0;
     let mut pos = at;
     let mut rows: usize = 0;
     let mut used: usize = 0;
     let mut first = [0u64; 1];
     loop {
-        let stretch = plans::quick_rows(
-            doc,
-            pos,
-            &numbers,
-            &steps,
-            known,
-            last,
-            &mut first,
-            0,
-            1048576,
-        );
+        let stretch = plans::quick_rows(doc, pos, &numbers, &steps, known, &mut first, 0, 1048576);
         pos = stretch.next;
         rows += stretch.count;
-        last = stretch.last;
         let looked = plans::look_up(&numbers, &places, known, number_behind(doc, pos));
         let one = element_over(doc, pos, rows, doc, looked, used);
         match one {

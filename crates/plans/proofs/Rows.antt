@@ -69,13 +69,13 @@ laid-more n (v ∷ ws) w xs =
     laid-more (n + 1) ws w (set xs n v) ∙ ap (λ (k : ℕ). set (laid (n + 1) ws (set xs n v)) k w) (let one : n + 1 + length ws ≡ n + length (v ∷ ws) = omega arith in one)
 
 module _ (s : List ℕ) (at : ℕ) (book : Book) (from : ℕ) (entry : List ℕ) where
-  pub passage-none : (last : ℕ) → Passage s at book from entry entry (record { next = at; count = from; last = last })
-  passage-none last = record { rows = []; stand = refl; count = omega arith; put = refl }
+  pub passage-none : Passage s at book from entry entry (record { next = at; count = from })
+  passage-none = record { rows = []; stand = refl; count = omega arith; put = refl }
 
-  pub passage-more : (words : List ℕ) (pos n last : ℕ) → Passage s at book from entry words (record { next = pos; count = n; last = last })
-      → (row : Row) (next i word : ℕ) → number 4 s pos ≡ ok 2 (pos + 4) → rowAt book s (pos + 4) ≡ ok row next → word ≡ rowWord (row .number) (row .is-stated) next
-      → Passage s at book from entry (set words n word) (record { next = next; count = n + 1; last = i })
-  passage-more words pos n last p row next i word k e w =
+  pub passage-more : (words : List ℕ) (pos n : ℕ) → Passage s at book from entry words (record { next = pos; count = n })
+      → (row : Row) (next word : ℕ) → number 4 s pos ≡ ok 2 (pos + 4) → rowAt book s (pos + 4) ≡ ok row next → word ≡ rowWord (row .number) (row .is-stated) next
+      → Passage s at book from entry (set words n word) (record { next = next; count = n + 1 })
+  passage-more words pos n p row next word k e w =
       let more : Passing = record { row = row; next = next } in
       let behind : from + length (wordsOf (p .rows)) ≡ n = omega (arith, p .count, words-length (p .rows)) in
       record {

@@ -28,11 +28,10 @@ pub enum Quick {
     Unsure,
 }
 
-// The place behind rows one behind another, the index behind their words, and the index of the last one's layout.
+// The place behind rows one behind another, and the index behind their words.
 pub struct Stretch {
     pub next: usize,
     pub count: usize,
-    pub last: usize,
 }
 
 fn wide(x: u16) -> usize
@@ -269,7 +268,6 @@ pub fn quick_rows<'d, 'n, 'p, 'w>(
     numbers: &'n [u32; 64],
     steps: &'p [u16; 4160],
     known: usize,
-    last: usize,
     words: &'w mut [u64],
     from: usize,
     to: usize,
@@ -279,15 +277,14 @@ pub fn quick_rows<'d, 'n, 'p, 'w>(
 {
     let mut pos = at;
     let mut n = from;
-    let mut latest = last;
+    let mut last: usize = 0;
     while n < to {
-        let quick = quick_row(doc, pos, numbers, steps, known, latest);
+        let quick = quick_row(doc, pos, numbers, steps, known, last);
         match quick {
             Quick::Unsure => {
                 return Stretch {
                     next: pos,
                     count: n,
-                    last: latest,
                 };
             }
             Quick::Row(next, i) => {
@@ -295,14 +292,13 @@ pub fn quick_rows<'d, 'n, 'p, 'w>(
                 put_word(words, n, row_word(numbers[i], stated, next));
                 n += 1;
                 pos = next;
-                latest = i;
+                last = i;
             }
         }
     }
     Stretch {
         next: pos,
         count: n,
-        last: latest,
     }
 }
 

@@ -155,18 +155,16 @@ fn items<'d, 'b, 'w>(
     let mut places = [0usize; 64];
     let mut steps = [0u16; 4160];
     let mut known = plans::index(&book[..used], &mut numbers, &mut places, &mut steps);
-    let mut last: usize = 0;
     let mut pos = at;
     let mut passed = rows;
     let mut filled = used;
     let mut n: usize = 0;
     while n < 4096 {
         let to = reach(n, passed);
-        let stretch = plans::quick_rows(doc, pos, &numbers, &steps, known, last, words, n, to);
+        let stretch = plans::quick_rows(doc, pos, &numbers, &steps, known, words, n, to);
         pos = stretch.next;
         passed += stretch.count - n;
         n = stretch.count;
-        last = stretch.last;
         if n < 4096 {
             let turn = next_item(
                 doc,

@@ -55,7 +55,7 @@ element-by-requires c κs =
       p .0,
       p .1,
       p .2,
-      record { number = l .before .number-behind .result; is = l .before .number-behind .ensures; looks = l .look-in .ensures (book k) (image k); size = held k .size },
+      record { number = l .before .number-behind .result; is = l .before .number-behind .ensures .0; looks = l .look-in .ensures (book k) (image k); size = held k .size },
     )
 
 returns : tie.Need-returns

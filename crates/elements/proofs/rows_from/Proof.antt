@@ -25,11 +25,11 @@ use Rattle.elements.proofs.rows_from.Statement.{statement}
 use Rattle.elements.proofs.rows_from.Tie as tie
 
 abbrev Inv-loop : tie.InvT-loop
-Inv-loop doc at numbers₀ places₀ steps₀ known₀ last₀ pos₀ rows₀ used₀ first₀ numbers places steps known last pos rows used first =
+Inv-loop doc at numbers₀ places₀ steps₀ known₀ pos₀ rows₀ used₀ first₀ numbers places steps known pos rows used first =
     OnWay doc at numbers places steps known pos rows used × (length first ≡ 1)
 
 abbrev μ-loop : tie.MeasureT-loop
-μ-loop doc at numbers₀ places₀ steps₀ known₀ last₀ pos₀ rows₀ used₀ first₀ numbers places steps known last pos rows used first = length doc - pos
+μ-loop doc at numbers₀ places₀ steps₀ known₀ pos₀ rows₀ used₀ first₀ numbers places steps known pos rows used first = length doc - pos
 
 loop-holds : tie.Need-loop-holds Inv-loop μ-loop
 loop-holds c =
@@ -96,7 +96,7 @@ module _ (q : Strode) where
   octets : Each Octet doc
   octets = each-octet doc (Turned q .before .shared-slice-known .given)
 
-  passage : Passage doc (Turned q .loop .pos) (Turned q .loop .inv .0 .book) 0 (Turned q .loop .first) (q .quick-rows .last .1 .1 .1 .1 .1 .1 .0) (q .quick-rows .result)
+  passage : Passage doc (Turned q .loop .pos) (Turned q .loop .inv .0 .book) 0 (Turned q .loop .first) (q .quick-rows .last .1 .1 .1 .1 .1 .0) (q .quick-rows .result)
   passage = q .quick-rows .ensures .2 (Turned q .loop .inv .0 .book) (Turned q .loop .inv .0 .planned) .0
 
   count : length (passage .rows) ≡ q .quick-rows .result .count
@@ -119,8 +119,8 @@ module _ (q : Strode) where
   few-rows = omega (arith, way .going .behind, way .going .inside, short)
 
   -- There is room for as many words as there was.
-  words-long : length (q .quick-rows .last .1 .1 .1 .1 .1 .1 .0) ≡ 1
-  words-long = q .quick-rows .kept .1 .1 .1 .1 .1 .1 .0 ∙ Turned q .loop .inv .1
+  words-long : length (q .quick-rows .last .1 .1 .1 .1 .1 .0) ≡ 1
+  words-long = q .quick-rows .kept .1 .1 .1 .1 .1 .0 ∙ Turned q .loop .inv .1
 
 add-rows : tie.Need-add-rows Inv-loop μ-loop
 add-rows c = omega (arith, few-rows (c .before .before))
@@ -153,7 +153,7 @@ is-read v =
     v .element-over .ensures (book t)
     (record {
       number = l .before .number-behind .result;
-      is = l .before .number-behind .ensures;
+      is = l .before .number-behind .ensures .0;
       looks = l .look-up .ensures (doc t) (book t) (way t .kept);
       size = way t .size;
     })

@@ -22,18 +22,18 @@ use Rattle.plans.proofs.quick_rows.Statement.{statement}
 use Rattle.plans.proofs.quick_rows.Tie as tie
 
 abbrev Inv-loop : tie.InvT-loop
-Inv-loop doc at numbers steps known last words₀ from to pos₀ n₀ latest₀ words pos n latest =
+Inv-loop doc at numbers steps known words₀ from to pos₀ n₀ last₀ words pos n last =
     (pos ≤ length doc) × (n ≤ to) × (length words ≡ length words₀)
-    × ((book : Book) → Planned numbers steps known book → Passage doc at book from words₀ words (record { next = pos; count = n; last = latest }))
+    × ((book : Book) → Planned numbers steps known book → Passage doc at book from words₀ words (record { next = pos; count = n }))
 
 abbrev μ-loop : tie.MeasureT-loop
-μ-loop doc at numbers steps known last words₀ from to pos₀ n₀ latest₀ words pos n latest = to - n
+μ-loop doc at numbers steps known words₀ from to pos₀ n₀ last₀ words pos n last = to - n
 
 loop-holds : tie.Need-loop-holds Inv-loop μ-loop
 loop-holds c =
     let s = c .before .before in
     let a = s .args in
-    (s .pre .0, s .pre .2, refl, λ book p. passage-none (now (a .doc)) (a .at) book (a .from) (now (a .words)) (a .last))
+    (s .pre .0, s .pre .2, refl, λ book p. passage-none (now (a .doc)) (a .at) book (a .from) (now (a .words)))
 
 -- The turn by names.
 abbrev Turn : Type 0
@@ -128,8 +128,8 @@ loop-again c =
           let h = here r book p in
           let said = row-says (doc q) (pos q + 4) (h .3 .0) (Next r) book (h .3 .1) in
           let eight : pos q + 4 + 4 ≡ pos q + 8 = omega arith in
-          subst (λ (ws : List ℕ). Passage (doc q) (a .at) book (a .from) (now (a .words)) ws (record { next = Next r; count = l .n + 1; last = I r })) (sym (y .put-word .ensures))
-          (passage-more (doc q) (a .at) book (a .from) (now (a .words)) (l .words) (pos q) (l .n) (l .latest) (l .inv .3 book p) (h .3 .0) (Next r) (I r) (w .row-word .result) (h .2) (h .3 .1)
+          subst (λ (ws : List ℕ). Passage (doc q) (a .at) book (a .from) (now (a .words)) ws (record { next = Next r; count = l .n + 1 })) (sym (y .put-word .ensures))
+          (passage-more (doc q) (a .at) book (a .from) (now (a .words)) (l .words) (pos q) (l .n) (l .inv .3 book p) (h .3 .0) (Next r) (w .row-word .result) (h .2) (h .3 .1)
           (w .row-word .ensures ∙ ap (λ (k : ℕ). rowWord k (ltb (u .u32-at .result) 0xffffffff) (Next r)) (h .1 ∙ sym (said .number))
           ∙ ap (λ (b : Bool). rowWord (h .3 .0 .number) b (Next r)) (ap (λ (k : ℕ). ltb k 0xffffffff) (u .u32-at .ensures ∙ ap (be 4 (doc q)) (sym eight)) ∙ sym (said .stated)))),
     )

@@ -87,7 +87,7 @@ element-by-requires c κs =
       start .pre .3,
       record {
         number = l .before .number-behind .result;
-        is = l .before .number-behind .ensures;
+        is = l .before .number-behind .ensures .0;
         looks = l .look-up .ensures (take (a .used) (now (a .book))) (bookIn (now (a .book)) (a .used)) (start .pre .4 .kept);
         size = lent-book (now (a .book)) (a .used) (each-octet (now (a .book)) (k .slice-known .given)) (start .pre .3) .size;
       },

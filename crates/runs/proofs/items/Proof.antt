@@ -26,12 +26,12 @@ use Rattle.runs.proofs.items.Statement.{statement}
 use Rattle.runs.proofs.items.Tie as tie
 
 abbrev Inv-loop : tie.InvT-loop
-Inv-loop doc at rows book₀ used words₀ numbers₀ places₀ steps₀ known₀ last₀ pos₀ passed₀ filled₀ n₀ book words numbers places steps known last pos passed filled n =
+Inv-loop doc at rows book₀ used words₀ numbers₀ places₀ steps₀ known₀ pos₀ passed₀ filled₀ n₀ book words numbers places steps known pos passed filled n =
     OnWay doc at rows book₀ used words₀ words book pos passed filled n × (pos ≤ length doc) × Each Octet book × IsBook book filled
     × Carried book filled numbers places steps known × (length book ≡ length book₀) × (passed ≤ 1048577)
 
 abbrev μ-loop : tie.MeasureT-loop
-μ-loop doc at rows book₀ used words₀ numbers₀ places₀ steps₀ known₀ last₀ pos₀ passed₀ filled₀ n₀ book words numbers places steps known last pos passed filled n = 4096 - n
+μ-loop doc at rows book₀ used words₀ numbers₀ places₀ steps₀ known₀ pos₀ passed₀ filled₀ n₀ book words numbers places steps known pos passed filled n = 4096 - n
 
 -- The arguments by names, where the octets of both slices are known.
 abbrev Known : Type 0
@@ -127,7 +127,7 @@ module _ (q : Strode) where
   filled = Turned q .loop .filled
 
   abbrev words : List ℕ
-  words = q .quick-rows .last .1 .1 .1 .1 .1 .1 .0
+  words = q .quick-rows .last .1 .1 .1 .1 .1 .0
 
   abbrev pos : ℕ
   pos = q .quick-rows .result .next
