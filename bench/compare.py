@@ -1,4 +1,3 @@
-#!/usr/bin/env python3
 """
 Compares the C reader with the second program, and with ours if its archive is
 there, on the measured documents and on damaged ones. COUNT and SEED say how
@@ -7,7 +6,6 @@ many damaged ones and which. The last line is `N passed, M failed`.
 import collections
 import sys
 
-sys.dont_write_bytecode = True
 import damage
 import programs
 
@@ -23,13 +21,16 @@ def second():
 
 def compared():
     """The programs that are held to the second one: what is measured, and the reader with every access checked."""
-    yield "the C reader", programs.command_of(programs.build(programs.READER))
-    if programs.NATIVE:
-        yield "the C reader, sanitized", [programs.build(programs.READER, programs.SANITIZED, "-sanitized")]
+    yield "the C reader", started(programs.READER)
+    yield "the C reader, sanitized", [programs.build(programs.READER, programs.SANITIZED, "-sanitized", programs.COMPILER)]
     if programs.ours_is_there():
-        yield "the whole check", programs.command_of(programs.build(programs.WHOLE))
-        yield "the reading by steps", programs.command_of(programs.build(programs.STEPS))
-        yield "the reading by runs", programs.command_of(programs.build(programs.RUNS))
+        yield "the whole check", started(programs.WHOLE)
+        yield "the reading by steps", started(programs.STEPS)
+        yield "the reading by runs", started(programs.RUNS)
+
+
+def started(check):
+    return [programs.START, programs.build(check)]
 
 
 def batches(cases, most=32 << 20):

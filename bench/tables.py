@@ -1,67 +1,23 @@
-#!/usr/bin/env python3
-"""Counts the instructions of every check on every measured document, and prints the figures as Markdown."""
+"""
+Counts the instructions of every check on every measured document, or on those named, and prints the figures as
+Markdown; with --small on those of 64 KiB alone.
+"""
+import argparse
 import datetime
 import subprocess
 import sys
 
-sys.dont_write_bytecode = True
 import documents
 import programs
-
-NAMES = {programs.READER: "C reader", programs.WHOLE: "whole check", programs.RUNS: "by runs", programs.STEPS: "by steps"}
+from counts import NAMES, counted, ratio
 
 
 def checks():
     """The checks that can be counted: ours only where their archive was made."""
     if programs.ours_is_there():
         return list(NAMES)
-    print(f"bench: no {programs.ARCHIVE.relative_to(programs.ROOT)}, so the C reader alone is counted; "
-          "`rt staticlib collector` makes it", file=sys.stderr)
+    print(f"bench: {programs.LACKING}; so the C reader alone is counted", file=sys.stderr)
     return [programs.READER]
-
-
-class Counts:
-    """What was counted, by check, shape and size."""
-
-    def __init__(self):
-        self.octets = {}
-        self.rows = {}
-        self.instructions = {}
-
-    def add(self, check, program, shape, size, octets):
-        answer, instructions = programs.count(program, check, octets)
-        word, rows = answer.split(" ", 1)
-        if word != "whole" or self.rows.setdefault((shape, size), rows) != rows:
-            raise SystemExit(f"bench: {NAMES[check]} says `{answer}` of {shape} {size}")
-        self.octets[shape, size] = len(octets)
-        self.instructions[check, shape, size] = instructions
-
-    def of(self, check, shape, size="large"):
-        return self.instructions.get((check, shape, size))
-
-    def per_octet(self, check, shape, size):
-        return ratio(self.of(check, shape, size), self.octets[shape, size])
-
-    def per_octet_of_rows(self, check, shape, size):
-        """Without what the same document costs that has no rows, and without its octets."""
-        return self.per_octet_between(check, (shape, size), (shape, f"{size} bare"))
-
-    def per_octet_between(self, check, more, less):
-        instructions = self.of(check, *more) - self.of(check, *less)
-        return ratio(instructions, self.octets[more] - self.octets[less])
-
-
-def counted():
-    counts = Counts()
-    built = {check: programs.build(check) for check in checks()}
-    for shape, size, octets in documents.measured():
-        for check, program in built.items():
-            counts.add(check, program, shape, size, octets)
-    return counts
-
-
-def ratio(one, other):
-    return None if one is None or other is None else one / other
 
 
 def cell(value):
@@ -80,24 +36,24 @@ def print_table(head, rows):
     print()
 
 
-def print_counts(counts):
+def print_counts(counts, shapes, size):
     def row(shape):
-        reader, whole, runs, steps = (counts.of(check, shape) for check in NAMES)
-        return [shape, int(counts.rows[shape, "large"]), reader, whole, ratio(whole, reader),
+        reader, whole, runs, steps = (counts.of(check, shape, size) for check in NAMES)
+        return [shape, int(counts.rows[shape, size]), reader, whole, ratio(whole, reader),
                 runs, ratio(runs, whole), ratio(runs, reader), steps, ratio(steps, whole)]
     print_table(["document", "rows", "C reader", "whole check", "whole / C",
                  "by runs", "runs / whole", "runs / C", "by steps", "steps / whole"],
-                map(row, documents.SHAPES))
+                map(row, shapes))
 
 
-def print_growth(counts):
+def print_growth(counts, shapes):
     def row(check, shape):
         all_small, all_large = (counts.per_octet(check, shape, size) for size in ("small", "large"))
         rows_small, rows_large = (counts.per_octet_of_rows(check, shape, size) for size in ("small", "large"))
         return [shape, NAMES[check], all_small, all_large, ratio(all_large, all_small),
                 rows_small, rows_large, ratio(rows_large, rows_small)]
     print_table(["document", "check", "64 KiB", "1 MiB", "ratio", "rows, 64 KiB", "rows, 1 MiB", "ratio"],
-                [row(check, shape) for shape in documents.SHAPES for check in NAMES if counts.of(check, shape)])
+                [row(check, shape) for shape in shapes for check in NAMES if counts.of(check, shape)])
 
 
 def print_layouts(counts):
@@ -118,17 +74,40 @@ def counter():
     return f"callgrind, {first_line(['valgrind', '--version'])}" if programs.NATIVE else "the kit's emulator"
 
 
-def main():
-    counts = counted()
+def print_head():
     compiler = first_line([*programs.COMPILER, "--version"])
     print(f"## Counted on {datetime.date.today().isoformat()}\n")
     print(f"By {counter()}; the C reader compiled with {' '.join(programs.MEASURED)} by {compiler}.\n")
+
+
+def print_small(shapes):
+    counts = counted(checks(), documents.small(shapes))
+    print_head()
+    print("Instructions of one call on a document of just under 64 KiB:\n")
+    print_counts(counts, shapes, "small")
+
+
+def print_all(shapes):
+    counts = counted(checks(), documents.measured(shapes))
+    print_head()
     print("Instructions of one call on a document of just under 1 MiB:\n")
-    print_counts(counts)
+    print_counts(counts, shapes, "large")
     print("Instructions for each octet, and for each octet of rows (the same document without rows taken away):\n")
-    print_growth(counts)
-    print("Instructions for each octet of layouts, and for each octet of a document of which half is layouts:\n")
-    print_layouts(counts)
+    print_growth(counts, shapes)
+    if {"short", "many"} <= set(shapes):
+        print("Instructions for each octet of layouts, and for each octet of a document of which half is layouts:\n")
+        print_layouts(counts)
+
+
+def main():
+    words = argparse.ArgumentParser(prog="bench/run")
+    words.add_argument("--small", action="store_true", help="documents of 64 KiB alone")
+    words.add_argument("document", nargs="*", help=f"of {', '.join(documents.SHAPES)}; all if none is named")
+    given = words.parse_args()
+    unknown = set(given.document) - set(documents.SHAPES)
+    if unknown:
+        words.error(f"no document {', '.join(sorted(unknown))}; there are {', '.join(documents.SHAPES)}")
+    (print_small if given.small else print_all)(given.document or list(documents.SHAPES))
 
 
 main()
