@@ -3,8 +3,8 @@
  * probe's commands D (a length of 8 octets, big-endian, and a document of that
  * length) and w (check it); each w is answered by a line. The check asked is
  * named when this is compiled: reader_whole, ipdr_whole, by_steps or by_runs.
- * An argument says how many times each check is done; only the last is
- * answered.
+ * With an argument it writes lines to standard error that tell when a check
+ * begins and ends.
  */
 #include <inttypes.h>
 #include <stdbool.h>
@@ -12,6 +12,7 @@
 #include <stdint.h>
 #include <stdio.h>
 #include <stdlib.h>
+#include <unistd.h>
 
 uint64_t CHECK(const uint8_t *doc, size_t len, uint64_t *rows);
 
@@ -43,11 +44,21 @@ static bool read_document(struct document *doc)
     return len == 0 || (doc->octets && fread(doc->octets, 1, len, stdin) == len);
 }
 
-static void check(const struct document *doc, int times)
+/* A line that stands where the program is then, among those that an emulator writes of it. */
+static void mark(bool marked)
 {
-    uint64_t rows = 0, refused = 0;
-    for (int i = 0; i < times; i++)
-        refused = CHECK(doc->octets, doc->len, &rows);
+    if (marked && write(STDERR_FILENO, "mark\n", 5) != 5)
+        abort();
+}
+
+/* Between the first two marks stands what a mark itself costs. */
+static void check(const struct document *doc, bool marked)
+{
+    uint64_t rows = 0, refused;
+    mark(marked);
+    mark(marked);
+    refused = CHECK(doc->octets, doc->len, &rows);
+    mark(marked);
     if (refused)
         printf("refused %" PRIu64 " %" PRIu64 "\n", refused >> 32, refused & 0xffffffffu);
     else
@@ -56,13 +67,14 @@ static void check(const struct document *doc, int times)
 
 int main(int argc, char **argv)
 {
-    int times = argc > 1 ? atoi(argv[1]) : 1;
+    (void)argv;
+    bool marked = argc > 1;
     struct document doc = {NULL, 0};
     bool good = true;
     int letter;
     while (good && (letter = getchar()) != EOF) {
         if (letter == 'w')
-            check(&doc, times);
+            check(&doc, marked);
         else
             good = letter == 'D' && read_document(&doc);
     }

@@ -1,6 +1,6 @@
 """Documents to compare readers on: the measured ones, border cases, and damaged ones, all made from a seed."""
-from documents import (ALL_TYPES, BOOLEAN, KIND_LAYOUT, MOST_ATTRIBUTES, MOST_DOCUMENT, MOST_LAYOUTS, MOST_LISTED, SHAPES,
-                       Image, Layout, Random, document, many, measured, put_end, put_header, put_layout)
+from documents import (ALL_TYPES, BOOLEAN, END_SIZE, KIND_LAYOUT, MOST_ATTRIBUTES, MOST_DOCUMENT, MOST_LAYOUTS, MOST_LISTED,
+                       SHAPES, Image, Layout, Random, document, many, measured, put_end, put_header, put_layout)
 
 RECORDER = 4  # the place of the recorder's length
 
@@ -196,6 +196,10 @@ def border_cases():
         yield f"services over by {over}", listed(0, MOST_LISTED + over)
         yield f"attributes over by {over}", one_layout(MOST_ATTRIBUTES + over)
         yield f"layouts over by {over}", plain_layouts(MOST_LAYOUTS + over)
+    bare = listed(0, 0)
+    yield "another version", with_number(bare, 0, 3)
+    yield "an id of another length", with_number(bare, len(bare) - END_SIZE - 24, 15)
+    yield "a header not followed by its mark", with_number(bare, len(bare) - END_SIZE - 4, 0)
     yield "a book too full", book_over()
     yield "a layout again, shorter", shorter_again()
 

@@ -216,15 +216,21 @@ SIXTEENTHS = {**SHAPES, "many": few}
 SMALL = MOST_DOCUMENT // 16
 
 
-def measured():
+def small(shapes=SHAPES):
+    """The documents of 64 KiB: their shape, what of it, and their octets."""
+    for shape in shapes:
+        yield shape, "small", bytes(SIXTEENTHS[shape](SMALL).octets)
+
+
+def measured(shapes=SHAPES):
     """
-    Every measured document: its shape, what of it, and its octets. Large and small ones; each without its rows;
+    Every measured document of these shapes, in the same form. Large and small ones; each without its rows;
     and a small one with all of many layouts, of which half is layouts.
     """
-    for shape in SHAPES:
-        large, small = SHAPES[shape], SIXTEENTHS[shape]
-        yield shape, "large", bytes(large(MOST_DOCUMENT).octets)
-        yield shape, "small", bytes(small(SMALL).octets)
-        yield shape, "large bare", bytes(large(0).octets)
-        yield shape, "small bare", bytes(small(0).octets)
-    yield "many", "crowded", bytes(many(SMALL).octets)
+    yield from small(shapes)
+    for shape in shapes:
+        yield shape, "large", bytes(SHAPES[shape](MOST_DOCUMENT).octets)
+        yield shape, "large bare", bytes(SHAPES[shape](0).octets)
+        yield shape, "small bare", bytes(SIXTEENTHS[shape](0).octets)
+    if "many" in shapes:
+        yield "many", "crowded", bytes(many(SMALL).octets)

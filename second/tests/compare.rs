@@ -138,3 +138,15 @@ fn wrong_flags_are_a_failure() {
     let (content, lines) = compare(&folder("flags"), &["--fast"]);
     assert!(!content && lines.is_empty());
 }
+
+#[test]
+fn words_that_start_a_program_stand_before_it() {
+    let folder = folder("start");
+    let listing = folder.join("listing");
+    fs::write(&listing, format!("exec {SECOND} list\n")).unwrap();
+    let listing = listing.display().to_string();
+    let (content, lines) = compare(&folder, &["--count", "1", "--start", "env\nsh", "--listing", &listing]);
+    assert!(content && counts(&lines).1 == 0, "{lines:#?}");
+    let (content, _) = compare(&folder, &["--count", "1", "--start", "", "--listing", &listing]);
+    assert!(!content);
+}

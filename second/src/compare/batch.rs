@@ -10,6 +10,7 @@ use crate::command::stream;
 /// A probe to compare with, and the function it must agree with.
 pub struct Probe<'a> {
     pub name: &'static str,
+    pub start: &'a [String],
     pub path: &'a Path,
     pub answers: fn(&[u8]) -> String,
 }
@@ -28,7 +29,7 @@ impl Probe<'_> {
 
     fn compare_run(&self, entries: &[&Entry], tally: &mut Tally) {
         let input: Vec<u8> = entries.iter().flat_map(|entry| stream(&entry.commands)).collect();
-        let running = program::start(self.path, input.clone());
+        let running = program::start(self.start, self.path, input.clone());
         let ours = (self.answers)(&input);
         let run = match running.and_then(Running::finish) {
             Ok(run) => run,

@@ -9,6 +9,8 @@ pub struct Flags {
     /// The repository: programs not named are taken from its target folder,
     /// and the first difference is saved there.
     pub root: PathBuf,
+    /// The words that stand before a program to start it, if any.
+    pub start: Vec<String>,
     pub listing: Option<PathBuf>,
     pub probe: Option<PathBuf>,
     pub c_probe: Option<PathBuf>,
@@ -23,6 +25,7 @@ impl Flags {
             count: 2000,
             seed: 1,
             root: PathBuf::from("."),
+            start: Vec::new(),
             listing: None,
             probe: None,
             c_probe: None,
@@ -36,6 +39,7 @@ impl Flags {
                 "--count" => flags.count = number(next()?)?,
                 "--seed" => flags.seed = number(next()?)?,
                 "--root" => flags.root = PathBuf::from(next()?),
+                "--start" => flags.start = next()?.lines().map(String::from).collect(),
                 "--listing" => flags.listing = Some(PathBuf::from(next()?)),
                 "--probe" => flags.probe = Some(PathBuf::from(next()?)),
                 "--c-probe" => flags.c_probe = Some(PathBuf::from(next()?)),

@@ -7,8 +7,8 @@ use super::tally::{lines, readable, Difference, Tally};
 use crate::command::Command;
 use crate::listing::list;
 
-pub fn compare(path: &Path, label: &str, document: &[u8], tally: &mut Tally) {
-    let running = program::start(path, document.to_vec());
+pub fn compare(start: &[String], path: &Path, label: &str, document: &[u8], tally: &mut Tally) {
+    let running = program::start(start, path, document.to_vec());
     let ours = list(document);
     let run = match running.and_then(Running::finish) {
         Ok(run) => run,

@@ -50,7 +50,7 @@ fn compare_cases(flags: &Flags, cases: &[Named], tally: &mut Tally) {
 fn compare_listings(flags: &Flags, cases: &[Named], tally: &mut Tally) {
     if let Some(path) = &flags.listing {
         for named in cases {
-            listings::compare(path, &named.label, &named.case.document, tally);
+            listings::compare(&flags.start, path, &named.label, &named.case.document, tally);
         }
     }
 }
@@ -64,10 +64,10 @@ fn compare_entries(flags: &Flags, entries: &[Entry], tally: &mut Tally) {
         let wanted = |letter| {
             (flags.questions || !QUESTIONS.contains(&letter)) && (flags.writing || READING.contains(&letter))
         };
-        our_probe(path).compare(&only(&wanted), tally);
+        our_probe(flags, path).compare(&only(&wanted), tally);
     }
     if let Some(path) = &flags.c_probe {
-        our_c_probe(path).compare(&only(&|letter| C_PROBE.contains(&letter)), tally);
+        our_c_probe(flags, path).compare(&only(&|letter| C_PROBE.contains(&letter)), tally);
     }
 }
 
@@ -78,15 +78,15 @@ fn compare_large(flags: &Flags, tally: &mut Tally) {
         let named = [cases::generated_large(flags.seed, index)];
         compare_listings(flags, &named, tally);
         if let Some(path) = &flags.c_probe {
-            our_c_probe(path).compare(&[named[0].entry()], tally);
+            our_c_probe(flags, path).compare(&[named[0].entry()], tally);
         }
     }
 }
 
-fn our_probe(path: &Path) -> Probe<'_> {
-    Probe { name: "probe", path, answers: probe::run }
+fn our_probe<'a>(flags: &'a Flags, path: &'a Path) -> Probe<'a> {
+    Probe { name: "probe", start: &flags.start, path, answers: probe::run }
 }
 
-fn our_c_probe(path: &Path) -> Probe<'_> {
-    Probe { name: "c-probe", path, answers: probe::c::run }
+fn our_c_probe<'a>(flags: &'a Flags, path: &'a Path) -> Probe<'a> {
+    Probe { name: "c-probe", start: &flags.start, path, answers: probe::c::run }
 }

@@ -23,14 +23,24 @@ pub struct Run {
     pub status: ExitStatus,
 }
 
-pub fn start(path: &Path, input: Vec<u8>) -> Result<Running, String> {
+/// Starts a program behind the words that this machine needs for it, if any.
+pub fn start(words: &[String], path: &Path, input: Vec<u8>) -> Result<Running, String> {
     let name = path.display().to_string();
-    let mut command = Command::new(path);
-    let spawned = command.stdin(Stdio::piped()).stdout(Stdio::piped()).spawn();
+    if !path.exists() {
+        return Err(format!("{name} is not there"));
+    }
+    let spawned = command(words, path).stdin(Stdio::piped()).stdout(Stdio::piped()).spawn();
     let mut child = spawned.map_err(|fault| format!("{name} cannot be run: {fault}"))?;
     feed(&mut child, input);
     let output = drain(&mut child);
     Ok(Running { name, child, output })
+}
+
+fn command(words: &[String], path: &Path) -> Command {
+    let Some((first, rest)) = words.split_first() else { return Command::new(path) };
+    let mut command = Command::new(first);
+    command.args(rest).arg(path);
+    command
 }
 
 impl Running {
