@@ -2,12 +2,11 @@
 use Prim.Native.Nat.{ℕ}
 use mathlib.Core.List.{List}
 use Rattle.headers.specs.Header.{headerAt}
-use Rattle.elements.specs.Steps.{lentBook, stepAt, leaves, whole}
+use Rattle.elements.specs.Steps.{stepAt, leaves, whole}
 use Rattle.elements.specs.Answers.{tells}
 use Rattle.reading.specs.Answers.{headTells, checkTells}
-use Rattle.plans.specs.Rows.{laid}
-use Rattle.runs.specs.Runs.{runFrom}
-use Rattle.runs.specs.Answers.{runTells}
+use Rattle.runs.specs.Runs.{runAsked}
+use Rattle.runs.specs.Answers.{runTells, bookLeft, wordsLeft}
 use Rattle.questions.specs.Questions.{fieldAsked, layoutAsked, attributeAsked, partOf}
 use Rattle.questions.specs.Answers.{refusalOf, octetsOf, fieldTells, kindTells}
 use Rattle.strings.specs.Strings.{namespaceAsked, serviceAsked}
@@ -31,10 +30,10 @@ pub record ReadingSettled : Type 0 where
 -- A run of steps.
 pub record RunSettled (s : List ℕ) (at rows : ℕ) (octets : List ℕ) (used : ℕ) : Type 0 where
   -- How many items were passed, and where it stands then.
-  pub run : Settled (runTells (lentBook s rows octets used) (runFrom 4096 s at rows octets used))
+  pub run : Settled (runTells (runAsked s at rows octets used))
   -- The lent book behind it, and the lent words.
-  pub run-book : Settled (runFrom 4096 s at rows octets used .octets)
-  pub run-words : (lent : List ℕ) → Settled (laid 0 (runFrom 4096 s at rows octets used .words) lent)
+  pub run-book : Settled (bookLeft octets (runAsked s at rows octets used))
+  pub run-words : (lent : List ℕ) → Settled (wordsLeft lent (runAsked s at rows octets used))
 
 -- The questions about field n of a row.
 pub record FieldSettled (s : List ℕ) (at rows : ℕ) (octets : List ℕ) (used n : ℕ) : Type 0 where
