@@ -1,12 +1,12 @@
 -- An accepted call of a row keeps what stands: the open row has one value more, and closing makes it an item. Giving up leaves the items before; the end makes the document whole.
 -- The row's layout is read back from its first octets, so a value taken is the next field's. Assumes nothing.
-use Prim.Native.Nat.{ℕ, _+_, _^_, _≤_, _<_}
+use Prim.Native.Nat.{ℕ, _+_, _-_, _^_, _≤_, _<_}
 use mathlib.Core.Path.{_≡_, refl, sym, ap, _∙_, subst}
 use mathlib.Core.List.{List, [], _∷_, _++_, append-assoc, append-nil}
 use mathlib.Core.Bool.{true}
 use mathlib.Core.Option.{Option, some, none}
 use native.Mathlib.Omega.{arith}
-use lib.ListN.{length, take, drop, replicate, length-append, length-drop, replicate-append-replicate}
+use lib.ListN.{length, take, drop, replicate, length-append, length-drop}
 use lib.Seq.{take-add, take-all}
 use lib.Dec.{leb, eqb}
 use borrow.Author.Tests.{eqb-true, leb-true, ltb-true}
@@ -28,11 +28,11 @@ use Rattle.elements.specs.Document.{Document, itemImage, image}
 use Rattle.writing.specs.declared.Turn.{Turn}
 use Rattle.writing.specs.declared.Turn.the-variants as wants
 use Rattle.writing.specs.Writer.{Call, openRow, value, closeRow, giveUp, finish, isOpen, fine, unless, known, rowLayout, suits, isNext, does}
-use Rattle.promises_writing.specs.Promise.{each, fieldCalls, itemCalls, headerCalls, callsOf, GivenValue, Told, adds, opens}
-use Rattle.promises_writing.proofs.Standing.{Spot, spot, stateAt, behind, row-layout, close-leaves, give-up-leaves}
+use Rattle.promises_writing.specs.Promise.{each, fieldCalls, itemCalls, headerCalls, callsOf, GivenValue, Told, adds, opens, tell}
+use Rattle.promises_writing.proofs.Standing.{Spot, spot, stateAt, standing, behind, row-layout, close-leaves, give-up-leaves}
 use Rattle.promises_writing.proofs.Writes.{image-parts}
 use Rattle.promises_writing.proofs.Put.{octetsOf, each-snoc, row-octets}
-use Rattle.promises_writing.proofs.Shapes.{Opened, InRow, Shape, Stand, rest, room-small, here, put-keeps}
+use Rattle.promises_writing.proofs.Shapes.{Opened, InRow, Shape, Stand, rest, Inv, room-small, PassesHere, leftHere, here, put-keeps}
 use Rattle.promises_writing.proofs.KeepsHeader.{is-text, Keeps}
 use Rattle.promises_writing.proofs.Items.{next-item, same-between, opening, longer, one-more}
 
@@ -169,7 +169,6 @@ module _ {buffer lent : List ℕ} {told : Told} (now : Stand buffer lent told) w
         stand =
             record {
               done = before ++ itemImage (row (i .r));
-              zeroes = now .zeroes;
               at = spot (x .book) wants.Element 0 0 (x .rows + 1);
               inside = rw (← place) (now .inside);
               good = now .good;
@@ -178,27 +177,33 @@ module _ {buffer lent : List ℕ} {told : Told} (now : Stand buffer lent told) w
         is = leaves ∙ rw place;
       }
 
-  pub keep-given-up : Keeps now giveUp
+  -- Giving up: all stands over a buffer that has zeroes where the element was.
+  pub keep-given-up : (next new : List ℕ) → length next ≡ length buffer
+      → drop (now .at .start) next ≡ replicate (length (now .done) - now .at .start) 0 ++ rest now
+      → PassesHere now (does (stateAt (now .done) (now .at)) (now .done ++ rest now) (now .at .book) giveUp) new
+      → Inv next lent (tell told giveUp) (leftHere now (does (stateAt (now .done) (now .at)) (now .done ++ rest now) (now .at .book) giveUp) new)
   unfolding does
-  keep-given-up new p =
+  keep-given-up next new long zeroed p =
       let x = now .at in
       let o = opened-at (x .turn) told (now .shape) (p .in-turn) in
       let more : List ℕ = images octetsOf (told .latest) in
-      let size : length (now .done) ≡ length (o .before) + length more = ap length (o .is) ∙ length-append (o .before) more in
+      let start = o .start in
       let inside = now .inside in
-      let sum : length (now .done) + now .zeroes ≡ length (o .before) + (length more + now .zeroes) = omega arith in
+      let sum : length (now .done) ≡ length (o .before) + length more = ap length (o .is) ∙ length-append (o .before) more in
+      let size : length (now .done) - x .start ≡ length more = omega arith in
+      let covers : replicate (length more) 0 ++ rest now ≡ drop (length (o .before)) next =
+      subst (λ (n : ℕ). replicate n 0 ++ rest now ≡ drop (length (o .before)) next) size (sym zeroed ∙ ap (λ (n : ℕ). drop n next) start) in
       record {
         stand =
             record {
               done = o .before;
-              zeroes = length more + now .zeroes;
               at = spot (x .book) wants.Element 0 0 (x .rows);
               inside = omega arith;
               good = now .good;
               shape = (same-between (o .between) refl refl refl (sym (append-nil (told .settled))), refl);
             };
         is = give-up-leaves lent (o .before) more (rest now) (now .done) x (o .is) (o .start) (p .takes)
-            ∙ rw (← append-assoc (replicate (length more) 0) (replicate (now .zeroes) 0) (drop (length (now .done) + now .zeroes) buffer), replicate-append-replicate {A = ℕ} (length more) (now .zeroes) 0, sum);
+            ∙ ap (λ (z : List ℕ). standing lent (o .before) z (spot (x .book) wants.Element 0 0 (x .rows))) covers;
       }
 
   pub keep-finish : (n : ℕ) → n < 2 ^ 64 → Keeps now (finish n)

@@ -1,14 +1,12 @@
 -- What stands at each turn where every call was accepted since the fresh state, by what was told; and that a call which puts octets keeps it so.
--- The octets of an element are those of the calls from its opening on; behind the place stand zeroes of what was given up, then what was lent. Assumes nothing.
-use Prim.Native.Nat.{ℕ, zero, suc, _+_, _-_, _^_, _≤_, _<_}
+-- The octets of an element are those of the calls from its opening on; behind the place all is as in a buffer that the run could have begun with. Assumes nothing.
+use Prim.Native.Nat.{ℕ, _+_, _^_, _≤_, _<_}
 use mathlib.Core.Path.{_≡_, refl, _∙_, subst}
 use mathlib.Core.List.{List, [], _∷_, _++_}
 use mathlib.Core.Bool.{Bool, true, false}
 use mathlib.Core.Option.{some}
 use native.Mathlib.Omega.{arith}
-use native.Mathlib.Nat.{add-zero}
-use lib.ListN.{length, take, drop, replicate, length-append, length-drop, length-replicate}
-use lib.Seq.{drop-drop}
+use lib.ListN.{length, take, drop, length-append, length-drop}
 use lib.Dec.{eqb}
 use borrow.Author.Tests.{eqb-true, eqb-false}
 use Rattle.octets.specs.Reading.{Read, choose}
@@ -26,7 +24,7 @@ use Rattle.writing.specs.Writer.{Call, recorder, startTime, defaultNamespace, n
 use Rattle.writing.proofs.Bounds.{same-turn, turn-count}
 use Rattle.promises_writing.specs.Promise.{each, namespaceCalls, serviceCalls, attributeCalls, fieldCalls, itemCalls, headerCalls, callsOf, bookBehind, onto, Told}
 use Rattle.promises_writing.proofs.Calls.{Passes, leftBy}
-use Rattle.promises_writing.proofs.Standing.{Spot, spot, stateAt, standing, put-leaves}
+use Rattle.promises_writing.proofs.Standing.{Spot, spot, stateAt, standing, drop-on, put-leaves}
 use Rattle.promises_writing.proofs.WritesHeader.{room-long}
 use Rattle.promises_writing.proofs.Put.{octetsOf}
 
@@ -123,21 +121,16 @@ Shape wants.AttributeType x = InLayout (λ l n name. attributed l n ++ attribute
 Shape wants.Value x = InRow x
 Shape wants.Nothing x = Ended x
 
--- What lies behind a place: zeroes of what was given up, then what was lent.
-abbrev pub lies : List ℕ → ℕ → ℕ → List ℕ
-lies buffer place zeroes = replicate zeroes 0 ++ drop (place + zeroes) buffer
-
--- All that stands over a lent buffer and a lent book, where so much was told.
+-- All that stands over a buffer and a lent book, where so much was told. The buffer is as lent, but that it has zeroes where an element was given up.
 pub record Stand (buffer lent : List ℕ) (told : Told) : Type 0 where
   pub done : List ℕ
-  pub zeroes : ℕ
   pub at : Spot
-  pub inside : length done + zeroes ≤ length buffer
+  pub inside : length done ≤ length buffer
   pub good : GoodBook (at .book)
   pub shape : Shape (at .turn) at done told
 
 abbrev pub rest : {buffer lent : List ℕ} {told : Told} → Stand buffer lent told → List ℕ
-rest {buffer} now = lies buffer (length (now .done)) (now .zeroes)
+rest {buffer} now = drop (length (now .done)) buffer
 
 abbrev pub written : {buffer lent : List ℕ} {told : Told} → Stand buffer lent told → Written
 written {lent = lent} now = standing lent (now .done) (rest now) (now .at)
@@ -146,23 +139,6 @@ written {lent = lent} now = standing lent (now .done) (rest now) (now .at)
 pub record Inv (buffer lent : List ℕ) (told : Told) (w : Written) : Type 0 where
   pub stand : Stand buffer lent told
   pub is : w ≡ written stand
-
--- Octets put over what lies behind the place.
-drop-lies : (n z p : ℕ) (s : List ℕ) → drop n (lies s p z) ≡ lies s (p + n) (z - n)
-drop-lies zero z p s =
-    let same : z - 0 ≡ z = omega arith in
-    rw (same, add-zero p)
-drop-lies (suc n) zero p s =
-    let none : 0 - suc n ≡ 0 = omega arith in
-    rw (none, add-zero p, add-zero (p + suc n)) (drop-drop (suc n) p s)
-drop-lies (suc n) (suc z) p s =
-    let less : suc z - suc n ≡ z - n = omega arith in
-    let next : p + suc z ≡ suc p + z = omega arith in
-    let more : suc p + n ≡ p + suc n = omega arith in
-    rw (less, next) (drop-lies n z (suc p) s ∙ rw more)
-
-lies-length : (n z : ℕ) (s : List ℕ) → n + z ≤ length s → n + length (lies s n z) ≡ length s
-lies-length n z s h = rw (length-append, length-replicate, length-drop) (omega arith)
 
 pub room-small : (size : ℕ) → room size ≤ 1048576
 unfolding room
@@ -189,17 +165,16 @@ module _ {buffer lent : List ℕ} {told : Told} (now : Stand buffer lent told) w
       → (stand : Stand buffer lent next) × (standing lent (now .done ++ xs) (drop (length xs) (rest now)) y ≡ written stand)
   put-stand next xs y fits good shape =
       let size = length-append (now .done) (rest now) in
-      let long = lies-length (length (now .done)) (now .zeroes) buffer (now .inside) in
+      let long = length-drop (length (now .done)) buffer in
       let sum = length-append (now .done) xs in (
         record {
           done = now .done ++ xs;
-          zeroes = now .zeroes - length xs;
           at = y;
           inside = omega (arith, room-long (length (now .done ++ rest now)), now .inside);
           good = good;
           shape = shape;
         },
-        rw (drop-lies (length xs) (now .zeroes) (length (now .done)) buffer, sum),
+        rw (drop-on buffer (now .done) xs),
       )
 
   -- What stands at the turn that a call has.

@@ -1,19 +1,20 @@
 -- The promise of the writer: the calls that give a document, what they leave, and what accepted calls have told.
-use Prim.Native.Nat.{ℕ, _+_, _^_, _≤_, _<_}
+use Prim.Native.Nat.{ℕ, _^_, _<_, max}
 use mathlib.Core.Path.{_≡_}
 use mathlib.Core.List.{List, [], _∷_, _++_}
 use lib.ListN.{length, drop, replicate}
-use Rattle.octets.specs.Reading.{choose}
-use Rattle.octets.specs.Writing.{over, Each, Octet}
+use Rattle.octets.specs.Reading.{Read, ok, no, choose}
+use Rattle.octets.specs.Writing.{Each, Octet}
 use Rattle.kinds.specs.Kinds.{numberOf}
 use Rattle.layouts.specs.Layout.{Attribute, Layout}
-use Rattle.layouts.specs.Book.{Book, find, isNone, bookImage}
+use Rattle.layouts.specs.Book.{Book, find, isNone, bookImage, bookOf}
 use Rattle.rows.specs.Row.{Value, bits, held, Field}
 use Rattle.headers.specs.Header.{Namespace, Header}
 use Rattle.elements.specs.Element.{Item, layout, row}
 use Rattle.elements.specs.Document.{Document, image, rowCount, Good}
 use Rattle.writing.specs.declared.Turn.the-variants as wants
-use Rattle.writing.specs.Writer.{Call, recorder, startTime, defaultNamespace, namespaceCount, uri, shortName, serviceCount, service, documentId, openLayout, typeName, attributeCount, attributeName, attributeType, openRow, value, closeRow, giveUp, finish, Written, fresh}
+use Rattle.writing.specs.declared.State.{State}
+use Rattle.writing.specs.Writer.{Call, recorder, startTime, defaultNamespace, namespaceCount, uri, shortName, serviceCount, service, documentId, openLayout, typeName, attributeCount, attributeName, attributeType, openRow, value, closeRow, giveUp, finish, Written, fresh, call, runCalls}
 
 -- The calls for a list's items, one after another.
 abbrev pub each : {A : Type 0} → (A → List Call) → List A → List Call
@@ -103,6 +104,33 @@ Given closeRow = Unit {0}
 Given giveUp = Unit {0}
 Given (finish n) = n < 2 ^ 64
 
+-- What a call makes of what was told: one call more; a layout or row opened; the open one taken back.
+pub data Bearing : Type 0 where
+  more : Bearing
+  opening : Bearing
+  back : Bearing
+
+abbrev pub bearing : Call → Bearing
+bearing (recorder xs) = more
+bearing (startTime n) = more
+bearing (defaultNamespace xs) = more
+bearing (namespaceCount n) = more
+bearing (uri xs) = more
+bearing (shortName xs) = more
+bearing (serviceCount n) = more
+bearing (service xs) = more
+bearing (documentId xs) = more
+bearing (openLayout n) = opening
+bearing (typeName xs) = more
+bearing (attributeCount n) = more
+bearing (attributeName xs) = more
+bearing (attributeType t) = more
+bearing (openRow n stated) = opening
+bearing (value b v) = more
+bearing closeRow = more
+bearing giveUp = back
+bearing (finish n) = more
+
 -- What was told: the calls before the layout or row that was opened last, and those from its opening on.
 pub record Told : Type 0 where
   pub settled : List Call
@@ -115,26 +143,13 @@ abbrev pub opens : Told → Call → Told
 opens t c = record { settled = t .settled ++ t .latest; latest = c ∷ [] }
 
 -- One call more. Giving up takes back all from the opening on.
+abbrev pub tellAs : Bearing → Told → Call → Told
+tellAs more t c = adds t c
+tellAs opening t c = opens t c
+tellAs back t c = record { settled = t .settled; latest = [] }
+
 abbrev pub tell : Told → Call → Told
-tell t (recorder xs) = adds t (recorder xs)
-tell t (startTime n) = adds t (startTime n)
-tell t (defaultNamespace xs) = adds t (defaultNamespace xs)
-tell t (namespaceCount n) = adds t (namespaceCount n)
-tell t (uri xs) = adds t (uri xs)
-tell t (shortName xs) = adds t (shortName xs)
-tell t (serviceCount n) = adds t (serviceCount n)
-tell t (service xs) = adds t (service xs)
-tell t (documentId xs) = adds t (documentId xs)
-tell t (openLayout n) = opens t (openLayout n)
-tell t (typeName xs) = adds t (typeName xs)
-tell t (attributeCount n) = adds t (attributeCount n)
-tell t (attributeName xs) = adds t (attributeName xs)
-tell t (attributeType n) = adds t (attributeType n)
-tell t (openRow n stated) = opens t (openRow n stated)
-tell t (value b v) = adds t (value b v)
-tell t closeRow = adds t closeRow
-tell t giveUp = record { settled = t .settled; latest = [] }
-tell t (finish n) = adds t (finish n)
+tell t c = tellAs (bearing c) t c
 
 abbrev pub tellAll : Told → List Call → Told
 tellAll t [] = t
@@ -150,11 +165,56 @@ told calls =
     let t = tellAll nothing-told calls in
     t .settled ++ t .latest
 
--- What a finished run of accepted calls has written: a document inside the limits, which is just what was told. All stands as where that document is written without giving up, but that so many octets behind its image are zero: those of elements given up that nothing has covered since. All else is as lent.
-pub record Wrote (calls : List Call) (buffer book : List ℕ) (w : Written) : Type 0 where
+-- A run of calls: what was last answered and left, the calls that were accepted, and the farthest place from which one was given up (0: none was).
+pub record Run : Type 0 where
+  pub now : Written
+  pub accepted : List Call
+  pub farthest : ℕ
+
+-- A call that is no giving up.
+abbrev pub Forward : Call → Type 0
+Forward c = bearing c ≡ back → ⊥
+
+-- That place behind one call more, made at a place.
+abbrev pub fartherAs : Bearing → ℕ → ℕ → ℕ
+fartherAs more far place = far
+fartherAs opening far place = far
+fartherAs back far place = max far place
+
+abbrev pub farther : ℕ → State → Call → ℕ
+farther far s c = fartherAs (bearing c) far (s .place)
+
+-- A call's answer in a run. A refused call changes nothing, and the run goes on.
+abbrev pub answering : Run → Call → Read Written → Run
+answering r c (ok w at) = record { now = w; accepted = r .accepted ++ c ∷ []; farthest = farther (r .farthest) (r .now .state) c }
+answering r c (no n at) = r
+
+-- Calls one after another, each given the state, the buffer, the book and the used count last answered, whether or not it is then accepted.
+unfoldable pub goesOn : Run → List Call → Run
+goesOn r [] = r
+goesOn r (c ∷ rest) = goesOn (answering r c (call (r .now .state) (r .now .buffer) (r .now .book) (r .now .used) c)) rest
+
+-- From a fresh state and an empty book.
+abbrev pub begins : List ℕ → List ℕ → Run
+begins buffer book = record { now = begun buffer book; accepted = []; farthest = 0 }
+
+abbrev pub ran : List Call → List ℕ → List ℕ → Run
+ran calls buffer book = goesOn (begins buffer book) calls
+
+-- A lent buffer with zeroes at its start, as far as a place.
+abbrev pub cleared : List ℕ → ℕ → List ℕ
+cleared buffer n = onto buffer (replicate n 0)
+
+-- What holds at every point of a run, whatever was refused and given up on the way: the accepted calls alone leave all that stands; behind the place the octets are zero as far as the farthest place from which an element was given up, and as lent behind; and the book is one that the next call takes.
+pub record Going (buffer book : List ℕ) (r : Run) : Type 0 where
+  pub alone : runCalls (r .accepted) (begun buffer book) ≡ ok (r .now) (r .now .state .place)
+  pub behind : drop (r .now .state .place) (r .now .buffer) ≡ drop (r .now .state .place) (cleared buffer (r .farthest))
+  pub layouts : Book
+  pub again : bookOf (r .now .book) (r .now .used) ≡ ok layouts (r .now .used)
+
+-- What a finished run has written: a document inside the limits, which is just what the accepted calls told. All stands as where that document is written with nothing refused or given up, over a buffer lent with zeroes as far as the farthest place from which an element was given up.
+pub record Wrote (buffer book : List ℕ) (r : Run) : Type 0 where
   pub document : Document
   pub good : Good document
-  pub said : told calls ≡ callsOf document
-  pub zeroes : ℕ
-  pub inside : length (image document) + zeroes ≤ length buffer
-  pub left : w ≡ finished document (over buffer (length (image document)) (replicate zeroes 0)) book
+  pub said : told (r .accepted) ≡ callsOf document
+  pub left : r .now ≡ finished document (cleared buffer (r .farthest)) book
