@@ -1,3 +1,4 @@
+pub mod Computed
 pub mod Answered
 pub mod Settles
 pub mod Asked
