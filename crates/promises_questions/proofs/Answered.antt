@@ -1,35 +1,32 @@
--- At each element of a reading by steps the questions answer that element, since they read what its own step reads; along a first-octet reading and along a second store's alike. Assumes nothing.
+-- At each element of a reading by steps the questions answer that element, since they read what its own step reads; and of an accepted header all that it holds. Assumes nothing.
 use Prim.Native.Nat.{ℕ, _+_, _≤_}
-use mathlib.Core.Path.{_≡_, refl, sym, ap, _∙_, subst}
+use mathlib.Core.Path.{_≡_, refl, ap, _∙_, subst}
 use mathlib.Core.List.{List, _∷_, _++_, append-assoc}
 use native.Mathlib.Omega.{arith}
 use native.Mathlib.Nat.{zero-add}
 use lib.ListN.{length, drop, length-append}
 use lib.Dec.{leb}
-use Rattle.octets.specs.Reading.{Read, ok, no, _then_, number}
+use Rattle.octets.specs.Reading.{Read, ok, no, number}
 use Rattle.octets.specs.Writing.{word, textImage, images, Each, Octet}
 use Rattle.octets.proofs.Spans.{Spans, middle, length-word}
 use Rattle.octets.proofs.Fields.{number-whole}
 use Rattle.octets.proofs.Inverse.{after, chosen, ok-value, ok-place}
 use Rattle.layouts.specs.Layout.{Attribute, Layout}
-use Rattle.layouts.specs.Book.{Book}
 use Rattle.headers.specs.Header.{Namespace, Header, headerFrom, headerAt, namespaceImage, headerImage, GoodHeader}
 use Rattle.headers.proofs.Headers.{header-inverse}
 use Rattle.rows.specs.Row.{Field, Row}
 use Rattle.elements.specs.Element.{Element, item, layout, row, finish, Stepped}
-use Rattle.elements.specs.Steps.{Placed, stepAt, Reading, reading, rowsOf}
+use Rattle.elements.specs.Steps.{Placed, stepAt}
 use Rattle.reading.specs.Answers.{headTells}
-use Rattle.questions.specs.Questions.{nth, rowOf, layoutOf, rowAsked, layoutAsked, fieldAsked, attributeAsked, partOf}
+use Rattle.questions.specs.Questions.{rowOf, layoutOf, rowAsked, layoutAsked, fieldAsked, attributeAsked, partOf}
 use Rattle.questions.specs.Answers.{octetsOf, fieldTells, kindTells}
 use Rattle.questions.proofs.Asked.{nth-none, nth-some, attribute-asked}
 use Rattle.questions.proofs.Line.{field-asked, field-unasked}
-use Rattle.questions.proofs.After.{row-after, layout-after, row-kind, row-refused}
+use Rattle.questions.proofs.After.{row-after, layout-after}
 use Rattle.strings.specs.Strings.{namespacesPlace, servicesPlace, namespaceAsked, serviceAsked}
-use Rattle.promises.specs.BySteps.{Left, left, stepOver, Ending, ended, refused, BySteps, answer, FromFirst, no-header, then-steps, Carries, Given, Meets, Stops}
-use Rattle.promises.specs.Resume.{CutAt, Taken, FirstLacking, Resumed}
-use Rattle.promises.proofs.Over.{one-first, meets}
-use Rattle.promises.proofs.Store.{demand-3}
-use Rattle.promises_questions.specs.Answered.{Items, RowAnswered, LayoutAnswered, EndAnswered, Answered, HeaderAnswered, Asked, AllAsked, FirstAsked, LackingAsked, ResumedAsked}
+use Rattle.promises.specs.BySteps.{Left, stepOver, Ending, BySteps, Given, Meets}
+use Rattle.promises.proofs.Over.{meets}
+use Rattle.promises_questions.specs.Answered.{Items, RowAnswered, LayoutAnswered, Answered, HeaderAnswered, AllAsked}
 
 -- A list that answers a question, item by item and behind its last.
 module _ {A : Type 0} {question : ℕ → Read A} (place : ℕ) (xs : List A) (next : ℕ) (items : Items question place xs next) where
@@ -77,27 +74,33 @@ module _ (s : List ℕ) (at : ℕ) (g : Given) (next : ℕ) where
   answered (finish n t) a b = record { no-row = no-field a; no-layout = b }
 
 -- An accepted step, by the element that it reads.
-stepped : {C : Type 0} (s : List ℕ) (at : ℕ) (g : Given) (l : Left) (next : ℕ) → stepOver s at (g .rows) (g .octets) (g .used) ≡ ok l next
+pub stepped : {C : Type 0} (s : List ℕ) (at : ℕ) (g : Given) (l : Left) (next : ℕ) → stepOver s at (g .rows) (g .octets) (g .used) ≡ ok l next
     → ((st : Stepped) → stepAt s at (g .rows) (g .octets) (g .used) ≡ ok st next → st .element ≡ l .element → C) → C
 unfolding stepOver
 stepped s at g l next e k =
     after (stepAt s at (g .rows) (g .octets) (g .used)) _ e λ st end e₁ e₂.
     k st (e₁ ∙ ap (ok st) (ok-place refl e₂)) (ap (λ (x : Left). x .element) (ok-value refl e₂))
 
+-- What its row and its layout are when asked with what an element's own step is given.
+module _ {s : List ℕ} {at rows used : ℕ} {octets : List ℕ} {before : List Placed} {p : Placed} (m : Meets s at rows octets used before p) where
+  pub row-is : rowAsked s (p .place) (m .given .rows) (m .given .octets) (m .given .used) ≡ rowOf (p .place) (p .element) (m .next)
+  row-is =
+      let g = m .given in
+      stepped s (p .place) g (m .left) (m .next) (m .steps) λ st e same.
+      row-after s (p .place) (g .rows) (g .octets) (g .used) st (m .next) e ∙ ap (λ (x : Element). rowOf (p .place) x (m .next)) (same ∙ m .element)
+
+  pub layout-is : layoutAsked s (p .place) (m .given .rows) (m .given .octets) (m .given .used) ≡ layoutOf (p .place) (p .element) (m .next)
+  layout-is =
+      let g = m .given in
+      stepped s (p .place) g (m .left) (m .next) (m .steps) λ st e same.
+      layout-after s (p .place) (g .rows) (g .octets) (g .used) st (m .next) e ∙ ap (λ (x : Element). layoutOf (p .place) x (m .next)) (same ∙ m .element)
+
 -- Each element of a reading by steps.
 pub asked : {s : List ℕ} {at rows used : ℕ} {octets : List ℕ} {elements : List Placed} {e : Ending} → BySteps s at rows octets used elements e
     → AllAsked s at rows octets used elements
 asked {s} d before p behind is =
     let m = meets before p behind d is in
-    let g = m .given in
-    record {
-      meets = m;
-      answers = stepped s (p .place) g (m .left) (m .next) (m .steps) λ st e same.
-          let el : st .element ≡ p .element = same ∙ m .element in
-          answered s (p .place) g (m .next) (p .element)
-          (row-after s (p .place) (g .rows) (g .octets) (g .used) st (m .next) e ∙ ap (λ (x : Element). rowOf (p .place) x (m .next)) el)
-          (layout-after s (p .place) (g .rows) (g .octets) (g .used) st (m .next) e ∙ ap (λ (x : Element). layoutOf (p .place) x (m .next)) el);
-    }
+    record { meets = m; answers = answered s (p .place) (m .given) (m .next) (p .element) (row-is m) (layout-is m) }
 
 -- An accepted header. Its octets are its image, in which each list's count stands behind what is before it.
 module _ (s : List ℕ) (o : Each Octet s) (h : Header) (next : ℕ) (e : headerAt s ≡ ok h next) where
@@ -134,7 +137,7 @@ module _ (s : List ℕ) (o : Each Octet s) (h : Header) (next : ℕ) (e : header
       count-stands (front ++ (word 4 (length (h .others)) ++ images namespaceImage (h .others))) (length (h .services)) back (servicesPlace h) (stands .0 .few-services)
       (simp append-assoc) (simp (length-append, length-word) (omega arith))
 
-  header-answered : HeaderAnswered s h next
+  pub header-answered : HeaderAnswered s h next
   unfolding namespaceAsked serviceAsked
   header-answered =
       let namespaces : Items (namespaceAsked s) (namespacesPlace h) (h .others) next = λ n. rw e refl in
@@ -152,67 +155,3 @@ module _ (s : List ℕ) (o : Each Octet s) (h : Header) (next : ℕ) (e : header
         service = services;
         definition = λ n x rest d. ap (partOf (λ (y : List ℕ). y)) (item-there (servicesPlace h) (h .services) next services n x rest d);
       }
-
--- The chain of an accepted document's reading.
-accepted : {s octets : List ℕ} {x : Read Reading} → FromFirst s octets x → (r : Reading) (end : ℕ) → x ≡ ok r end
-    → (next : ℕ) × (headerAt s ≡ ok (r .header) next) × BySteps s next 0 octets 0 (r .elements) (ended end)
-accepted (no-header e) r end is = absurd (let z : _≡_ {A = ℕ} 0 1 = cc in omega arith)
-accepted {s} {octets} (then-steps {h} {next} {elements} {e} e₁ d q) r end is = go e d (sym q ∙ is)
-  where
-    go : (e : Ending) → BySteps s next 0 octets 0 elements e → (answer elements e then λ all last. ok (record { header = h; elements = all }) last) ≡ ok r end
-        → (n : ℕ) × (headerAt s ≡ ok (r .header) n) × BySteps s n 0 octets 0 (r .elements) (ended end)
-    go (ended p) c z =
-        let same : _≡_ {A = Reading} (record { header = h; elements = elements }) r = ok-value refl z in
-        let place : p ≡ end = ok-place refl z in (
-          next,
-          e₁ ∙ ap (λ (x : Reading). ok (x .header) next) same,
-          subst (λ (x : Reading). BySteps s next 0 octets 0 (x .elements) (ended end)) same (subst (λ (n : ℕ). BySteps s next 0 octets 0 elements (ended n)) place c),
-        )
-    go (refused n p) c z = absurd (let w : _≡_ {A = ℕ} 0 1 = cc in omega arith)
-
-pub first-asked : (s : List ℕ) → Each Octet s → (octets : List ℕ) → 32768 ≤ length octets → FirstAsked s octets
-first-asked s o octets room =
-    record {
-      header = header-answered s o;
-      met = λ h next e elements z d. asked d;
-      all = λ r end e. let (next, h, d) = accepted (one-first s o octets room .steps) r end e in (next, h, asked d);
-    }
-
--- A refused step, as the element over the book that was lent.
-unstepped : (s : List ℕ) (at : ℕ) (g : Given) (n p : ℕ) → stepOver s at (g .rows) (g .octets) (g .used) ≡ no n p → stepAt s at (g .rows) (g .octets) (g .used) ≡ no n p
-unfolding stepOver
-unstepped s at g n p e = go (stepAt s at (g .rows) (g .octets) (g .used)) e
-  where
-    go : (r : Read Stepped) → (r then λ st next. ok (left (g .octets) st) next) ≡ no n p → r ≡ no n p
-    go (ok st next) e = absurd (let z : _≡_ {A = ℕ} 0 1 = cc in omega arith)
-    go (no m q) e = let number-is : m ≡ n = cc in let place : q ≡ p = cc in cc
-
--- A row of an accepted document whose step over another book is refused is refused so when asked: over its own book a row is read there.
-pub resumed-asked : (s : List ℕ) → Each Octet s → (before : List Placed) (here : Placed) (behind : List Placed) (end : ℕ) → CutAt s before here behind end
-    → (book : Book) → Taken (before ++ here ∷ behind) book → (octets : List ℕ) (used : ℕ) → Carries octets used book
-    → ResumedAsked s before here behind book octets used
-resumed-asked s o before here behind end cut book taken octets used carries =
-    record { same = λ all. asked (d .same all); lacks = λ met p lack. (asked (d .lacks met p lack), lacking met p lack); unneeded = λ h. asked (d .unneeded h) }
-  where
-    d : Resumed s before here behind end book octets used
-    d = demand-3 s o before here behind end cut book taken octets used carries
-
-    row-there : (met : List Placed) (p : Placed) → FirstLacking book (here ∷ behind) met p → number 4 s (p .place) ≡ ok 2 (p .place + 4)
-    row-there met p lack =
-        let (next, h, steps) = accepted (one-first s o octets (carries .room) .steps) (record { header = cut .header; elements = before ++ here ∷ behind }) end (cut .accepted) in
-        let split : before ++ here ∷ behind ≡ (before ++ met) ++ p ∷ lack .others =
-        ap (λ (x : List Placed). before ++ x) (lack .split) ∙ sym (append-assoc before met (p ∷ lack .others)) in
-        let m = meets (before ++ met) p (lack .others) steps split in
-        let g = m .given in
-        stepped s (p .place) g (m .left) (m .next) (m .steps) λ st e same.
-        row-kind s (p .place) (g .rows) (g .octets) (g .used) st (m .next) e (lack .lacking .its) (same ∙ (m .element ∙ lack .lacking .is-row))
-
-    lacking : (met : List Placed) (p : Placed) → FirstLacking book (here ∷ behind) met p → LackingAsked s (here .place) (rowsOf before) octets used met p
-    lacking met p lack =
-        let stop = d .there met p lack in
-        let g = stop .given in
-        record {
-          stops = stop;
-          refused = λ n. field-unasked s (p .place) (g .rows) (g .octets) (g .used) n 12 (p .place + 4)
-              (row-refused s (p .place) (g .rows) (g .octets) (g .used) 12 (p .place + 4) (row-there met p lack) (unstepped s (p .place) g 12 (p .place + 4) (stop .refuses)));
-        }

@@ -71,7 +71,7 @@ pub record HeaderAnswered (s : List ℕ) (h : Header) (next : ℕ) : Type 0 wher
   pub service : Items (serviceAsked s) (servicesPlace h) (h .services) next
   pub definition : AtEach (h .services) λ n x. partOf (λ y. y) (serviceAsked s n) ≡ x
 
--- Some elements, asked one by one with what the step at each is given: what the steps over those before it have left.
+-- An element, asked with what its own step is given: what the steps over those before it have left. And each of some elements so.
 pub record Asked (s : List ℕ) (at rows : ℕ) (octets : List ℕ) (used : ℕ) (before : List Placed) (p : Placed) : Type 0 where
   pub meets : Meets s at rows octets used before p
   pub answers : Answered s (p .place) (meets .given) (p .element) (meets .next)
@@ -79,6 +79,12 @@ pub record Asked (s : List ℕ) (at rows : ℕ) (octets : List ℕ) (used : ℕ)
 abbrev pub AllAsked : List ℕ → ℕ → ℕ → List ℕ → ℕ → List Placed → Type 0
 AllAsked s at rows octets used elements =
     (before : List Placed) (p : Placed) (behind : List Placed) → elements ≡ before ++ p ∷ behind → Asked s at rows octets used before p
+
+-- Two askings about a place are answered alike: every field, the layout, every attribute, and every refusal.
+pub record SameAnswers (s : List ℕ) (at : ℕ) (g f : Given) : Type 0 where
+  pub field : (n : ℕ) → fieldAsked s at (g .rows) (g .octets) (g .used) n ≡ fieldAsked s at (f .rows) (f .octets) (f .used) n
+  pub layout : layoutAsked s at (g .rows) (g .octets) (g .used) ≡ layoutAsked s at (f .rows) (f .octets) (f .used)
+  pub attribute : (n : ℕ) → attributeAsked s at (g .rows) (g .octets) (g .used) n ≡ attributeAsked s at (f .rows) (f .octets) (f .used) n
 
 -- Demand 2: what is promised of the questions along a first-octet reading over lent octets.
 pub record FirstAsked (s octets : List ℕ) : Type 0 where
@@ -96,10 +102,13 @@ pub record LackingAsked (s : List ℕ) (at rows : ℕ) (octets : List ℕ) (used
 
 -- Demand 3: what is promised of the questions along the steps from an element of an accepted document on, told the rows before it, over lent octets that carry a book taken from it.
 pub record ResumedAsked (s : List ℕ) (before : List Placed) (here : Placed) (behind : List Placed) (book : Book) (octets : List ℕ) (used : ℕ) : Type 0 where
-  -- With at least every layout met before the element, every element from there on is answered as a first-octet reading has it.
+  -- With at least every layout met before the element, every element of the first-octet reading from there on.
   pub same : AllIn (layoutsOf before) book → AllAsked s (here .place) (rowsOf before) octets used (here ∷ behind)
   -- With some lacking, every element up to the first row that names one, and that row is refused.
   pub lacks : (met : List Placed) (p : Placed) → FirstLacking book (here ∷ behind) met p
       → AllAsked s (here .place) (rowsOf before) octets used met × LackingAsked s (here .place) (rowsOf before) octets used met p
   -- With some lacking that no row names so, every element.
   pub unneeded : ((met : List Placed) (p : Placed) → FirstLacking book (here ∷ behind) met p → ⊥) → AllAsked s (here .place) (rowsOf before) octets used (here ∷ behind)
+  -- And each of them just as along the first-octet reading, over whatever octets that is lent.
+  pub alike : (met : List Placed) (p : Placed) (lent : List ℕ) (first : ℕ) (m : Meets s first 0 lent 0 (before ++ met) p) (k : Meets s (here .place) (rowsOf before) octets used met p)
+      → SameAnswers s (p .place) (m .given) (k .given)
