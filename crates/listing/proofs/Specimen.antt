@@ -17,7 +17,7 @@ use Rattle.printing.specs.Text.{digits}
 use Rattle.dates.specs.declared.Date.{Date}
 use Rattle.dates.specs.Calendar.{yearDays, monthDays, yearsDays, monthsDays, DateOf}
 use Rattle.dates.specs.Times.{dated}
-use Rattle.promises.specs.Cases.{specimen}
+use Rattle.promises.specs.Specimen.{specimen}
 use Rattle.listing.specs.Lines.{timed, of-layout, of-row, of-end, last, more, Listing, headed}
 use Rattle.listing.specs.Specimen.{fiveLines}
 

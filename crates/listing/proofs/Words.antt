@@ -1,4 +1,4 @@
--- Words of a line: those that are printed as they are, and a row's fields one after another.
+-- Words of a line: those that are printed as they are, and fields one after another.
 use mathlib.Core.Path.{_≡_, refl, ap, _∙_}
 use mathlib.Core.List.{List, [], _∷_, _++_}
 use Prim.Native.Nat.{ℕ, suc, _+_, _<_}
@@ -10,12 +10,11 @@ use Rattle.octets.specs.Writing.{images}
 use Rattle.kinds.specs.Kinds.{formOf}
 use Rattle.kinds.specs.declared.Form.{Form}
 use Rattle.kinds.specs.declared.Kind.{Kind}
-use Rattle.rows.specs.Row.{Field, Row}
-use Rattle.questions.specs.Questions.{rowAsked, fieldAsked, partOf}
+use Rattle.rows.specs.Row.{Field}
+use Rattle.questions.specs.Questions.{partOf}
 use Rattle.questions.specs.Answers.{valueOf, octetsOf, fieldTells}
 use Rattle.questions.specs.declared.Value.{Value}
 use Rattle.questions.specs.declared.Fielded.the-variants.{Is}
-use Rattle.questions.proofs.Asked.{nth-some}
 use Rattle.printing.specs.Text.{Prints, showing}
 use Rattle.printing.specs.declared.Show.the-variants.{Plain}
 use Rattle.printing.proofs.Puts.{says, plain, images-more}
@@ -42,9 +41,3 @@ pub one-more : {A : Type 0} (f : A → List ℕ) (xs : List A) (i : ℕ) → i <
     → (x : A) × (rest : List A) × (drop i xs ≡ x ∷ rest) × (images f (take (i + 1) xs) ≡ images f (take i xs) ++ f x)
 one-more f [] i h = absurd (omega arith)
 one-more f (d ∷ xs) i h = (getD (d ∷ xs) i d, drop (suc i) (d ∷ xs), drop-cons (d ∷ xs) i d h, images-more f (d ∷ xs) i d h)
-
--- A row's field.
-pub nth-field : (s : List ℕ) (at rows : ℕ) (octets : List ℕ) (used i : ℕ) (row : Row) (next : ℕ) (f : Field) (rest : List Field)
-    → rowAsked s at rows octets used ≡ ok row next → drop i (row .fields) ≡ f ∷ rest → fieldAsked s at rows octets used i ≡ ok f next
-unfolding fieldAsked
-nth-field s at rows octets used i row next f rest e d = rw e (nth-some i at (row .fields) next d)

@@ -14,7 +14,7 @@ use Rattle.rows.specs.Row.{valueIn, fieldsIn, valuesAt, rowAt}
 use Rattle.headers.specs.Header.{Header, namespaceAt, idAt, headerFrom, headerAt}
 use Rattle.elements.specs.Element.{Stepped, finishAt, elementAt}
 use Rattle.elements.specs.Steps.{lentBook, stepAt, elementsFrom, reading, whole}
-use Rattle.promises.specs.Cases.{specimen, layoutBook, emptyBook}
+use Rattle.promises.specs.Specimen.{specimen, layoutBook, emptyBook}
 use Rattle.promises.specs.Refusals.{refusalOf, refusalsOf, headerNumbers, elementNumbers, stepNumbers, wholeNumbers, Inputs, Refusals}
 use Rattle.promises.proofs.Numbers.{header-only, step-only, whole-only}
 

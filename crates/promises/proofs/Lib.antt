@@ -1,4 +1,3 @@
-pub mod Computed
 pub mod Documents
 pub mod Run
 pub mod Over

@@ -18,7 +18,7 @@ use Rattle.layouts.specs.Book.{Book, bookImage, bookOf}
 use Rattle.headers.specs.Header.{Header, headerAt}
 use Rattle.elements.specs.Element.{layout, item, Stepped, elementAt}
 use Rattle.elements.specs.Steps.{holding, lentBook, stepAt, Placed, isLast, elementsFrom, readingFrom, Reading, reading, asRow, rowsOf, whole}
-use Rattle.promises.specs.BySteps.{Left, left, stepOver, Ending, ended, refused, BySteps, stop, last, more, answer, FromFirst, no-header, then-steps, Carries, Few, OneReading, OneFirst, Appends, Counted}
+use Rattle.promises.specs.BySteps.{Left, left, stepOver, Ending, ended, refused, BySteps, stop, last, more, answer, FromFirst, no-header, then-steps, Carries, Few, OneReading, OneFirst, Appends, stepsOver, Meets, Stops}
 use Rattle.octets.proofs.Ends.{number-no}
 use Rattle.octets.proofs.Inverse.{ok-value, ok-place, after, chosen}
 use Rattle.layouts.proofs.Books.{GoodBook, Lent, image-nil, image-snoc, book-back, book-forth}
@@ -85,6 +85,22 @@ module _ (s : List ℕ) (o : Each Octet s) (short : length s ≤ 1048576) where
   halts (q ∷ ps) x y a h ends e =
       let t : isLast (h .0 .element) ≡ false = subst (λ (z : Placed). isLast (z .element) ≡ false) (h .3) (ends .0) in
       rw (h .3) (more (over-ok a (h .2)) t (halts ps (behind (h .0) (h .1)) y (onward a (h .2) t) (h .4) (ends .1) e))
+
+  -- The step that is refused there.
+  pub stops : (ps : List Placed) (x y : Spot) {octets : List ℕ} {used n p : ℕ} → InStep s (x .at) (x .rows) octets used (x .book) → Steps s x ps y → NoEnd ps
+      → elementAt s (y .at) (y .rows) (y .book) ≡ no n p → Stops s (x .at) (x .rows) octets used ps (y .at) n p
+  unfolding stepsOver
+  stops [] x y {octets} {used} {n} {p} a h ends e =
+      subst (λ (z : Spot). Stops s (x .at) (x .rows) octets used [] (z .at) n p) h
+      (record {
+        given = record { rows = x .rows; octets = octets; used = used };
+        comes = refl;
+        refuses = over-no a (subst (λ (z : Spot). elementAt s (z .at) (z .rows) (z .book) ≡ no n p) (sym h) e);
+      })
+  stops (q ∷ ps) x y a h ends e =
+      let t : isLast (h .0 .element) ≡ false = subst (λ (z : Placed). isLast (z .element) ≡ false) (h .3) (ends .0) in
+      let m = stops ps (behind (h .0) (h .1)) y (onward a (h .2) t) (h .4) (ends .1) e in
+      record { given = m .given; comes = rw (over-ok a (h .2)) (m .comes); refuses = m .refuses }
 
   -- The reading over a book in hand, by steps.
   abbrev Goes : ℕ → ℕ → ℕ → Book → List ℕ → ℕ → Type 0
@@ -267,28 +283,42 @@ not-in (x ∷ a) q b e = let z : _≡_ {A = ℕ} 0 1 = cc in omega arith
 tails : {A : Type 0} {x y : A} {xs ys : List A} → x ∷ xs ≡ y ∷ ys → (x ≡ y) × (xs ≡ ys)
 tails e = (cc, cc)
 
-counted-here : (s : List ℕ) (at rows : ℕ) (octets : List ℕ) (used : ℕ) (l : Left) (next : ℕ) (q : Placed) → stepOver s at rows octets used ≡ ok l next
-    → record { place = at; element = l .element } ≡ q → Counted s (rows + 0) q
-counted-here s at rows octets used l next q e is =
-    subst (Counted s (rows + 0)) is
+-- The element that a step reads, which some steps come to.
+meets-here : (s : List ℕ) (at rows : ℕ) (octets : List ℕ) (used : ℕ) (l : Left) (next : ℕ) (q : Placed) → stepOver s at rows octets used ≡ ok l next
+    → record { place = at; element = l .element } ≡ q → Meets s at rows octets used [] q
+unfolding stepsOver
+meets-here s at rows octets used l next q e is =
+    subst (Meets s at rows octets used []) is
     (record {
-      octets = octets;
-      used = used;
+      given = record { rows = rows; octets = octets; used = used };
       left = l;
       next = next;
-      steps = rw (add-zero rows) e;
+      comes = refl;
+      steps = e;
       element = refl;
-      counts = rw (add-zero rows) (step-counts s at rows octets used l next e);
+      told = sym (add-zero rows);
+      counts = step-counts s at rows octets used l next e;
     })
 
-pub counted : {s : List ℕ} {at rows used : ℕ} {octets : List ℕ} {ps : List Placed} {e : Ending} (a : List Placed) (q : Placed) (b : List Placed)
-    → BySteps s at rows octets used ps e → ps ≡ a ++ q ∷ b → Counted s (rows + rowsOf a) q
-counted a q b (stop e) is = absurd (not-in a q b is)
-counted {s} [] q b (last {at} {rows} {used} {next} {octets} {l} e t) is = counted-here s at rows octets used l next q e (tails is .0)
-counted (x ∷ a) q b (last e t) is = absurd (not-in a q b (tails is .1))
-counted {s} [] q b (more {at} {rows} {used} {next} {octets} {l} e t d) is = counted-here s at rows octets used l next q e (tails is .0)
-counted {s} (x ∷ a) q b (more {at} {rows} {used} {next} {octets} {l} e t d) is =
+pub meets : {s : List ℕ} {at rows used : ℕ} {octets : List ℕ} {ps : List Placed} {e : Ending} (a : List Placed) (q : Placed) (b : List Placed)
+    → BySteps s at rows octets used ps e → ps ≡ a ++ q ∷ b → Meets s at rows octets used a q
+unfolding stepsOver
+meets a q b (stop e) is = absurd (not-in a q b is)
+meets {s} [] q b (last {at} {rows} {used} {next} {octets} {l} e t) is = meets-here s at rows octets used l next q e (tails is .0)
+meets (x ∷ a) q b (last e t) is = absurd (not-in a q b (tails is .1))
+meets {s} [] q b (more {at} {rows} {used} {next} {octets} {l} e t d) is = meets-here s at rows octets used l next q e (tails is .0)
+meets {s} (x ∷ a) q b (more {at} {rows} {used} {next} {octets} {l} e t d) is =
     let (i, j) = tails is in
+    let m = meets a q b d j in
     let same : l .element ≡ x .element = ap (λ (p : Placed). p .element) i in
     let sum : l .rows + rowsOf a ≡ rows + (asRow (x .element) + rowsOf a) = rw (← same) (omega (arith, step-counts s at rows octets used l next e)) in
-    subst (λ (n : ℕ). Counted s n q) sum (counted a q b d j)
+    record {
+      given = m .given;
+      left = m .left;
+      next = m .next;
+      comes = rw e (m .comes);
+      steps = m .steps;
+      element = m .element;
+      told = m .told ∙ sum;
+      counts = m .counts;
+    }

@@ -16,14 +16,14 @@ use Rattle.rows.specs.Row.{Row}
 use Rattle.headers.specs.Header.{headerAt}
 use Rattle.elements.specs.Element.{layout, row, Element, item, finish, Stepped, elementAt}
 use Rattle.elements.specs.Steps.{Placed, elementsFrom, Reading, reading, rowsOf}
-use Rattle.promises.specs.BySteps.{ended, refused, BySteps, Carries, Few}
+use Rattle.promises.specs.BySteps.{ended, refused, BySteps, Carries, Few, Stops}
 use Rattle.promises.specs.Resume.{layoutOf, layoutsOf, Once, AllIn, CutAt, Taken, Lacking, FirstLacking, Resumed}
 use Rattle.octets.proofs.Inverse.{ok-value, ok-place, after}
 use Rattle.layouts.proofs.Finding.{none-some, absent, some-same, find-number, find-member, member-find, each-find, Within, total-within, total-length, total-image}
 use Rattle.layouts.proofs.Books.{GoodBook}
 use Rattle.layouts.proofs.Growing.{Alike, good-nil}
 use Rattle.promises.proofs.Run.{Spot, Steps, steps-split, steps-rows, Gains, steps-gain, Ends, ends-split, steps-few, Ran, ran}
-use Rattle.promises.proofs.Over.{InStep, header-short, reaches, halts}
+use Rattle.promises.proofs.Over.{InStep, header-short, reaches, halts, stops}
 use Rattle.promises.proofs.Beside.{Known, Covered, present, alike-none, Resumes, resumes, lacks, steps-alike, Under, covers}
 
 -- Rows that are covered, and the first that is not.
@@ -200,7 +200,10 @@ module _ (s : List ℕ) (o : Each Octet s) (before : List Placed) (here : Placed
         rw (← q, x) refl
 
     -- Up to the first row whose layout is neither in the book nor met since, the steps are the same, and there they are refused.
-    lacking-stops : (met : List Placed) (p : Placed) → FirstLacking book (here ∷ rest) met p → BySteps s (here .place) (rowsOf before) octets used met (refused 12 (p .place + 4))
+    abbrev Lacks : List Placed → ℕ → ℕ → ℕ → Type 0
+    Lacks met q at rows = BySteps s at rows octets used met (refused 12 (q + 4)) × Stops s at rows octets used met q 12 (q + 4)
+
+    lacking-stops : (met : List Placed) (p : Placed) → FirstLacking book (here ∷ rest) met p → Lacks met (p .place) (here .place) (rowsOf before)
     lacking-stops met p lack =
         let c : AtCut s before here rest end = at-here in
         let f : Book = c .final .book in
@@ -218,10 +221,12 @@ module _ (s : List ℕ) (o : Each Octet s) (before : List Placed) (here : Placed
         let is : st .element ≡ item (row w) = ap (λ (x : Placed). x .element) (sym (parts .2 .3)) ∙ lack .lacking .is-row in
         let stop : elementAt s (mid .at) (mid .rows) (t .book) ≡ no 12 (mid .at + 4) = lacks s (mid .at) (mid .rows) (mid .book) st (parts .2 .1) w (t .book) (parts .2 .2) is none-there in
         let there : mid .at ≡ p .place = ap (λ (x : Placed). x .place) (sym (parts .2 .3)) in
-        from-here (λ a n. BySteps s a n octets used met (refused 12 (p .place + 4)))
-        (subst (λ (q : ℕ). BySteps s (c .spot .at) (c .spot .rows) octets used met (refused 12 (q + 4))) there
-        (halts s o (c .short) met (record { at = c .spot .at; rows = c .spot .rows; book = book }) (record { at = mid .at; rows = mid .rows; book = t .book })
-        in-step (t .steps) (ends-split met p (lack .others) ends .0) stop))
+        let from : Spot = record { at = c .spot .at; rows = c .spot .rows; book = book } in
+        let to : Spot = record { at = mid .at; rows = mid .rows; book = t .book } in
+        let on = ends-split met p (lack .others) ends .0 in
+        from-here (Lacks met (p .place))
+        (subst (λ (q : ℕ). Lacks met q (c .spot .at) (c .spot .rows)) there
+        (halts s o (c .short) met from to in-step (t .steps) on stop, stops s o (c .short) met from to in-step (t .steps) on stop))
 
     covered-or-not : ((met : List Placed) (p : Placed) → FirstLacking book (here ∷ rest) met p → ⊥) → Covered book (here ∷ rest) ⊎ Found book (here ∷ rest) → Covered book (here ∷ rest)
     covered-or-not h (inl c) = c
@@ -232,7 +237,8 @@ module _ (s : List ℕ) (o : Each Octet s) (before : List Placed) (here : Placed
     resumed =
         record {
           same = λ all. covered-same (covers s (here ∷ rest) (at-here .spot) (at-here .final) book (at-here .steps) (under all));
-          lacks = lacking-stops;
+          lacks = λ met p lack. lacking-stops met p lack .0;
+          there = λ met p lack. lacking-stops met p lack .1;
           unneeded = λ h. covered-same (covered-or-not h (covered-or (here ∷ rest) book));
         }
 

@@ -1,5 +1,5 @@
 -- Reading by steps: each step is given the lent octets and the used count that the step before left.
-use Prim.Native.Nat.{ℕ, _+_, _-_, _≤_}
+use Prim.Native.Nat.{ℕ, zero, suc, _+_, _-_, _≤_}
 use mathlib.Core.Path.{_≡_}
 use mathlib.Core.List.{List, [], _∷_}
 use mathlib.Core.Bool.{true, false}
@@ -82,12 +82,30 @@ Appends octets used l =
     ((l .octets ≡ octets) × (l .used ≡ used))
     ⊎ ((m : Layout) × (l .element ≡ item (layout m)) × (l .octets ≡ over octets used (layoutImage m)) × (l .used ≡ used + length (layoutImage m)))
 
--- What is promised of rows at each element of a reading by steps: its step is told the rows before it, and answers one more behind a row.
-pub record Counted (s : List ℕ) (rows : ℕ) (p : Placed) : Type 0 where
+-- What a step is given beside the document and its place.
+pub record Given : Type 0 where
+  pub rows : ℕ
   pub octets : List ℕ
   pub used : ℕ
+
+-- What the step behind k accepted ones is given, and its place: just what the one before it answered and left.
+unfoldable pub stepsOver : ℕ → List ℕ → ℕ → ℕ → List ℕ → ℕ → Read Given
+stepsOver zero s at rows octets used = ok (record { rows = rows; octets = octets; used = used }) at
+stepsOver (suc k) s at rows octets used = stepOver s at rows octets used then λ l next. stepsOver k s next (l .rows) (l .octets) (l .used)
+
+-- What is promised of each element of a reading by steps: its step is given what the steps over the elements before it have left, and reads it. It is told the rows before it, and answers one more behind a row.
+pub record Meets (s : List ℕ) (at rows : ℕ) (octets : List ℕ) (used : ℕ) (before : List Placed) (p : Placed) : Type 0 where
+  pub given : Given
   pub left : Left
   pub next : ℕ
-  pub steps : stepOver s (p .place) rows octets used ≡ ok left next
+  pub comes : stepsOver (length before) s at rows octets used ≡ ok given (p .place)
+  pub steps : stepOver s (p .place) (given .rows) (given .octets) (given .used) ≡ ok left next
   pub element : left .element ≡ p .element
-  pub counts : left .rows ≡ rows + asRow (p .element)
+  pub told : given .rows ≡ rows + rowsOf before
+  pub counts : left .rows ≡ given .rows + asRow (p .element)
+
+-- The step at a place, behind some elements, is refused.
+pub record Stops (s : List ℕ) (at rows : ℕ) (octets : List ℕ) (used : ℕ) (before : List Placed) (place n p : ℕ) : Type 0 where
+  pub given : Given
+  pub comes : stepsOver (length before) s at rows octets used ≡ ok given place
+  pub refuses : stepOver s place (given .rows) (given .octets) (given .used) ≡ no n p

@@ -1,4 +1,4 @@
-pub mod Cases
+pub mod Specimen
 pub mod Meaning
 pub mod BySteps
 pub mod Resume

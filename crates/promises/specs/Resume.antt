@@ -10,7 +10,7 @@ use Rattle.rows.specs.Row.{Row}
 use Rattle.headers.specs.Header.{Header}
 use Rattle.elements.specs.Element.{layout, row, Element, item, finish}
 use Rattle.elements.specs.Steps.{Placed, reading, rowsOf}
-use Rattle.promises.specs.BySteps.{ended, refused, BySteps}
+use Rattle.promises.specs.BySteps.{ended, refused, BySteps, Stops}
 
 -- An accepted document and one of its elements, with those before it and those behind it.
 pub record CutAt (s : List ℕ) (before : List Placed) (here : Placed) (behind : List Placed) (end : ℕ) : Type 0 where
@@ -61,6 +61,9 @@ pub record Resumed (s : List ℕ) (before : List Placed) (here : Placed) (behind
   -- With some lacking, the elements are the same up to the first row that names one, which is refused by 12 at its layout's number.
   pub lacks : (met : List Placed) (p : Placed) → FirstLacking book (here ∷ behind) met p
       → BySteps s (here .place) (rowsOf before) octets used met (refused 12 (p .place + 4))
+  -- It is that row's own step that is refused.
+  pub there : (met : List Placed) (p : Placed) → FirstLacking book (here ∷ behind) met p
+      → Stops s (here .place) (rowsOf before) octets used met (p .place) 12 (p .place + 4)
   -- With some lacking that no row names so, all are the same.
   pub unneeded : ((met : List Placed) (p : Placed) → FirstLacking book (here ∷ behind) met p → ⊥)
       → BySteps s (here .place) (rowsOf before) octets used (here ∷ behind) (ended end)

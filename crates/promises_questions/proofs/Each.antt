@@ -15,7 +15,7 @@ use Rattle.elements.specs.Element.{elementAt}
 use Rattle.elements.specs.Steps.{lentBook}
 use Rattle.questions.specs.Questions.{kindAsked, bookAsked, nth, rowAsked, fieldAsked, layoutAsked, attributeAsked}
 use Rattle.strings.specs.Strings.{namespaceAsked, serviceAsked}
-use Rattle.promises.specs.Cases.{specimen, layoutBook, emptyBook}
+use Rattle.promises.specs.Specimen.{specimen, layoutBook, emptyBook}
 use Rattle.promises.specs.Refusals.{refusalOf, refusalsOf, Inputs}
 use Rattle.promises.proofs.Given.{layouts, long, too-long, header-long}
 use Rattle.promises_questions.specs.Numbers.{fieldNumbers, layoutNumbers, attributeNumbers, listedNumbers, Indexed, Listed, Numbers}

@@ -1,2 +1,4 @@
+pub mod Cases
+pub mod Answered
 pub mod Entries
 pub mod Numbers

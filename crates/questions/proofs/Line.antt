@@ -26,7 +26,7 @@ use Rattle.rows.specs.Answers.{Shape, shape}
 use Rattle.rows.proofs.Rows.{fields-inverse}
 use Rattle.rows.proofs.Values.{fields-none, fields-on}
 use Rattle.rows.proofs.Lengths.{fields-length, values-length}
-use Rattle.questions.specs.Questions.{bookAsked, rowAsked, fieldAsked}
+use Rattle.questions.specs.Questions.{bookAsked, nth, rowAsked, fieldAsked}
 use Rattle.questions.specs.Places.{Line, NthField, Spotted}
 use Rattle.questions.proofs.Asked.{asked-is, nth-none, nth-some}
 
@@ -213,6 +213,10 @@ module _ (s : List ℕ) (at rows : ℕ) (octets : List ℕ) (used : ℕ) where
     pub field-unasked : (m p : ℕ) → rowAsked s at rows octets used ≡ no m p → fieldAsked s at rows octets used n ≡ no m p
     unfolding fieldAsked
     field-unasked m p e = rw e refl
+
+    pub field-asked : (r : Row) (next : ℕ) → rowAsked s at rows octets used ≡ ok r next → fieldAsked s at rows octets used n ≡ nth n at (r .fields) next
+    unfolding fieldAsked
+    field-asked r next e = rw e refl
 
     module _ (place count first end : ℕ) (l : Line s (take used octets) (rowAsked s at rows octets used) place count first end) where
       many : length (l .row .fields) ≡ count

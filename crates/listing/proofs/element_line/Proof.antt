@@ -1,10 +1,12 @@
 -- `listing::element_line` meets its contract, by the element that the answer tells. Assumes nothing.
 use borrow.Author.Needs.{needs}
-use mathlib.Core.Path.{sym, _∙_, subst}
+use mathlib.Core.Path.{sym, ap, _∙_, subst}
 use denote.Ref.{now}
 use Rattle.elements.specs.Element.{Element}
+use Rattle.questions.specs.Questions.{rowOf, layoutOf}
+use Rattle.questions.proofs.After.{row-after, layout-after}
 use Rattle.listing.specs.Lines.{layoutText, rowText, ElementText, of-layout, of-row, of-end}
-use Rattle.listing.proofs.Stepping.{met-layout, met-row, met-end, asked-layout, asked-row}
+use Rattle.listing.proofs.Stepping.{met-layout, met-row, met-end}
 use Rattle.listing.proofs.element_line.Statement.{statement}
 use Rattle.listing.proofs.element_line.Tie as tie
 
@@ -18,7 +20,8 @@ returns c =
     record {
       text = layoutText (a .at) l;
       right = subst (λ (x : Element). ElementText (a .at) x (layoutText (a .at) l)) (sym here) (of-layout l);
-      prints = line .layout-line .ensures l next (asked-layout (now (a .doc)) (a .at) (a .rows) (now (a .book)) (a .used) st next e l here) number count;
+      prints = line .layout-line .ensures l next
+          (layout-after (now (a .doc)) (a .at) (a .rows) (now (a .book)) (a .used) st next e ∙ ap (λ (x : Element). layoutOf (a .at) x next) here) number count;
     }
 
 returns-2 : tie.Need-returns-2
@@ -31,7 +34,8 @@ returns-2 c =
     record {
       text = rowText (a .at) r;
       right = subst (λ (x : Element). ElementText (a .at) x (rowText (a .at) r)) (sym here) (of-row r);
-      prints = line .row-line .ensures r next (asked-row (now (a .doc)) (a .at) (a .rows) (now (a .book)) (a .used) st next e r here) number count;
+      prints = line .row-line .ensures r next
+          (row-after (now (a .doc)) (a .at) (a .rows) (now (a .book)) (a .used) st next e ∙ ap (λ (x : Element). rowOf (a .at) x next) here) number count;
     }
 
 returns-3 : tie.Need-returns-3

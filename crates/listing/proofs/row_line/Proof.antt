@@ -11,10 +11,12 @@ use Rattle.octets.specs.Reading.{ok}
 use Rattle.octets.specs.Writing.{images}
 use Rattle.rows.specs.Row.{Field, Row}
 use Rattle.questions.specs.Questions.{rowAsked}
+use Rattle.questions.proofs.Asked.{nth-some}
+use Rattle.questions.proofs.Line.{field-asked}
 use Rattle.printing.specs.Text.{Prints}
 use Rattle.printing.proofs.Puts.{then, says, nothing, images-none}
 use Rattle.listing.specs.Lines.{numbered, fieldText}
-use Rattle.listing.proofs.Words.{one-more, nth-field}
+use Rattle.listing.proofs.Words.{one-more}
 use Rattle.listing.proofs.row_line.Statement.{statement}
 use Rattle.listing.proofs.row_line.Tie as tie
 
@@ -46,7 +48,8 @@ loop-again c =
           let (f, rest, is, more) = one-more spaced (row .fields) (l .i) (omega arith) in
           says (sym more)
           (then (l .inv .2 row next e count)
-          (one .field-word .ensures f next (nth-field (now (a .doc)) (a .at) (a .rows) (now (a .book)) (a .used) (l .i) row next f rest e is))),
+          (one .field-word .ensures f next
+          (field-asked (now (a .doc)) (a .at) (a .rows) (now (a .book)) (a .used) (l .i) row next e ∙ nth-some (l .i) (a .at) (row .fields) next is))),
     )
 
 returns : tie.Need-returns Inv-loop μ-loop

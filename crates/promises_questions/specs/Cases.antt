@@ -2,9 +2,9 @@
 use Prim.Native.Nat.{ℕ}
 use mathlib.Core.List.{List, [], _∷_, _++_}
 use mathlib.Core.Bool.{Bool, true, false}
-use lib.ListN.{take, drop, set, replicate}
+use lib.ListN.{take, set}
 use lib.IntN.{ℤ, negsuc}
-use Rattle.octets.specs.Reading.{Read, ok, no, _then_, part}
+use Rattle.octets.specs.Reading.{Read, ok, no, _then_}
 use Rattle.kinds.specs.declared.Basic.{Basic}
 use Rattle.kinds.specs.declared.Basic.the-variants.{UnsignedInt, Byte, Short}
 use Rattle.kinds.specs.Kinds.{signed}
@@ -12,6 +12,12 @@ use Rattle.layouts.specs.Layout.{Attribute}
 use Rattle.rows.specs.Row.{bits}
 use Rattle.elements.specs.Element.{layout, row, item, finish}
 use Rattle.elements.specs.Steps.{Placed, readingFrom, reading, whole}
+use Rattle.questions.specs.Questions.{fieldAsked}
+use Rattle.questions.specs.Answers.{fieldTells}
+use Rattle.questions.specs.declared.Fielded.{Fielded}
+use Rattle.questions.specs.declared.Fielded.the-variants.{Is}
+use Rattle.questions.specs.declared.Value.the-variants as value
+use Rattle.promises.specs.Specimen.{specimen, shorts, layoutBook, shortBook, emptyBook}
 
 -- What a case asks.
 pub data Asked : Type 0 where
@@ -21,48 +27,28 @@ pub data Asked : Type 0 where
   read : List ℕ → Asked
   -- Those from a place, told the rows before it, over lent octets and how many of them are used.
   resume : List ℕ → ℕ → ℕ → List ℕ → ℕ → Asked
+  -- Field n of the row at a place, from a step's inputs.
+  field : List ℕ → ℕ → ℕ → List ℕ → ℕ → ℕ → Asked
   -- The signed number that bits in so many octets are.
   sign : ℕ → ℕ → Asked
 
--- What it is answered: a row count, elements with all that they hold, each with the next place or refused by number and place; or a number.
+-- What it is answered: a row count, elements with all that they hold, each with the next place or refused by number and place; a field's type and value; or a number.
 pub data Answer : Type 0 where
   rows : Read ℕ → Answer
   elements : Read (List Placed) → Answer
+  told : Fielded → Answer
   number : ℤ → Answer
 
 abbrev pub answers : Asked → Answer
 answers (check s) = rows (whole s)
 answers (read s) = elements (reading s then λ r end. ok (r .elements) end)
 answers (resume s at passed octets used) = elements (readingFrom s at passed octets used)
+answers (field s at passed octets used n) = told (fieldTells (fieldAsked s at passed octets used n))
 answers (sign w n) = number (signed w n)
 
 pub record Case : Type 0 where
   pub asked : Asked
   pub answer : Answer
-
--- The specimen: the header, the layout at 52, the rows at 87 and 104, the end at 121.
-unfoldable pub specimen : List ℕ
-specimen =
-    0 ∷ 0 ∷ 0 ∷ 4 ∷ 0 ∷ 0 ∷ 0 ∷ 0 ∷ 0 ∷ 0 ∷ 0 ∷ 0 ∷ 0 ∷ 1 ∷ 0x51 ∷ 0x80 ∷ 0 ∷ 0 ∷ 0 ∷ 0 ∷ 0 ∷ 0 ∷ 0 ∷ 0 ∷ 0 ∷ 0 ∷ 0 ∷ 0
-    ∷ 0 ∷ 0 ∷ 0 ∷ 16 ∷ 0 ∷ 0 ∷ 0 ∷ 0 ∷ 0 ∷ 0 ∷ 0 ∷ 0 ∷ 0 ∷ 0 ∷ 0 ∷ 0 ∷ 0 ∷ 0 ∷ 0 ∷ 0 ∷ 0xff ∷ 0xff ∷ 0xff ∷ 0xff
-    ∷ 0 ∷ 0 ∷ 0 ∷ 1 ∷ 0 ∷ 0 ∷ 0 ∷ 7 ∷ 0 ∷ 0 ∷ 0 ∷ 1 ∷ 0x41 ∷ 0 ∷ 0 ∷ 0 ∷ 2 ∷ 0 ∷ 0 ∷ 0 ∷ 1 ∷ 0x75 ∷ 0 ∷ 0 ∷ 0 ∷ 0x22 ∷ 0 ∷ 0 ∷ 0 ∷ 1 ∷ 0x64 ∷ 0 ∷ 0 ∷ 0 ∷ 0x2a
-    ∷ 0 ∷ 0 ∷ 0 ∷ 2 ∷ 0 ∷ 0 ∷ 0 ∷ 7 ∷ 0 ∷ 0 ∷ 0 ∷ 5 ∷ 0 ∷ 0 ∷ 0 ∷ 10 ∷ 0xfe
-    ∷ 0 ∷ 0 ∷ 0 ∷ 2 ∷ 0 ∷ 0 ∷ 0 ∷ 7 ∷ 0xff ∷ 0xff ∷ 0xff ∷ 0xff ∷ 0 ∷ 0 ∷ 0 ∷ 0 ∷ 127
-    ∷ 0 ∷ 0 ∷ 0 ∷ 3 ∷ 0 ∷ 0 ∷ 0 ∷ 2 ∷ 0 ∷ 0 ∷ 0 ∷ 0 ∷ 0 ∷ 1 ∷ 0x51 ∷ 0x81 ∷ []
-
--- The specimen with "d" a short, of the values FFFE and 007F: 139 octets, the second row at 105, the end at 123.
-unfoldable pub shorts : List ℕ
-unfolding specimen
-shorts =
-    take 86 specimen ++ 0x2c ∷ part specimen 87 11 ++ 6 ∷ part specimen 99 4 ++ 0xff ∷ 0xfe ∷ part specimen 104 16 ++ 0 ∷ 127 ∷ drop 121 specimen
-
--- The specimen's layout in a lent book of 32,768 octets, and a lent book with nothing in it.
-unfoldable pub layoutBook : List ℕ
-unfolding specimen
-layoutBook = part specimen 56 31 ++ replicate 32737 0
-
-unfoldable pub emptyBook : List ℕ
-emptyBook = replicate 32768 0
 
 -- The elements as listed: "u" is an unsignedInt, "d" of a type given.
 abbrev u : Attribute
@@ -115,9 +101,11 @@ cases =
     ∷ record { asked = resume specimen 104 1 layoutBook 31; answer = elements (ok (rowWith 104 false Byte 0 127 ∷ endAt 121 ∷ []) 137) }
     ∷ record { asked = resume specimen 104 0 layoutBook 31; answer = elements (no 15 125) }
     ∷ record { asked = resume specimen 104 1 emptyBook 0; answer = elements (no 12 108) }
-    -- Short FFFE is -2, where it stands and as a number.
+    -- Short FFFE is -2: where it stands, asked as a field, of the type 0000002c, and as a number; and the specimen's byte FE.
     ∷ record { asked = read shorts; answer = elements (ok (layoutWith 52 Short ∷ rowWith 87 true Short 10 0xfffe ∷ rowWith 105 false Short 0 127 ∷ endAt 123 ∷ []) 139) }
+    ∷ record { asked = field shorts 87 0 shortBook 31 1; answer = told (Is (d Short .kind) (value.Short (negsuc 1))) }
     ∷ record { asked = sign 2 0xfffe; answer = number (negsuc 1) }
+    ∷ record { asked = field specimen 87 0 layoutBook 31 1; answer = told (Is (d Byte .kind) (value.Byte (negsuc 1))) }
     ∷ []
 
 -- Every case gets its answer.
