@@ -1,3 +1,5 @@
 pub mod Settles
 pub mod Asked
+pub mod RunNumbers
 pub mod Each
+pub mod ByRuns
