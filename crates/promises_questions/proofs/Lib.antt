@@ -4,4 +4,6 @@ pub mod Alike
 pub mod Demands
 pub mod Settles
 pub mod Asked
+pub mod RunNumbers
 pub mod Each
+pub mod ByRuns

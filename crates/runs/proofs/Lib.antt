@@ -1,7 +1,7 @@
 mod Steps
 mod Mets
-mod Runs
+pub mod Runs
 mod Rows
 mod Carrying
-mod Entry
+pub mod Entry
 mod Apart
