@@ -3,5 +3,6 @@ mod Mets
 mod Runs
 mod Rows
 mod Carrying
-mod Entry
+pub mod Entry
 mod Apart
+pub mod Contracts

@@ -51,3 +51,8 @@ wentOf p = record { count = length (p .words); next = p .next; rows = p .rows; u
 abbrev pub runTells : Read Book → Passed → Running
 runTells (ok book end) p = running.Went (wentOf p)
 runTells (no n q) p = running.Refused n q
+
+-- A run that is refused.
+abbrev pub Refuses : Running → Type 0
+Refuses (running.Went w) = ⊥
+Refuses (running.Refused n p) = Unit {0}
