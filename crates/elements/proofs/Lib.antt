@@ -5,3 +5,4 @@ pub mod Before
 pub mod Going
 pub mod Quickly
 pub mod Refusing
+pub mod Contracts

@@ -7,3 +7,4 @@ pub mod Parts
 pub mod Walks
 pub mod Checks
 pub mod Lends
+pub mod Contracts

@@ -4,3 +4,5 @@ pub mod Fields
 pub mod Ends
 pub mod Copies
 pub mod Runs
+pub mod Alike
+pub mod Contracts

@@ -3,3 +3,4 @@ pub mod Making
 pub mod Keeping
 pub mod Indexing
 pub mod Rows
+pub mod Contracts

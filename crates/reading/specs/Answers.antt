@@ -3,6 +3,8 @@ use Prim.Native.Nat.{ℕ}
 use lib.ListN.{length}
 use Rattle.octets.specs.Reading.{Read, ok, no}
 use Rattle.headers.specs.Header.{Header}
+use Rattle.elements.specs.declared.Stepping.{Stepping}
+use Rattle.elements.specs.declared.Stepping.the-variants as stepping
 use Rattle.reading.specs.declared.Head.{Head}
 use Rattle.reading.specs.declared.Headed.{Headed}
 use Rattle.reading.specs.declared.Headed.the-variants as headed
@@ -21,3 +23,8 @@ headTells (no n p) = headed.Refused n p
 abbrev pub checkTells : Read ℕ → Checked
 checkTells (ok n end) = checked.Rows n
 checkTells (no n p) = checked.Refused n p
+
+-- A step that is refused.
+abbrev pub Refuses : Stepping → Type 0
+Refuses (stepping.Done s) = ⊥
+Refuses (stepping.Refused n p) = Unit {0}

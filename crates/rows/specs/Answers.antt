@@ -55,3 +55,9 @@ rowSays (Refused n p) = no n p
 abbrev pub Rowing : ℕ → Rowed → ℕ → Type 0
 Rowing at (Row stated count next) end = (at ≤ next) × (next ≤ end)
 Rowing at (Refused n p) end = Unit {0}
+
+-- An answer but for the place of a value that passes the end of its room: inside a stated row the refusal is at the row's length, whatever that place is.
+abbrev pub butPlace : Valued → Valued
+butPlace (To p) = To p
+butPlace (Over p) = Over 0
+butPlace (Bad p) = Bad p

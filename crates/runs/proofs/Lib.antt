@@ -5,3 +5,4 @@ mod Rows
 mod Carrying
 pub mod Entry
 mod Apart
+pub mod Contracts

@@ -61,3 +61,8 @@ bookLeft octets (no n q) = octets
 abbrev pub wordsLeft : List ℕ → Read Passed → List ℕ
 wordsLeft words (ok p next) = laid 0 (p .words) words
 wordsLeft words (no n q) = words
+
+-- A run that is refused.
+abbrev pub Refuses : Running → Type 0
+Refuses (running.Went w) = ⊥
+Refuses (running.Refused n p) = Unit {0}

@@ -1,5 +1,4 @@
--- What an accepted call keeps: lengths, all behind the room and behind the book, and a state that is inside its bounds again; so 20 is then for a call out of turn alone.
--- And two allowed answers are equal. Assumes nothing.
+-- What an accepted call keeps: lengths, all behind the room and behind the book, and a state that is inside its bounds again; so 20 is then for a call out of turn alone. Assumes nothing.
 use mathlib.Core.Path.{_≡_, refl, sym, ap, _∙_, subst}
 use mathlib.Core.List.{List, [], _∷_, _++_}
 use mathlib.Core.Logic.{_⊎_, inl, inr}
@@ -29,20 +28,12 @@ use Rattle.fields.proofs.Meets.{added-fits}
 use Rattle.writing.specs.declared.Turn.{Turn}
 use Rattle.writing.specs.declared.Turn.the-variants as wants
 use Rattle.writing.specs.declared.State.{State}
-use Rattle.writing.specs.declared.Answer.{Answer}
 use Rattle.writing.specs.Writer.{Call, recorder, startTime, defaultNamespace, namespaceCount, uri, shortName, serviceCount, service, documentId, openLayout, typeName, attributeCount, attributeName, attributeType, openRow, value, closeRow, giveUp, finish}
 use Rattle.writing.specs.Writer.{Written, room, rule, unless, Deed, attributes, between, turnAt, known, rowLayout, isNext, does, addition, layoutSoFar, call}
-use Rattle.writing.specs.Answers.{Left, left}
 use Rattle.writing.proofs.Bounds.{Bounds, turn-count, open-head}
 use Rattle.writing.proofs.Tests.{addition-is}
 use Rattle.writing.proofs.Values.{length-size}
 use Rattle.writing.proofs.Calls.{done, accepted-is}
-
--- Two answers that one statement allows, with what they leave, are the same.
-pub one-answer : {r q : Answer} {b c k l : List ℕ} {x : Left} → left r b k ≡ x → left q c l ≡ x → (r ≡ q) × (b ≡ c) × (k ≡ l)
-one-answer {r} {q} {b} {c} {k} {l} e f =
-    let same : left r b k ≡ left q c l = e ∙ sym f in
-    (ap (λ (y : Left). y .answer) same, ap (λ (y : Left). y .buffer) same, ap (λ (y : Left). y .book) same)
 
 true-false : true ≡ false → ⊥
 true-false e = let z : _≡_ {A = ℕ} 0 1 = cc in omega arith

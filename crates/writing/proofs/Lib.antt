@@ -4,3 +4,4 @@ pub mod Tests
 pub mod Values
 pub mod Calls
 pub mod Kept
+pub mod Contracts

@@ -58,3 +58,8 @@ valueFault (next.Of a) b fits = unless (eqb (codeOf a) (codeOf b) && fits) 21
 abbrev pub closeFault : Counting → ℕ → Read (Unit {0})
 closeFault counting.Unknown count = no 12 0
 closeFault (counting.Has k) count = unless (leb k count) 22
+
+-- A call that is refused.
+abbrev pub Refuses : Answer → Type 0
+Refuses (Done s used) = ⊥
+Refuses (Refused n p) = Unit {0}

@@ -1,0 +1,79 @@
+-- The contracts of octets themselves: each allows one answer, and one final content of what is lent to be changed. Assumes nothing.
+use Prim.Native.Nat.{ℕ}
+use mathlib.Core.Path.{_≡_, refl, sym, _∙_}
+use Rattle.octets.specs.Contracts.{Once}
+use Rattle.octets.specs.Reading.{Read, stated}
+use Rattle.octets.specs.Answers.{says, counts, reached}
+use Rattle.octets.specs.declared.Ended.{Ended}
+use Rattle.octets.specs.declared.Ended.the-variants.{End, Refused}
+use Rattle.octets.specs.declared.Reached.{Reached}
+use Rattle.octets.specs.declared.Reached.the-variants.{To, Over}
+use Rattle.octets.specs.declared.Counted.{Counted}
+use Rattle.octets.specs.declared.Counted.the-variants.{Count, Not}
+use Rattle.octets.proofs.Alike.{_also_}
+use Rattle.octets.proofs.u8_at as u8-at
+use Rattle.octets.proofs.u16_at as u16-at
+use Rattle.octets.proofs.u32_at as u32-at
+use Rattle.octets.proofs.u64_at as u64-at
+use Rattle.octets.proofs.octets_reach as octets-reach
+use Rattle.octets.proofs.text_end as text-end
+use Rattle.octets.proofs.count_at as count-at
+use Rattle.octets.proofs.octets_same as octets-same
+use Rattle.octets.proofs.stands as stands
+use Rattle.octets.proofs.copy_in as copy-in
+use Rattle.octets.proofs.put_number as put-number
+use Rattle.octets.proofs.lay as lay
+use Rattle.octets.proofs.lay_number as lay-number
+
+pub record Contracts : Type 0 where
+  pub of-u8-at : Once u8-at.Kinds.ps u8-at.Kinds.r u8-at.Reads.Pre u8-at.Reads.Post
+  pub of-u16-at : Once u16-at.Kinds.ps u16-at.Kinds.r u16-at.Reads.Pre u16-at.Reads.Post
+  pub of-u32-at : Once u32-at.Kinds.ps u32-at.Kinds.r u32-at.Reads.Pre u32-at.Reads.Post
+  pub of-u64-at : Once u64-at.Kinds.ps u64-at.Kinds.r u64-at.Reads.Pre u64-at.Reads.Post
+  pub of-octets-reach : Once octets-reach.Kinds.ps octets-reach.Kinds.r octets-reach.Reads.Pre octets-reach.Reads.Post
+  pub of-text-end : Once text-end.Kinds.ps text-end.Kinds.r text-end.Reads.Pre text-end.Reads.Post
+  pub of-count-at : Once count-at.Kinds.ps count-at.Kinds.r count-at.Reads.Pre count-at.Reads.Post
+  pub of-octets-same : Once octets-same.Kinds.ps octets-same.Kinds.r octets-same.Reads.Pre octets-same.Reads.Post
+  pub of-stands : Once stands.Kinds.ps stands.Kinds.r stands.Reads.Pre stands.Reads.Post
+  pub of-copy-in : Once copy-in.Kinds.ps copy-in.Kinds.r copy-in.Reads.Pre copy-in.Reads.Post
+  pub of-put-number : Once put-number.Kinds.ps put-number.Kinds.r put-number.Reads.Pre put-number.Reads.Post
+  pub of-lay : Once lay.Kinds.ps lay.Kinds.r lay.Reads.Pre lay.Reads.Post
+  pub of-lay-number : Once lay-number.Kinds.ps lay-number.Kinds.r lay-number.Reads.Pre lay-number.Reads.Post
+
+-- Each of these says another thing of every answer.
+pub says-once : (x y : Ended) → says x ≡ says y → x ≡ y
+says-once (End p) (End q) e = cc
+says-once (End p) (Refused m q) e = cc
+says-once (Refused n p) (End q) e = cc
+says-once (Refused n p) (Refused m q) e = cc
+
+pub counts-once : (x y : Counted) → counts x ≡ counts y → x ≡ y
+counts-once (Count k p) (Count l q) e = cc
+counts-once (Count k p) (Not m q) e = cc
+counts-once (Not n p) (Count l q) e = cc
+counts-once (Not n p) (Not m q) e = cc
+
+-- Inside a stated room.
+reached-once : (end at : ℕ) (x y : Reached) → reached (stated end 0) at x ≡ reached (stated end 0) at y → x ≡ y
+reached-once end at (To p) (To q) e = cc
+reached-once end at (To p) Over e = cc
+reached-once end at Over (To q) e = cc
+reached-once end at Over Over e = refl
+
+pub contracts : Contracts
+contracts =
+    record {
+      of-u8-at = λ κs a p x y u v e f. (e ∙ sym f, refl);
+      of-u16-at = λ κs a p x y u v e f. (e ∙ sym f, refl);
+      of-u32-at = λ κs a p x y u v e f. (e ∙ sym f, refl);
+      of-u64-at = λ κs a p x y u v e f. (e ∙ sym f, refl);
+      of-octets-reach = λ κs a p x y u v e f. (reached-once _ _ x y (e .0 (stated _ 0) refl ∙ sym (f .0 (stated _ 0) refl)), refl);
+      of-text-end = λ κs a p x y u v e f. (says-once x y (e .0 ∙ sym (f .0)), refl);
+      of-count-at = λ κs a p x y u v e f. (counts-once x y (e .0 ∙ sym (f .0)), refl);
+      of-octets-same = λ κs a p x y u v e f. (e ∙ sym f, refl);
+      of-stands = λ κs a p x y u v e f. (e ∙ sym f, refl);
+      of-copy-in = λ κs a p x y u v e f. (refl, refl also (e ∙ sym f) also refl);
+      of-put-number = λ κs a p x y u v e f. (refl, (e ∙ sym f) also refl);
+      of-lay = λ κs a p x y u v e f. (e .0 ∙ sym (f .0), (e .1 ∙ sym (f .1)) also refl);
+      of-lay-number = λ κs a p x y u v e f. (e .0 ∙ sym (f .0), (e .1 ∙ sym (f .1)) also refl);
+    }
