@@ -9,7 +9,7 @@ use printing::Show;
 use questions::Refusal;
 
 // The first octets of a lent buffer, as far as it reaches.
-pub fn front<'s>(s: &'s [u8], n: usize) -> &'s [u8]
+pub(crate) fn front<'s>(s: &'s [u8], n: usize) -> &'s [u8]
     ensures { λ r. ⌜ now r ≡ take n (now (s .entry)) ⌝ }
 {
     if n < s.len() {
@@ -19,7 +19,7 @@ pub fn front<'s>(s: &'s [u8], n: usize) -> &'s [u8]
 }
 
 // A part behind a space: its hex digits, or "-" for none.
-pub fn part<'o, 'x>(out: &'o mut [u8], n: usize, xs: &'x [u8]) -> usize
+pub(crate) fn part<'o, 'x>(out: &'o mut [u8], n: usize, xs: &'x [u8]) -> usize
     ensures { λ r. ⌜ Prints (now (out .entry)) n (partText (now (xs .entry))) (now (out .exit)) r ⌝ }
 {
     let to = printing::octet(out, n, b' ');
@@ -30,7 +30,7 @@ pub fn part<'o, 'x>(out: &'o mut [u8], n: usize, xs: &'x [u8]) -> usize
 }
 
 // The checksum of a lent buffer behind a space.
-pub fn sum<'o, 'x>(out: &'o mut [u8], n: usize, xs: &'x [u8]) -> usize
+pub(crate) fn sum<'o, 'x>(out: &'o mut [u8], n: usize, xs: &'x [u8]) -> usize
     ensures { λ r. ⌜ Prints (now (out .entry)) n (sumText (now (xs .entry))) (now (out .exit)) r ⌝ }
 {
     let to = printing::octet(out, n, b' ');
@@ -38,7 +38,7 @@ pub fn sum<'o, 'x>(out: &'o mut [u8], n: usize, xs: &'x [u8]) -> usize
 }
 
 // A word, or the refusal of what was asked.
-pub fn head<'o, 'x>(out: &'o mut [u8], n: usize, refusal: Refusal, word: &'x [u8]) -> usize
+pub(crate) fn head<'o, 'x>(out: &'o mut [u8], n: usize, refusal: Refusal, word: &'x [u8]) -> usize
     ensures { λ r. ⌜ Prints (now (out .entry)) n (headText refusal (now (word .entry))) (now (out .exit)) r ⌝ }
 {
     match refusal {

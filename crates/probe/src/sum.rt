@@ -20,7 +20,7 @@ fn times_prime(h: u64) -> u64
     std::num::wrapping_add_u64(shifted, std::num::wrapping_add_u64(high, low))
 }
 
-pub fn sum(xs: &[u8]) -> u64
+pub(crate) fn sum(xs: &[u8]) -> u64
     ensures { λ r. ⌜ r ≡ checksum (now (xs .entry)) ⌝ }
 {
     let mut h: u64 = 0xcbf2_9ce4_8422_2325;
