@@ -6,4 +6,3 @@ pub mod Beside
 pub mod Store
 pub mod Numbers
 pub mod Given
-pub mod Settled

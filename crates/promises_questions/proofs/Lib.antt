@@ -1,3 +1,2 @@
-pub mod Settles
 pub mod Asked
 pub mod Each
