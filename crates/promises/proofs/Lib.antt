@@ -5,4 +5,3 @@ pub mod Beside
 pub mod Store
 pub mod Numbers
 pub mod Given
-pub mod Settled

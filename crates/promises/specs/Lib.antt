@@ -3,4 +3,3 @@ pub mod Meaning
 pub mod BySteps
 pub mod Resume
 pub mod Refusals
-pub mod OneAnswer
