@@ -1,13 +1,15 @@
--- The header check, the step and the whole check give no refusal number but those listed for each: by the parts of each reading. Assumes nothing.
+-- The laws of `Only`; and that the header check, the step and the whole check give no refusal number but those listed for each, by the parts of each reading. Assumes nothing.
 use Prim.Native.Nat.{ℕ, _+_}
 use mathlib.Core.Path.{_≡_, refl, subst}
-use mathlib.Core.List.{List}
-use mathlib.Core.Bool.{true}
+use mathlib.Core.List.{List, []}
+use mathlib.Core.Bool.{Bool, true, false, _&&_}
 use native.Mathlib.Omega.{arith}
 use native.Mathlib.Nat.{le-refl}
-use lib.ListN.{length}
-use Rattle.octets.specs.Reading.{Read, ok, no}
+use lib.ListN.{length, take}
+use lib.Dec.{leb}
+use Rattle.octets.specs.Reading.{Read, ok, no, _then_, choose}
 use Rattle.octets.proofs.Inverse.{no-ok}
+use Rattle.layouts.specs.Book.{as17, layoutsAt, bookOf}
 use Rattle.layouts.specs.Answers.{among}
 use Rattle.headers.specs.Header.{headerAt}
 use Rattle.elements.specs.Steps.{stepAt, whole}
@@ -26,6 +28,27 @@ In ns n = among n ns ≡ true
 pub only : {A : Type 0} {ns : List ℕ} (end : ℕ) (r : Read A) → Stays (In ns) end r → Only ns r
 only end (ok a next) h = taken a next
 only end (no n p) h = given n p (h .0)
+
+-- Of two readings one after the other, of a choice, and of a book, whose faults are all 17.
+module _ {ns : List ℕ} where
+  pub only-with : {A B : Type 0} (r : Read A) (f : A → ℕ → Read B) → Only ns r → ((a : A) (next : ℕ) → r ≡ ok a next → Only ns (f a next)) → Only ns (r then f)
+  only-with (ok a next) f h k = k a next refl
+  only-with (no n p) f h k = given n p (h .number n p refl)
+
+  pub only-then : {A B : Type 0} (r : Read A) (f : A → ℕ → Read B) → Only ns r → ((a : A) (next : ℕ) → Only ns (f a next)) → Only ns (r then f)
+  only-then r f h k = only-with r f h λ a next _. k a next
+
+  pub only-choose : {A : Type 0} (t : Bool) (x y : Unit {0} → Read A) → Only ns (x tt) → Only ns (y tt) → Only ns (choose t x y)
+  only-choose true x y h k = h
+  only-choose false x y h k = k
+
+  as17-only : {A : Type 0} → In ns 17 → (r : Read A) → Only ns (as17 r)
+  as17-only h (ok a next) = taken a next
+  as17-only h (no n p) = given 17 0 h
+
+  pub book-17 : In ns 17 → (octets : List ℕ) (used : ℕ) → Only ns (bookOf octets used)
+  unfolding bookOf
+  book-17 h octets used = only-choose (leb 32768 (length octets) && leb used 32768) _ _ (as17-only h (layoutsAt 64 [] (take used octets) 0)) (given 17 0 h)
 
 module _ (s : List ℕ) where
   pub header-only : Only headerNumbers (headerAt s)

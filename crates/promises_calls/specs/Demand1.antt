@@ -1,10 +1,13 @@
--- Demand 1, said of the contracts of all entry points: every input is taken, one answer and one final content of all that is lent are allowed for it, and a refusal leaves all that is lent as it was. The refusal numbers are listed in promises, promises_questions and promises_writing.
+-- Demand 1, of all entry points. Of each contract itself: every input is taken, one answer and one final content of all that is lent are allowed for it, and a refusal leaves all that is lent as it was. And which numbers refuse: each list is exact.
 use Rattle.reading.proofs.Contracts as reading
 use Rattle.runs.proofs.Contracts as runs
 use Rattle.questions.proofs.Contracts as questions
 use Rattle.strings.proofs.Contracts as strings
 use Rattle.writing.proofs.Contracts as writing
 use Rattle.collector.proofs.Contracts as collector
+use Rattle.promises.specs.Refusals.{Refusals}
+use Rattle.promises_questions.specs.Numbers as asked
+use Rattle.promises_writing.specs.Numbers as written
 
 pub record Demand1 : Type 0 where
   pub of-reading : reading.Contracts
@@ -13,3 +16,7 @@ pub record Demand1 : Type 0 where
   pub of-strings : strings.Contracts
   pub of-writing : writing.Contracts
   pub of-collector : collector.Contracts
+  -- The header check, the step and the whole check, for C as for Rattle; a run and the questions; each of the writer's calls.
+  pub refusals : Refusals
+  pub asked-numbers : asked.Numbers
+  pub written-numbers : written.Numbers

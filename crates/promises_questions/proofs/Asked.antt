@@ -5,12 +5,12 @@ use mathlib.Core.List.{List, [], _∷_}
 use mathlib.Core.Bool.{Bool, true, false, _&&_}
 use native.Mathlib.Omega.{arith}
 use native.Mathlib.Nat.{le-refl}
-use lib.ListN.{length, take, drop}
+use lib.ListN.{length, drop}
 use lib.Dec.{leb, eqb}
 use Rattle.octets.specs.Reading.{Read, ok, no, _then_, choose, be, number}
 use Rattle.octets.proofs.Inverse.{after}
 use Rattle.layouts.specs.Layout.{layoutAt}
-use Rattle.layouts.specs.Book.{Book, as17, layoutsAt, bookOf, learn}
+use Rattle.layouts.specs.Book.{Book, bookOf, learn}
 use Rattle.layouts.specs.Answers.{among}
 use Rattle.headers.specs.Header.{headerAt}
 use Rattle.rows.specs.Row.{rowAt}
@@ -22,7 +22,7 @@ use Rattle.questions.specs.Questions.{kindAsked, bookAsked, firstOf, nth, rowOf
 use Rattle.questions.proofs.Asked.{kind-forth}
 use Rattle.strings.specs.Strings.{namespacesPlace, servicesPlace, namespaceAsked, serviceAsked}
 use Rattle.promises.specs.Refusals.{Only}
-use Rattle.promises.proofs.Numbers.{taken, given, In, only, header-only}
+use Rattle.promises.proofs.Numbers.{taken, given, In, only, only-with, only-then, only-choose, book-17, header-only}
 use Rattle.promises_questions.specs.Numbers.{fieldNumbers, layoutNumbers, attributeNumbers, listedNumbers}
 
 -- One number more.
@@ -32,18 +32,6 @@ also {ns = ns} m h = record { number = λ n p e. go n (eqb n m) (h .number n p e
     go : (n : ℕ) (t : Bool) → among n ns ≡ true → choose t (λ _. true) (λ _. among n ns) ≡ true
     go n true k = refl
     go n false k = k
-
-module _ {ns : List ℕ} where
-  only-with : {A B : Type 0} (r : Read A) (f : A → ℕ → Read B) → Only ns r → ((a : A) (next : ℕ) → r ≡ ok a next → Only ns (f a next)) → Only ns (r then f)
-  only-with (ok a next) f h k = k a next refl
-  only-with (no n p) f h k = given n p (h .number n p refl)
-
-  pub only-then : {A B : Type 0} (r : Read A) (f : A → ℕ → Read B) → Only ns r → ((a : A) (next : ℕ) → Only ns (f a next)) → Only ns (r then f)
-  only-then r f h k = only-with r f h λ a next _. k a next
-
-  only-choose : {A : Type 0} (t : Bool) (x y : Unit {0} → Read A) → Only ns (x tt) → Only ns (y tt) → Only ns (choose t x y)
-  only-choose true x y h k = h
-  only-choose false x y h k = k
 
 nth-only : {A : Type 0} {ns : List ℕ} → among 18 ns ≡ true → (n place : ℕ) (xs : List A) (next : ℕ) → Only ns (nth n place xs next)
 unfolding nth
@@ -55,16 +43,11 @@ nth-only {A} {ns} h n place xs next = go (drop n xs)
 
 -- What stands before every question about an element.
 module _ {ns : List ℕ} (one : among 1 ns ≡ true) (two : among 2 ns ≡ true) (seven : among 7 ns ≡ true) (book17 : among 17 ns ≡ true) (kind19 : among 19 ns ≡ true) where
-  as17-only : {A : Type 0} (r : Read A) → Only ns (as17 r)
-  as17-only (ok a next) = taken a next
-  as17-only (no n p) = given 17 0 book17
-
   lent-only : (s : List ℕ) (rows : ℕ) (octets : List ℕ) (used : ℕ) → Only ns (lentBook s rows octets used)
-  unfolding lentBook bookOf
+  unfolding lentBook
   lent-only s rows octets used =
       only-choose (leb (length s) 1048576) _ _
-      (only-then (bookOf octets used) _
-      (only-choose (leb 32768 (length octets) && leb used 32768) _ _ (as17-only (layoutsAt 64 [] (take used octets) 0)) (given 17 0 book17)) λ book end.
+      (only-then (bookOf octets used) _ (book-17 book17 octets used) λ book end.
       only-choose (leb rows 1048576) _ _ (taken book end) (given 17 0 book17))
       (given 2 0 two)
 

@@ -6,9 +6,8 @@ use Rattle.octets.specs.Reading.{Read, ok, no, _then_}
 use Rattle.elements.specs.Steps.{stepAt}
 use Rattle.runs.specs.Runs.{runFrom, runAsked}
 use Rattle.promises.specs.Refusals.{refusalOf, refusalsOf, Gives, stepNumbers, Inputs}
-use Rattle.promises.proofs.Numbers.{taken}
+use Rattle.promises.proofs.Numbers.{taken, only-then}
 use Rattle.promises.proofs.Given.{refusals}
-use Rattle.promises_questions.proofs.Asked.{only-then}
 
 -- What goes on without a refusal of its own gives the numbers of what stands before it.
 module _ {I A B : Type 0} (f : I → Read A) (g : I → B) (place : I → ℕ) where

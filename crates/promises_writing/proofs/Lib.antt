@@ -11,3 +11,5 @@ pub mod KeepsHeader
 pub mod KeepsLayout
 pub mod KeepsRow
 pub mod Wrote
+pub mod Only
+pub mod Numbers

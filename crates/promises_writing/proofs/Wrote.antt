@@ -21,7 +21,6 @@ use Rattle.elements.proofs.Going.{holding-of}
 use Rattle.promises.proofs.Documents.{one-meaning}
 use Rattle.writing.specs.declared.Turn.{Turn}
 use Rattle.writing.specs.declared.Turn.the-variants as wants
-use Rattle.writing.specs.declared.State.{State}
 use Rattle.writing.specs.Writer.{Call, recorder, startTime, defaultNamespace, namespaceCount, uri, shortName, serviceCount, service, documentId, openLayout, typeName, attributeCount, attributeName, attributeType, openRow, value, closeRow, giveUp, finish, Written, Deed, does, call, runCalls}
 use Rattle.promises_writing.specs.Promise.{bookBehind, onto, begun, finished, Given, Bearing, more, opening, back, bearing, Told, nothing-told, tell, tellAll, told, Run, Forward, fartherAs, farther, answering, goesOn, begins, ran, cleared, Going, Wrote}
 use Rattle.promises_writing.proofs.Calls.{passed-all, Runs, runs-both, runs-none, runs-one}

@@ -1,4 +1,4 @@
--- The promise of the writer: the calls that give a document, what they leave, and what accepted calls have told.
+-- The promise of the writer: the calls that give a document, what they leave, and what a run of any calls has told and left.
 use Prim.Native.Nat.{ℕ, _^_, _<_, max}
 use mathlib.Core.Path.{_≡_}
 use mathlib.Core.List.{List, [], _∷_, _++_}
@@ -131,6 +131,10 @@ bearing closeRow = more
 bearing giveUp = back
 bearing (finish n) = more
 
+-- A call that is no giving up.
+abbrev pub Forward : Call → Type 0
+Forward c = bearing c ≡ back → ⊥
+
 -- What was told: the calls before the layout or row that was opened last, and those from its opening on.
 pub record Told : Type 0 where
   pub settled : List Call
@@ -165,17 +169,13 @@ told calls =
     let t = tellAll nothing-told calls in
     t .settled ++ t .latest
 
--- A run of calls: what was last answered and left, the calls that were accepted, and the farthest place from which one was given up (0: none was).
+-- A run of calls: what was last answered and left, the calls that were accepted, and the farthest place from which an element was given up (0: none was).
 pub record Run : Type 0 where
   pub now : Written
   pub accepted : List Call
   pub farthest : ℕ
 
--- A call that is no giving up.
-abbrev pub Forward : Call → Type 0
-Forward c = bearing c ≡ back → ⊥
-
--- That place behind one call more, made at a place.
+-- The farthest place behind one call more, which was made at a place.
 abbrev pub fartherAs : Bearing → ℕ → ℕ → ℕ
 fartherAs more far place = far
 fartherAs opening far place = far

@@ -1,25 +1,19 @@
--- One call, from every state: what it is by its tests in their order, both ways, and that a refusal is one of the writer's at the place of writing. Assumes nothing.
-use mathlib.Core.Path.{_≡_, refl, sym, ap, _∙_, subst}
-use mathlib.Core.List.{List, [], _∷_}
-use mathlib.Core.Bool.{Bool, true, false, _&&_, _||_}
-use mathlib.Core.Option.{Option, some, none}
-use Prim.Native.Nat.{ℕ, _+_, _^_, _%_, _≤_}
+-- One call, from every state: what it is by its tests in their order, both ways, and that a refusal's place is that of writing. Assumes nothing.
+use mathlib.Core.Path.{_≡_, refl, sym, ap, _∙_}
+use mathlib.Core.List.{List, []}
+use mathlib.Core.Bool.{true, false, _&&_}
+use Prim.Native.Nat.{ℕ, _+_, _≤_}
 use native.Mathlib.Omega.{arith}
-use lib.ListN.{length, drop}
-use lib.Dec.{T, leb, ltb, eqb}
+use lib.ListN.{length}
+use lib.Dec.{leb}
 use borrow.Author.Tests.{leb-true}
-use Rattle.octets.specs.Reading.{Read, ok, no, _then_, choose, isOk, valueOr, be, same}
+use Rattle.octets.specs.Reading.{Read, ok, no, _then_, isOk, valueOr}
 use Rattle.octets.specs.Writing.{over}
 use Rattle.octets.proofs.Copies.{both-true}
 use Rattle.octets.proofs.Inverse.{after, chosen, no-ok}
-use Rattle.kinds.specs.declared.Basic.{Basic}
-use Rattle.kinds.specs.Kinds.{basicOf, kindOf}
-use Rattle.kinds.specs.Kinds as kinds
-use Rattle.layouts.specs.Layout.{Layout, layoutImage}
-use Rattle.layouts.specs.Book.{Book, find, bookOf, bookIn}
+use Rattle.layouts.specs.Book.{Book, bookOf, bookIn}
 use Rattle.writing.specs.declared.State.{State}
-use Rattle.writing.specs.Writer.{Call, recorder, startTime, defaultNamespace, namespaceCount, uri, shortName, serviceCount, service, documentId, openLayout, typeName, attributeCount, attributeName, attributeType, openRow, value, closeRow, giveUp, finish}
-use Rattle.writing.specs.Writer.{Written, room, bounded, unless, Deed, known, rowLayout, isNext, does, additionFor, addition, layoutSoFar, early, tried, placed, answered, call}
+use Rattle.writing.specs.Writer.{Call, Written, room, bounded, unless, Deed, does, addition, layoutSoFar, early, tried, placed, answered, call}
 use Rattle.writing.proofs.Bounds.{Bounds, bounds}
 use Rattle.writing.proofs.Tests.{early-17, early-on}
 
@@ -130,96 +124,13 @@ accepted-is s buffer lent used c {w} {at} e = go (bookOf lent used) refl
           place = cc;
         }
 
--- The writer's refusals.
-abbrev listed : ℕ → List ℕ → Bool
-listed n [] = false
-listed n (m ∷ rest) = eqb n m || listed n rest
+-- A refusal's place is the place of writing.
+placed-at : {A : Type 0} (at : ℕ) (r : Read A) {n p : ℕ} → placed at r ≡ no n p → p ≡ at
+placed-at at (ok a m) e = let z : _≡_ {A = ℕ} 0 1 = cc in absurd (omega arith)
+placed-at at (no m q) e = cc
 
-abbrev pub Refusal : ℕ → Type 0
-Refusal n = T (listed n (17 ∷ 20 ∷ 4 ∷ 5 ∷ 8 ∷ 9 ∷ 12 ∷ 21 ∷ 22 ∷ 10 ∷ 11 ∷ 23 ∷ []))
-
--- An answer whose refusal, if it is one, is one of them.
-abbrev Refuses : {A : Type 0} → Read A → Type 0
-Refuses (ok a n) = Unit {0}
-Refuses (no n p) = Refusal n
-
-refuses-then : {A B : Type 0} (r : Read A) (f : A → ℕ → Read B) → Refuses r → ((a : A) (n : ℕ) → Refuses (f a n)) → Refuses (r then f)
-refuses-then (ok a n) f h g = g a n
-refuses-then (no n p) f h g = h
-
-refuses-unless : (t : Bool) (n : ℕ) → Refusal n → Refuses (unless t n)
-refuses-unless true n h = tt
-refuses-unless false n h = h
-
-refuses-known : (o : Option Layout) → Refuses (known o)
-refuses-known (some l) = tt
-refuses-known none = tt
-
-refuses-kind : (t : ℕ) → Refuses (kindOf 0 t 0)
-refuses-kind t = go (leb (2 ^ 31) t) (ltb t 0x10000) (basicOf (t % 256))
-  where
-    go : (a b : Bool) (o : Option Basic) → Refuses (choose a (λ _. no 9 0) (λ _. choose b (λ _. kinds.known 0 t 0 o) (λ _. no 8 0)))
-    go true b o = tt
-    go false true (some k) = tt
-    go false true none = tt
-    go false false o = tt
-
-module _ (s : State) (buffer : List ℕ) (book : Book) where
-  refuses-row : Refuses (rowLayout s buffer book)
-  unfolding rowLayout
-  refuses-row = refuses-known (find (be 4 buffer (s .start + 4)) book)
-
-  refuses-fault : (c : Call) → Refuses (does s buffer book c .fault)
-  unfolding does
-  refuses-fault (recorder xs) = tt
-  refuses-fault (startTime n) = tt
-  refuses-fault (defaultNamespace xs) = tt
-  refuses-fault (namespaceCount n) = refuses-unless (leb n 16) 4 tt
-  refuses-fault (uri xs) = tt
-  refuses-fault (shortName xs) = tt
-  refuses-fault (serviceCount n) = refuses-unless (leb n 16) 4 tt
-  refuses-fault (service xs) = tt
-  refuses-fault (documentId xs) = refuses-unless (eqb (length xs) 16) 5 tt
-  refuses-fault (openLayout n) = tt
-  refuses-fault (typeName xs) = tt
-  refuses-fault (attributeCount n) = refuses-unless (leb n 64) 4 tt
-  refuses-fault (attributeName xs) = tt
-  refuses-fault (attributeType t) = refuses-then (kindOf 0 t 0) _ (refuses-kind t) (λ _ _. tt)
-  refuses-fault (openRow n stated) = refuses-then (known (find n book)) _ (refuses-known (find n book)) (λ _ _. tt)
-  refuses-fault (value b v) =
-      refuses-then (rowLayout s buffer book) _ refuses-row (λ l _. refuses-unless (isNext (drop (s .count) (l .attributes)) b v) 21 tt)
-  refuses-fault closeRow = refuses-then (rowLayout s buffer book) _ refuses-row (λ l _. refuses-unless (leb (length (l .attributes)) (s .count)) 22 tt)
-  refuses-fault giveUp = tt
-  refuses-fault (finish n) = tt
-
-refuses-addition : (t : Bool) (book : Book) (used : ℕ) (xs : List ℕ) → Refuses (addition t book used xs)
-refuses-addition false book used xs = tt
-refuses-addition true book used xs = go (find (be 4 xs 0) book)
-  where
-    go : (o : Option Layout) → Refuses (additionFor book used xs o)
-    go (some m) = refuses-then (unless (same (layoutImage m) xs) 10) _ (refuses-unless (same (layoutImage m) xs) 10 tt) (λ _ _. tt)
-    go none =
-        refuses-then (unless (ltb (length book) 64 && leb (used + length xs) 32768) 11) _
-        (refuses-unless (ltb (length book) 64 && leb (used + length xs) 32768) 11 tt) (λ _ _. tt)
-
-refuses-placed : {A : Type 0} (at : ℕ) (r : Read A) {n p : ℕ} → Refuses r → placed at r ≡ no n p → Refusal n × (p ≡ at)
-refuses-placed at (ok a m) h e = let z : _≡_ {A = ℕ} 0 1 = cc in absurd (omega arith)
-refuses-placed at (no m q) {n} {p} h e = let k : m ≡ n = cc in (subst Refusal k h, cc)
-
--- A refusal is one of the writer's, and its place is the place of writing.
-pub refusal : (s : State) (buffer lent : List ℕ) (used : ℕ) (c : Call) {n p : ℕ} → call s buffer lent used c ≡ no n p → Refusal n × (p ≡ s .place)
-refusal s buffer lent used c {n} {p} e = go (bookOf lent used) refl
-  where
-    go : (r : Read Book) → bookOf lent used ≡ r → Refusal n × (p ≡ s .place)
-    go (no m q) f =
-        let r : Read Written = no 17 0 in
-        refuses-placed (s .place) r tt (sym (refused-17 s buffer lent used c m q f) ∙ e)
-    go (ok b m) f =
-        let d : Deed = does s buffer b c in
-        refuses-placed (s .place) (behind s buffer lent used b d)
-        (refuses-then (unless (bounded s (length buffer) && d .in-turn) 20) _ (refuses-unless (bounded s (length buffer) && d .in-turn) 20 tt) λ _ _.
-        refuses-then (d .fault) _ (refuses-fault s buffer b c) λ _ _.
-        refuses-then (addition (d .completes) b used (layoutSoFar s buffer (d .octets))) _ (refuses-addition (d .completes) b used (layoutSoFar s buffer (d .octets))) λ new _.
-        refuses-then (unless (leb (d .at + length (d .octets)) (room (length buffer))) 23) _
-        (refuses-unless (leb (d .at + length (d .octets)) (room (length buffer))) 23 tt) λ _ _. tt)
-        (sym (call-behind s buffer lent used c b m f) ∙ e)
+pub refused-place : (s : State) (buffer lent : List ℕ) (used : ℕ) (c : Call) {n p : ℕ} → call s buffer lent used c ≡ no n p → p ≡ s .place
+unfolding call answered
+refused-place s buffer lent used c e =
+    let d : Deed = does s buffer (bookIn lent used) c in
+    placed-at (s .place) (early s (length buffer) lent used (d .in-turn) then λ _ _. tried s buffer lent used d) e

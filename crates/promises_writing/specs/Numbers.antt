@@ -1,0 +1,83 @@
+-- Which refusal numbers each of the writer's calls gives: all of those listed for it, and no other. A list is in the order in which its call tries them.
+use Prim.Native.Nat.{ℕ}
+use mathlib.Core.List.{List, [], _∷_}
+use mathlib.Core.Bool.{Bool}
+use Rattle.kinds.specs.declared.Basic.{Basic}
+use Rattle.rows.specs.Row.{Value}
+use Rattle.promises.specs.Refusals.{Gives}
+use Rattle.writing.specs.declared.State.{State}
+use Rattle.writing.specs.Writer.{Call, call}
+use Rattle.writing.specs.Writer as writer
+
+-- What a call is given: the state, the lent buffer and book, the used count, and its own argument.
+pub record Made (A : Type 0) : Type 0 where
+  pub state : State
+  pub buffer : List ℕ
+  pub book : List ℕ
+  pub used : ℕ
+  pub argument : A
+
+-- The arguments of a call that has two.
+pub record Opening : Type 0 where
+  pub number : ℕ
+  pub is-stated : Bool
+
+pub record Typed : Type 0 where
+  pub basic : Basic
+  pub value : Value
+
+-- The numbers that a call gives, whatever its argument.
+abbrev pub Refuses : {A : Type 0} → (A → Call) → List ℕ → Type 0
+Refuses {A} f ns = Gives (λ (i : Made A). call (i .state) (i .buffer) (i .book) (i .used) (f (i .argument))) ns
+
+-- A field without a fault of its own: 17 for the book, 20 out of turn or out of bounds, 23 without room.
+abbrev pub fieldNumbers : List ℕ
+fieldNumbers = 17 ∷ 20 ∷ 23 ∷ []
+
+abbrev pub countNumbers : List ℕ
+countNumbers = 17 ∷ 20 ∷ 4 ∷ 23 ∷ []
+
+abbrev pub idNumbers : List ℕ
+idNumbers = 17 ∷ 20 ∷ 5 ∷ 23 ∷ []
+
+-- The two calls that may complete a layout.
+abbrev pub attributesNumbers : List ℕ
+attributesNumbers = 17 ∷ 20 ∷ 4 ∷ 10 ∷ 11 ∷ 23 ∷ []
+
+abbrev pub typeNumbers : List ℕ
+typeNumbers = 17 ∷ 20 ∷ 9 ∷ 8 ∷ 10 ∷ 11 ∷ 23 ∷ []
+
+abbrev pub rowNumbers : List ℕ
+rowNumbers = 17 ∷ 20 ∷ 12 ∷ 23 ∷ []
+
+abbrev pub valueNumbers : List ℕ
+valueNumbers = 17 ∷ 20 ∷ 12 ∷ 21 ∷ 23 ∷ []
+
+-- Closing puts its octets over some that stand, and so does giving up: room is there.
+abbrev pub closeNumbers : List ℕ
+closeNumbers = 17 ∷ 20 ∷ 12 ∷ 22 ∷ []
+
+abbrev pub giveUpNumbers : List ℕ
+giveUpNumbers = 17 ∷ 20 ∷ []
+
+-- What is promised of the numbers.
+pub record Numbers : Type 0 where
+  pub recorder : Refuses writer.recorder fieldNumbers
+  pub startTime : Refuses writer.startTime fieldNumbers
+  pub defaultNamespace : Refuses writer.defaultNamespace fieldNumbers
+  pub namespaceCount : Refuses writer.namespaceCount countNumbers
+  pub uri : Refuses writer.uri fieldNumbers
+  pub shortName : Refuses writer.shortName fieldNumbers
+  pub serviceCount : Refuses writer.serviceCount countNumbers
+  pub service : Refuses writer.service fieldNumbers
+  pub documentId : Refuses writer.documentId idNumbers
+  pub openLayout : Refuses writer.openLayout fieldNumbers
+  pub typeName : Refuses writer.typeName fieldNumbers
+  pub attributeCount : Refuses writer.attributeCount attributesNumbers
+  pub attributeName : Refuses writer.attributeName fieldNumbers
+  pub attributeType : Refuses writer.attributeType typeNumbers
+  pub openRow : Refuses (λ (a : Opening). writer.openRow (a .number) (a .is-stated)) rowNumbers
+  pub value : Refuses (λ (a : Typed). writer.value (a .basic) (a .value)) valueNumbers
+  pub closeRow : Refuses (λ (a : Unit {0}). writer.closeRow) closeNumbers
+  pub giveUp : Refuses (λ (a : Unit {0}). writer.giveUp) giveUpNumbers
+  pub finish : Refuses writer.finish fieldNumbers
