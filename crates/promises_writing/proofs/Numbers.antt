@@ -11,7 +11,7 @@ use Rattle.kinds.specs.Kinds.{among, basicOf, kindAt}
 use Rattle.layouts.specs.Layout.{attributeAt, layoutAt, attributeImage, layoutImage}
 use Rattle.layouts.specs.Book.{find, layoutsAt, bookOf, bookIn}
 use Rattle.rows.specs.Row.{bits}
-use Rattle.promises.specs.Cases.{specimen, layoutBook, emptyBook}
+use Rattle.promises.specs.Specimen.{specimen, layoutBook, emptyBook}
 use Rattle.promises.specs.Refusals.{Only, refusalsOf}
 use Rattle.promises.proofs.Given.{layouts}
 use Rattle.writing.specs.declared.Turn.{Turn}
