@@ -1,1 +1,3 @@
 pub mod Entry
+pub mod Earlier
+pub mod Times
