@@ -3,7 +3,7 @@
 ghost use mathlib.Core.Path.{_≡_};
 ghost use Prim.Native.Nat.{ℕ, _+_, _≤_};
 ghost use lib.ListN.{length};
-ghost use Rattle.kinds.specs.Kinds.{codeOf, formOf, signed, kindOf, kindAt};
+ghost use Rattle.kinds.specs.Kinds.{codeOf, formOf, signed, unsigned, kindOf, kindAt};
 ghost use Rattle.kinds.specs.Answers.{kinds, kindSays, Fitting};
 
 // A basic type.
@@ -182,6 +182,50 @@ pub fn signed64(x: u64) -> i64
         x as i64
     } else {
         -1 - (0xffff_ffff_ffff_ffff - x) as i64
+    }
+}
+
+// And back: the bits of a signed number, at one octet.
+pub fn bits8(x: i8) -> u8
+    ensures { λ r. ⌜ r ≡ unsigned 1 x ⌝ }
+{
+    if 0 <= x {
+        x as u8
+    } else {
+        0xff - (-1 - x) as u8
+    }
+}
+
+// The same at two octets.
+pub fn bits16(x: i16) -> u16
+    ensures { λ r. ⌜ r ≡ unsigned 2 x ⌝ }
+{
+    if 0 <= x {
+        x as u16
+    } else {
+        0xffff - (-1 - x) as u16
+    }
+}
+
+// The same at four octets.
+pub fn bits32(x: i32) -> u32
+    ensures { λ r. ⌜ r ≡ unsigned 4 x ⌝ }
+{
+    if 0 <= x {
+        x as u32
+    } else {
+        0xffff_ffff - (-1 - x) as u32
+    }
+}
+
+// The same at eight octets.
+pub fn bits64(x: i64) -> u64
+    ensures { λ r. ⌜ r ≡ unsigned 8 x ⌝ }
+{
+    if 0 <= x {
+        x as u64
+    } else {
+        0xffff_ffff_ffff_ffff - (-1 - x) as u64
     }
 }
 

@@ -3,7 +3,9 @@ use Prim.Native.Nat.{ℕ}
 use mathlib.Core.Path.{_≡_, refl}
 use mathlib.Core.Bool.{Bool}
 use native.Mathlib.Omega.{arith}
+use lib.IntN.{ℤ}
 use lib.ListN.{length}
+use Rattle.kinds.specs.Kinds.{signed}
 use Rattle.layouts.specs.Layout.{Layout}
 use Rattle.rows.specs.Row.{Row}
 use Rattle.elements.specs.Element.{Element, item, layout, row, finish}
@@ -28,10 +30,10 @@ met-row (item (row r)) number stated count e =
     (r, refl, a, b)
 met-row (finish n t) number stated count e = absurd (let z : _≡_ {A = ℕ} 0 1 = cc in omega arith)
 
-pub met-end : (e : Element) (count time : ℕ) → metOf e ≡ met.End count time → e ≡ finish count time
+pub met-end : (e : Element) (count : ℕ) (time : ℤ) → metOf e ≡ met.End count time → (t : ℕ) × (e ≡ finish count t) × (signed 8 t ≡ time)
 met-end (item (layout l)) count time e = absurd (let z : _≡_ {A = ℕ} 0 1 = cc in omega arith)
 met-end (item (row r)) count time e = absurd (let z : _≡_ {A = ℕ} 0 1 = cc in omega arith)
 met-end (finish n t) count time e =
     let a : n ≡ count = cc in
-    let b : t ≡ time = cc in
-    cc
+    let b : signed 8 t ≡ time = cc in
+    (t, cc, b)

@@ -4,6 +4,7 @@ use mathlib.Core.Path.{_≡_}
 use mathlib.Core.List.{List, _∷_, _++_}
 use lib.ListN.{length, drop}
 use Rattle.octets.specs.Reading.{Read, ok, no, number}
+use Rattle.kinds.specs.Kinds.{signed}
 use Rattle.layouts.specs.Layout.{Layout}
 use Rattle.layouts.specs.Book.{Book}
 use Rattle.headers.specs.Header.{Header, headerAt}
@@ -59,7 +60,7 @@ Answered s at g (finish n t) next = EndAnswered s at g
 
 -- An accepted header: its numbers, its strings, and every item of both lists; behind the last 18 at the place where the list's count stands.
 pub record HeaderAnswered (s : List ℕ) (h : Header) (next : ℕ) : Type 0 where
-  pub numbers : headTells (headerAt s) ≡ headed.Is (record { start = h .start; namespaces = length (h .others); services = length (h .services); next = next })
+  pub numbers : headTells (headerAt s) ≡ headed.Is (record { start = signed 8 (h .start); namespaces = length (h .others); services = length (h .services); next = next })
   pub recorder : partOf (λ x. x .recorder) (headerAt s) ≡ h .recorder
   pub default : partOf (λ x. x .default) (headerAt s) ≡ h .default
   pub id : partOf (λ x. x .id) (headerAt s) ≡ h .id

@@ -8,7 +8,7 @@ ghost use lib.ListN.{length};
 ghost use lib.Dec.{leb, eqb};
 ghost use Rattle.octets.specs.Reading.{_then_};
 ghost use Rattle.octets.specs.Writing.{word, textImage};
-ghost use Rattle.kinds.specs.Kinds.{formOf, kindOf};
+ghost use Rattle.kinds.specs.Kinds.{formOf, unsigned, kindOf};
 ghost use Rattle.layouts.specs.Book.{find, bookIn, IsBook};
 ghost use Rattle.rows.specs.Row.{Value, bits, held, valueImage};
 ghost use Rattle.fields.specs.Answers.{says};
@@ -380,9 +380,9 @@ pub fn recorder(s: State, buf: &mut [u8], book: &[u8], used: usize, xs: &[u8]) -
     )
 }
 
-// The start time, by its bits.
-pub fn start_time(s: State, buf: &mut [u8], book: &[u8], used: usize, time: u64) -> Answer
-    ensures { λ r. ⌜ left r (now (buf .exit)) (now (book .entry)) ≡ leaves s (now (buf .entry)) (now (book .entry)) used (startTime time) ⌝ }
+// The start time.
+pub fn start_time(s: State, buf: &mut [u8], book: &[u8], used: usize, time: i64) -> Answer
+    ensures { λ r. ⌜ left r (now (buf .exit)) (now (book .entry)) ≡ leaves s (now (buf .entry)) (now (book .entry)) used (startTime (unsigned 8 time)) ⌝ }
 {
     give_number(
         s,
@@ -392,7 +392,7 @@ pub fn start_time(s: State, buf: &mut [u8], book: &[u8], used: usize, time: u64)
         Turn::StartTime,
         Fault::None,
         8,
-        time,
+        kinds::bits64(time),
         Turn::DefaultNamespace,
         0,
     )
@@ -894,11 +894,11 @@ pub fn give_up(s: State, buf: &mut [u8], book: &[u8], used: usize) -> Answer
     )
 }
 
-// The end: its kind, the count of rows closed, and the end time by its bits.
-pub fn finish(s: State, buf: &mut [u8], book: &[u8], used: usize, time: u64) -> Answer
-    ensures { λ r. ⌜ left r (now (buf .exit)) (now (book .entry)) ≡ leaves s (now (buf .entry)) (now (book .entry)) used (finish time) ⌝ }
+// The end: its kind, the count of rows closed, and the end time.
+pub fn finish(s: State, buf: &mut [u8], book: &[u8], used: usize, time: i64) -> Answer
+    ensures { λ r. ⌜ left r (now (buf .exit)) (now (book .entry)) ≡ leaves s (now (buf .entry)) (now (book .entry)) used (finish (unsigned 8 time)) ⌝ }
 {
-    let body = fields::word8(time);
+    let body = fields::word8(kinds::bits64(time));
     give_pair(
         s,
         buf,
