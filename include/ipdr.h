@@ -50,8 +50,8 @@
  *             ... the layout or row from at to ipdr_item_next(items[i]) ...
  *         rows = (uint32_t)out[IPDR_RUN_ROWS];
  *         used = (uint32_t)out[IPDR_RUN_USED];
- *     } while (out[IPDR_RUN_COUNT] == IPDR_RUN_MOST);
- *     ... and here ipdr_step reads the end, or says why nothing more can be read ...
+ *     } while (out[IPDR_RUN_COUNT] != 0);
+ *     ... and here stands the end: ipdr_step reads its time ...
  *
  * To read on from the middle, no header is needed: start the same loop with `at` at an element's first octet, `rows`
  * at the count of rows before it, and `book` and `used` as an earlier reading left them, or with layouts put there by
@@ -91,12 +91,12 @@ enum ipdr_refusal {
     IPDR_BOOLEAN = 14,     /* a boolean is not 0 or 1: that octet */
     IPDR_END_COUNT = 15,   /* the end's count is not that of the rows: the count */
     IPDR_AFTER_END = 16,   /* octets follow the end: the first of them */
-    IPDR_LENT = 17         /* steps only, after 2: the book is too short, used is over IPDR_BOOK_SIZE, the used octets
+    IPDR_LENT = 17         /* steps and runs, after 2: the book is too short, used is over IPDR_BOOK_SIZE, the used octets
                               are not whole valid layouts of different numbers, or rows is over IPDR_ROWS_MOST: 0 */
 };
 
-/* A refusal taken apart. A place is an index into the document: it is at most the document's length or, for a step
- * past the document's end, the place that the step was given. */
+/* A refusal taken apart. A place is an index into the document: it is at most the document's length or, for a step or
+ * a run past the document's end, the place that it was given. */
 static inline uint32_t ipdr_refusal_number(uint64_t refused) { return (uint32_t)(refused >> 32); }
 static inline uint32_t ipdr_refusal_place(uint64_t refused) { return (uint32_t)(refused & UINT32_MAX); }
 
@@ -147,13 +147,16 @@ uint64_t ipdr_step(const uint8_t *doc, size_t doc_len, uint32_t at, uint32_t row
 
 /* A run of steps: the layouts and rows from a place on, as ipdr_step reads them one after another.
  *
- * at, rows, book and used are as for ipdr_step. The run passes at most IPDR_RUN_MOST items and stops before the end,
- * before an element that is refused, and before a row count over IPDR_ROWS_MOST: the step there says which. The lent
- * items are IPDR_RUN_MOST words; the first IPDR_RUN_COUNT of them are written, the others are as they were.
+ * at, rows, book and used are as for ipdr_step. A run is refused exactly where ipdr_step is refused at its first
+ * element, by the same number and place: 1, 2, 4, 7 to 17. Else it passes at most IPDR_RUN_MOST items and stops before
+ * the end, before an element that is refused, and before a row count over IPDR_ROWS_MOST: the step there, or the next
+ * run, says which. The lent items are IPDR_RUN_MOST words; the first IPDR_RUN_COUNT of them are written, the others are
+ * as they were.
  *
- * Answers 0 with all eight words in `out`, or a refusal: 2 or 17. The book is as the steps would leave it. */
+ * Answers 0 with all eight words in `out`, or that refusal. The book is as the steps would leave it. A run that passes
+ * 0 items stands at the end, which is whole and right: its count is that of the rows, and nothing follows it. */
 enum ipdr_run_word {
-    IPDR_RUN_COUNT = 0, /* how many layouts and rows were passed; 0 where the first element is the end or refused */
+    IPDR_RUN_COUNT = 0, /* how many layouts and rows were passed; 0 where the first element is the end, and only there */
     IPDR_RUN_NEXT = 1,  /* the place behind them */
     IPDR_RUN_ROWS = 2,  /* how many rows are passed now */
     IPDR_RUN_USED = 3   /* how many octets of the book are used now */

@@ -219,7 +219,7 @@ static int item_is_step(uint64_t item, const uint64_t words[WORDS])
 }
 
 /* A run passes so many items, each as the step there reads it, and leaves book, places and counts as the steps do;
- * the step behind a run that is not full is the end or refused. */
+ * the step behind a run that is not full is the end or refused, and behind one of no items the end. */
 static void run_is_steps(const char *what, uint32_t at, uint32_t rows, uint32_t used, uint64_t count)
 {
     static uint8_t stepped[sizeof book];
@@ -238,16 +238,19 @@ static void run_is_steps(const char *what, uint32_t at, uint32_t rows, uint32_t 
     const uint64_t due[WORDS] = {count, at, rows, used, 0, 0, 0, 0};
     good = good && words_are(due) && items_are_as_lent_from(count) && memcmp(book, stepped, sizeof book) == 0;
     if (good && count < IPDR_RUN_MOST)
-        good = ipdr_step(made.at, made.len, at, rows, stepped, book_len, used, words) != 0 || words[IPDR_STEP_KIND] == IPDR_END;
+        good = ipdr_step(made.at, made.len, at, rows, stepped, book_len, used, words) != 0 ? count > 0 : words[IPDR_STEP_KIND] == IPDR_END;
     check(what, good);
 }
 
-static void run_refuses(const char *what, uint32_t at, uint32_t rows, uint32_t used, uint32_t number)
+/* A run is refused as the step at its place is, and changes nothing. */
+static void run_refuses(const char *what, uint32_t at, uint32_t rows, uint32_t used, uint32_t number, uint32_t place)
 {
     lend_words();
     lend_items();
     uint64_t answer = ipdr_run(made.at, made.len, at, rows, book, book_len, used, items, out);
-    check(what, is_refusal(answer, number, 0) && words_are(out_before) && items_are_as_lent_from(0) && book_is_as_lent());
+    int nothing_changed = words_are(out_before) && items_are_as_lent_from(0) && book_is_as_lent();
+    uint64_t step = ipdr_step(made.at, made.len, at, rows, book, book_len, used, out);
+    check(what, is_refusal(answer, number, place) && nothing_changed && answer == step);
 }
 
 static void lend_empty_book(void)
@@ -545,21 +548,33 @@ static void try_runs(void)
     lend_specimen_book();
     run_is_steps("a run from its second row", SECOND_ROW, 1, LAYOUT_SIZE, 1);
     run_is_steps("a run at its end", END_AT, 2, LAYOUT_SIZE, 0);
-    run_is_steps("a run inside an element", FIRST_ROW + 1, 0, LAYOUT_SIZE, 0);
-    run_is_steps("a run at the document's end", SPECIMEN_SIZE, 2, LAYOUT_SIZE, 0);
-    run_is_steps("a run past it", UINT32_MAX, 2, LAYOUT_SIZE, 0);
     run_is_steps("a run that reaches the most rows", FIRST_ROW, IPDR_ROWS_MOST, LAYOUT_SIZE, 1);
     lend_specimen_book();
-    run_refuses("a run told too many rows: 17", FIRST_ROW, IPDR_ROWS_MOST + 1, LAYOUT_SIZE, IPDR_LENT);
-    run_refuses("a run over a cut book: 17", FIRST_ROW, 0, LAYOUT_SIZE - 1, IPDR_LENT);
+    run_refuses("a run inside an element: 7 there", FIRST_ROW + 1, 0, LAYOUT_SIZE, IPDR_KIND, FIRST_ROW + 1);
+    run_refuses("a run at the document's end: 1 there", SPECIMEN_SIZE, 2, LAYOUT_SIZE, IPDR_CUT_SHORT, SPECIMEN_SIZE);
+    run_refuses("a run past it: 1 there", SPECIMEN_SIZE + 1, 2, LAYOUT_SIZE, IPDR_CUT_SHORT, SPECIMEN_SIZE + 1);
+    run_refuses("a run at the last place of all: 1 there", UINT32_MAX, 2, LAYOUT_SIZE, IPDR_CUT_SHORT, UINT32_MAX);
+    run_refuses("a run at the end, told one row: 15 at 125", END_AT, 1, LAYOUT_SIZE, IPDR_END_COUNT, 125);
+    run_refuses("a run told too many rows: 17", FIRST_ROW, IPDR_ROWS_MOST + 1, LAYOUT_SIZE, IPDR_LENT, 0);
+    run_refuses("a run over a cut book: 17", FIRST_ROW, 0, LAYOUT_SIZE - 1, IPDR_LENT, 0);
+    run_refuses("17 comes before the place of a run", UINT32_MAX, UINT32_MAX, 1, IPDR_LENT, 0);
     book_len = IPDR_BOOK_SIZE - 1;
-    run_refuses("a run over a short book: 17", FIRST_ROW, 0, LAYOUT_SIZE, IPDR_LENT);
+    run_refuses("a run over a short book: 17", FIRST_ROW, 0, LAYOUT_SIZE, IPDR_LENT, 0);
     book_len = IPDR_BOOK_SIZE;
+    change(95, 6);
+    run_refuses("a run at a row of length 6: 13 at 95", FIRST_ROW, 0, LAYOUT_SIZE, IPDR_ROW_LENGTH, 95);
+    change_octet(64, 'B');
+    run_refuses("a run at a layout of a known number with another name: 10 at 56", HEADER_END, 0, LAYOUT_SIZE, IPDR_DIFFERS, LAYOUT_NUMBER);
+    begin(SPECIMEN_SIZE - 1);
+    run_refuses("a run at an end that is cut short: 1 at 129", END_AT, 2, LAYOUT_SIZE, IPDR_CUT_SHORT, 129);
 
+    begin(SPECIMEN_SIZE);
     lend_empty_book();
-    run_is_steps("a run over rows of no layout", FIRST_ROW, 0, 0, 0);
+    run_refuses("a run at a row of no layout: 12 at 91", FIRST_ROW, 0, 0, IPDR_NO_LAYOUT, 91);
     change(SECOND_ROW + 4, 8);
     run_is_steps("a run that meets a row of no layout", HEADER_END, 0, 0, 2);
+    lend_specimen_book();
+    run_refuses("the run behind it: 12 at 108", SECOND_ROW, 1, LAYOUT_SIZE, IPDR_NO_LAYOUT, 108);
     begin(SECOND_ROW - 1);
     lend_empty_book();
     run_is_steps("a run that is cut short", HEADER_END, 0, 0, 1);
@@ -579,7 +594,7 @@ static void try_runs(void)
     begin(SPECIMEN_SIZE);
     put_zeros(IPDR_DOCUMENT_MOST + 1 - SPECIMEN_SIZE);
     lend_empty_book();
-    run_refuses("a run over a document of 1,048,577 octets: 2", HEADER_END, 0, 0, IPDR_TOO_LONG);
+    run_refuses("a run over a document of 1,048,577 octets: 2", HEADER_END, 0, 0, IPDR_TOO_LONG, 0);
 }
 
 int main(void)

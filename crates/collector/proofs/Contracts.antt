@@ -1,18 +1,15 @@
 -- The contracts of the calls for C themselves: every input is taken, each allows one answer and one content of all that is lent, and a refusal, which is any number but 0, leaves it all. Assumes nothing.
 use Prim.Native.Nat.{ℕ, _<_}
-use mathlib.Core.Path.{_≡_, refl, sym, ap, _∙_}
-use mathlib.Core.List.{List}
+use mathlib.Core.Path.{_≡_, refl, sym, _∙_}
 use native.Mathlib.Omega.{arith}
 use denote.Ref.{now}
-use Rattle.octets.specs.Reading.{Read, ok, no}
+use Rattle.octets.specs.Reading.{Read, no}
 use Rattle.octets.specs.Contracts.{SettledLent}
 use Rattle.octets.proofs.Alike.{_also_, put-back, as-it-was}
-use Rattle.layouts.specs.Book.{Book}
 use Rattle.headers.specs.Header.{headerAt}
-use Rattle.elements.specs.Steps.{lentBook, stepAt, leaves, whole}
-use Rattle.plans.specs.Rows.{laid}
-use Rattle.runs.specs.Runs.{Passed, stopped, runFrom}
-use Rattle.runs.proofs.Entry.{lent-stops}
+use Rattle.elements.specs.Steps.{stepAt, leaves, whole}
+use Rattle.runs.specs.Runs.{runAsked}
+use Rattle.runs.specs.Answers.{bookLeft, wordsLeft}
 use Rattle.collector.specs.Calls.{answered, headLeaves, stepLeaves, runLeaves, countLeaves}
 use Rattle.collector.proofs.ipdr_header as ipdr-header
 use Rattle.collector.proofs.ipdr_step as ipdr-step
@@ -28,16 +25,6 @@ pub record Contracts : Type 0 where
 -- What a call leaves where its answer is not 0.
 kept : {A C : Type 0} (left : Read A → C) (lent : C) → ((n p : ℕ) → left (no n p) ≡ lent) → (r : Read A) (x : ℕ) → x ≡ answered r → 0 < x → left r ≡ lent
 kept left lent = as-it-was answered (λ x. 0 < x) (λ a next z. omega arith) left lent
-
--- A run that is refused has passed nothing.
-passed-none : (s : List ℕ) (at rows : ℕ) (octets : List ℕ) (used : ℕ) (x : ℕ) (r : Read Book) → lentBook s rows octets used ≡ r
-    → x ≡ answered r → 0 < x → runFrom 4096 s at rows octets used ≡ stopped at rows octets used
-passed-none s at rows octets used x (ok book end) f e h = absurd (omega arith)
-passed-none s at rows octets used x (no n p) f e h = lent-stops s at rows octets used 4096 n p f
-
-out-kept : (out s : List ℕ) (at rows : ℕ) (octets : List ℕ) (used : ℕ) (x : ℕ) → x ≡ answered (lentBook s rows octets used) → 0 < x
-    → runLeaves out (lentBook s rows octets used) (runFrom 4096 s at rows octets used) ≡ out
-out-kept out s at rows octets used = kept (λ r. runLeaves out r (runFrom 4096 s at rows octets used)) out (λ n p. refl) (lentBook s rows octets used)
 
 pub contracts : Contracts
 contracts =
@@ -60,10 +47,9 @@ contracts =
         λ κs a p x y u v e f.
             (e .0 ∙ sym (f .0), refl also refl also refl also (e .2 ∙ sym (f .2)) also refl also (e .3 ∙ sym (f .3)) also (e .1 ∙ sym (f .1)) also refl),
         λ κs a p x u e h.
-            let none = passed-none _ _ _ _ _ x _ refl (e .0) h in
-            refl also refl also refl also put-back (e .2 ∙ ap (λ (q : Passed). q .octets) none) also refl
-            also put-back (e .3 ∙ ap (λ (q : Passed). laid 0 (q .words) (now (a .1 .1 .1 .1 .1 .0))) none)
-            also put-back (e .1 ∙ out-kept _ _ _ _ _ _ x (e .0) h) also refl,
+            let r = runAsked (now (a .0)) (a .1 .0) (a .1 .1 .0) (now (a .1 .1 .1 .0)) (a .1 .1 .1 .1 .0) in
+            refl also refl also refl also put-back (e .2 ∙ kept (bookLeft _) _ (λ n p. refl) r x (e .0) h) also refl
+                also put-back (e .3 ∙ kept (wordsLeft _) _ (λ n p. refl) r x (e .0) h) also put-back (e .1 ∙ kept (runLeaves _) _ (λ n p. refl) r x (e .0) h) also refl,
       );
       of-whole = (
         λ κs a. tt,

@@ -6,7 +6,6 @@ use mathlib.Core.Bool.{true}
 use native.Mathlib.Omega.{arith}
 use lib.ListN.{set}
 use Rattle.octets.specs.Reading.{Read, ok, no, isOk}
-use Rattle.layouts.specs.Book.{Book}
 use Rattle.headers.specs.Header.{Header}
 use Rattle.elements.specs.Element.{Stepped}
 use Rattle.elements.specs.Answers.{tells}
@@ -42,13 +41,13 @@ step-told words (ok st next) x e = subst (StepTold words (ok st next)) (sym e) (
 step-told words (no n p) x e = subst (StepTold words (no n p)) (sym e) refl
 
 -- A run: refused, or where it stands.
-abbrev pub RunTold : List ℕ → Read Book → Passed → Running → Type 0
-RunTold words r p (running.Refused n q) = r ≡ no n q
-RunTold words r p (running.Went w) = (0 ≡ answered r) × (w .count ∷ w .next ∷ w .rows ∷ w .used ∷ 0 ∷ 0 ∷ 0 ∷ 0 ∷ [] ≡ runLeaves words r p)
+abbrev pub RunTold : List ℕ → Read Passed → Running → Type 0
+RunTold words r (running.Refused n q) = r ≡ no n q
+RunTold words r (running.Went w) = (0 ≡ answered r) × (w .count ∷ w .next ∷ w .rows ∷ w .used ∷ 0 ∷ 0 ∷ 0 ∷ 0 ∷ [] ≡ runLeaves words r)
 
-pub run-told : (words : List ℕ) (r : Read Book) (p : Passed) (x : Running) → x ≡ runTells r p → RunTold words r p x
-run-told words (ok book end) p x e = subst (RunTold words (ok book end) p) (sym e) (refl, refl)
-run-told words (no n q) p x e = subst (RunTold words (no n q) p) (sym e) refl
+pub run-told : (words : List ℕ) (r : Read Passed) (x : Running) → x ≡ runTells r → RunTold words r x
+run-told words (ok p next) x e = subst (RunTold words (ok p next)) (sym e) (refl, refl)
+run-told words (no n q) x e = subst (RunTold words (no n q)) (sym e) refl
 
 -- The whole check: refused, or its count.
 abbrev pub CountTold : ℕ → Read ℕ → Checked → Type 0

@@ -9,12 +9,12 @@ use lib.ListN.{length}
 use lib.Dec.{leb, lit<}
 use borrow.Author.Tests.{leb-true, leb-false}
 use Rattle.octets.specs.Reading.{Read, ok, no, _then_}
-use Rattle.layouts.specs.Book.{Book}
 use Rattle.headers.specs.Header.{headerAt}
-use Rattle.elements.specs.Steps.{lentBook, stepAt, whole}
-use Rattle.elements.proofs.Refusing.{Stays, OfHeader, OfElement, header-stays, whole-stays, lent-stays, step-stays}
+use Rattle.elements.specs.Steps.{stepAt, whole}
+use Rattle.elements.proofs.Refusing.{Stays, OfHeader, OfElement, header-stays, whole-stays, step-stays}
 use Rattle.elements.proofs.Before.{lent-long, step-refused}
 use Rattle.reading.proofs.Entry.{header-long, whole-refused}
+use Rattle.runs.specs.Runs.{Passed, runFrom, runAsked}
 use Rattle.collector.specs.Calls.{Packs}
 
 abbrev Positive : ℕ → Type 0
@@ -58,11 +58,11 @@ module _ (s : List ℕ) where
           let past = leb-false at (length s) e in
           packs at (stepAt s at rows octets used) small (step-stays Positive s at (omega arith) (lit< tt) (lit< tt) (lit< tt) of-element at rows octets used (le-refl at))
 
-  pub lent-packs : (rows : ℕ) (octets : List ℕ) (used : ℕ) → Packs (lentBook s rows octets used)
-  lent-packs rows octets used =
-      limited (lentBook s rows octets used) (lent-long s rows octets used) λ h.
-      first (lentBook s rows octets used) (packs (length s) (lentBook s rows octets used then λ (book : Book) (mid : ℕ). ok book 0) (omega arith) (lent-stays Positive s (length s) (le-refl (length s)) (lit< tt) (lit< tt) (lit< tt) rows octets used (λ book _. ok book 0) λ book _. omega arith))
+  -- A run is refused as its first step is.
+  pub run-packs : (at rows : ℕ) (octets : List ℕ) (used : ℕ) → at < 4294967296 → Packs (runAsked s at rows octets used)
+  unfolding runAsked
+  run-packs at rows octets used small = first (stepAt s at rows octets used) (runFrom 4096 s at rows octets used) (step-packs at rows octets used small)
     where
-      first : (r : Read Book) → Packs (r then λ book _. ok book 0) → Packs r
-      first (ok book end) h = tt
-      first (no n p) h = h
+      first : {A : Type 0} (r : Read A) (p : Passed) → Packs r → Packs (r then λ _ _. ok p (p .next))
+      first (ok a next) p h = tt
+      first (no n q) p h = h

@@ -4,7 +4,7 @@ use mathlib.Core.List.{List, [], _∷_}
 use mathlib.Core.Bool.{Bool, true, false}
 use lib.ListN.{length, set}
 use Rattle.octets.specs.Reading.{Read, ok, no}
-use Rattle.layouts.specs.Book.{Book, bookImage}
+use Rattle.layouts.specs.Book.{bookImage}
 use Rattle.headers.specs.Header.{Header}
 use Rattle.elements.specs.Element.{Stepped}
 use Rattle.elements.specs.Answers.{metOf}
@@ -46,9 +46,9 @@ stepLeaves words (ok st next) = metWords (metOf (st .element)) next (st .rows) (
 stepLeaves words (no n p) = words
 
 -- What a run leaves: how many items it has passed, the place, the row count and the used count behind them.
-abbrev pub runLeaves : List ℕ → Read Book → Passed → List ℕ
-runLeaves words (ok book end) p = length (p .words) ∷ p .next ∷ p .rows ∷ p .used ∷ 0 ∷ 0 ∷ 0 ∷ 0 ∷ []
-runLeaves words (no n q) p = words
+abbrev pub runLeaves : List ℕ → Read Passed → List ℕ
+runLeaves words (ok p next) = length (p .words) ∷ p .next ∷ p .rows ∷ p .used ∷ 0 ∷ 0 ∷ 0 ∷ 0 ∷ []
+runLeaves words (no n q) = words
 
 -- What the whole check leaves of the lent row count.
 abbrev pub countLeaves : ℕ → Read ℕ → ℕ

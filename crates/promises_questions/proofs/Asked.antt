@@ -38,7 +38,7 @@ module _ {ns : List ℕ} where
   only-with (ok a next) f h k = k a next refl
   only-with (no n p) f h k = given n p (h .number n p refl)
 
-  only-then : {A B : Type 0} (r : Read A) (f : A → ℕ → Read B) → Only ns r → ((a : A) (next : ℕ) → Only ns (f a next)) → Only ns (r then f)
+  pub only-then : {A B : Type 0} (r : Read A) (f : A → ℕ → Read B) → Only ns r → ((a : A) (next : ℕ) → Only ns (f a next)) → Only ns (r then f)
   only-then r f h k = only-with r f h λ a next _. k a next
 
   only-choose : {A : Type 0} (t : Bool) (x y : Unit {0} → Read A) → Only ns (x tt) → Only ns (y tt) → Only ns (choose t x y)

@@ -19,6 +19,7 @@ use Rattle.promises.specs.Cases.{specimen, layoutBook, emptyBook}
 use Rattle.promises.specs.Refusals.{refusalOf, refusalsOf, Inputs}
 use Rattle.promises.proofs.Given.{layouts, long, too-long, header-long}
 use Rattle.promises_questions.specs.Numbers.{fieldNumbers, layoutNumbers, attributeNumbers, listedNumbers, Indexed, Listed, Numbers}
+use Rattle.promises_questions.proofs.RunNumbers.{run-gives}
 use Rattle.promises_questions.proofs.Asked.{field-asked, layout-asked, attribute-asked, namespace-asked, service-asked}
 
 field-long : fieldAsked long 0 0 [] 0 0 ≡ no 2 0
@@ -111,6 +112,7 @@ service-each = ap (λ (r : Read (List ℕ)). 18 ∷ 1 ∷ refusalOf r ∷ 3 ∷ 
 pub numbers : Numbers
 numbers =
     record {
+      run = run-gives;
       field = record {
         only = λ i. field-asked (i .step .document) (i .step .place) (i .step .rows) (i .step .octets) (i .step .used) (i .index);
         inputs = fieldInputs;

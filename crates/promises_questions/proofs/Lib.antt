@@ -1,2 +1,4 @@
 pub mod Asked
+pub mod RunNumbers
 pub mod Each
+pub mod ByRuns

@@ -1,22 +1,66 @@
--- What stops a run where it begins: the refusals that stand before every step, and a place past the end.
-use Prim.Native.Nat.{ℕ, _≤_, _<_}
-use mathlib.Core.Path.{_≡_, ap, _∙_}
+-- How a run is answered: refused as its first step is, else by what it passes; either way it leaves what the items that it passes leave. Assumes nothing.
+use Prim.Native.Nat.{ℕ, suc}
+use mathlib.Core.Path.{_≡_, refl, sym, ap, _∙_}
 use mathlib.Core.List.{List}
+use mathlib.Core.Bool.{true, false}
 use native.Mathlib.Omega.{arith}
 use lib.ListN.{length}
-use Rattle.octets.specs.Reading.{no}
-use Rattle.layouts.specs.Book.{bookIn, IsBook}
-use Rattle.elements.specs.Steps.{lentBook}
-use Rattle.elements.proofs.Told.{element-cut}
-use Rattle.elements.proofs.Before.{step-refused, step-is}
-use Rattle.runs.specs.Runs.{stopped, runFrom}
-use Rattle.runs.specs.Answers.{isItem}
-use Rattle.runs.proofs.Runs.{run-stops}
+use Rattle.octets.specs.Reading.{Read, ok, no}
+use Rattle.plans.specs.Rows.{laid}
+use Rattle.elements.specs.Element.{Element, item, finish, Stepped}
+use Rattle.elements.specs.Steps.{stepAt}
+use Rattle.runs.specs.Runs.{Passed, stopped, ofItem, runFrom, runAsked}
+use Rattle.runs.specs.Answers.{isItem, bookLeft, wordsLeft}
+use Rattle.runs.proofs.Runs.{run-stops, run-goes}
 
-module _ (s : List ℕ) (at rows : ℕ) (octets : List ℕ) (used k : ℕ) where
-  pub lent-stops : (n p : ℕ) → lentBook s rows octets used ≡ no n p → runFrom k s at rows octets used ≡ stopped at rows octets used
-  lent-stops n p e = run-stops k s at rows octets used (ap isItem (step-refused s rows octets used at n p e))
+module _ (s : List ℕ) (at rows : ℕ) (octets : List ℕ) (used : ℕ) where
+  abbrev passed : Passed
+  passed = runFrom 4096 s at rows octets used
 
-  pub past-stops : length s ≤ 1048576 → IsBook octets used → rows ≤ 1048576 → length s < at → runFrom k s at rows octets used ≡ stopped at rows octets used
-  past-stops short is few h =
-      run-stops k s at rows octets used (ap isItem (step-is s rows octets used at short is few ∙ element-cut s at rows (bookIn octets used) (omega arith)))
+  pub asked-no : (n p : ℕ) → stepAt s at rows octets used ≡ no n p → runAsked s at rows octets used ≡ no n p
+  unfolding runAsked
+  asked-no n p e = rw e refl
+
+  pub asked-ok : (st : Stepped) (next : ℕ) → stepAt s at rows octets used ≡ ok st next → runAsked s at rows octets used ≡ ok passed (passed .next)
+  unfolding runAsked
+  asked-ok st next e = rw e refl
+
+  -- A first step that is refused passes nothing.
+  none : (n p : ℕ) → stepAt s at rows octets used ≡ no n p → passed ≡ stopped at rows octets used
+  none n p e = run-stops 4096 s at rows octets used (ap isItem e)
+
+  pub left-book : bookLeft octets (runAsked s at rows octets used) ≡ passed .octets
+  left-book = go (stepAt s at rows octets used) refl
+    where
+      go : (r : Read Stepped) → stepAt s at rows octets used ≡ r → bookLeft octets (runAsked s at rows octets used) ≡ passed .octets
+      go (ok st next) e = ap (bookLeft octets) (asked-ok st next e)
+      go (no n p) e = ap (bookLeft octets) (asked-no n p e) ∙ sym (ap (λ (x : Passed). x .octets) (none n p e))
+
+  pub left-words : (words : List ℕ) → wordsLeft words (runAsked s at rows octets used) ≡ laid 0 (passed .words) words
+  left-words words = go (stepAt s at rows octets used) refl
+    where
+      go : (r : Read Stepped) → stepAt s at rows octets used ≡ r → wordsLeft words (runAsked s at rows octets used) ≡ laid 0 (passed .words) words
+      go (ok st next) e = ap (wordsLeft words) (asked-ok st next e)
+      go (no n p) e = ap (wordsLeft words) (asked-no n p e) ∙ sym (ap (λ (x : Passed). laid 0 (x .words) words) (none n p e))
+
+  -- A run that passed an item is not refused, and one that passed none met no item.
+  pub some-asked : (length (passed .words) ≡ 0 → ⊥) → runAsked s at rows octets used ≡ ok passed (passed .next)
+  some-asked some = go (stepAt s at rows octets used) refl
+    where
+      go : (r : Read Stepped) → stepAt s at rows octets used ≡ r → runAsked s at rows octets used ≡ ok passed (passed .next)
+      go (ok st next) e = asked-ok st next e
+      go (no n p) e = absurd (some (ap (λ (x : Passed). length (x .words)) (none n p e)))
+
+  first-item : (k : ℕ) → length (runFrom (suc k) s at rows octets used .words) ≡ 0 → isItem (stepAt s at rows octets used) ≡ false
+  first-item k h = go (stepAt s at rows octets used) refl
+    where
+      by : (st : Stepped) (next : ℕ) → stepAt s at rows octets used ≡ ok st next → (x : Element) → st .element ≡ x → isItem (stepAt s at rows octets used) ≡ false
+      by st next e (item i) t = absurd (omega (arith, h, ap (λ (x : Passed). length (x .words)) (run-goes k s at rows octets used st i next e t)))
+      by st next e (finish n u) t = ap isItem e ∙ ap (λ (x : Element). ofItem x (λ _. true) false) t
+
+      go : (r : Read Stepped) → stepAt s at rows octets used ≡ r → isItem (stepAt s at rows octets used) ≡ false
+      go (ok st next) e = by st next e (st .element) refl
+      go (no n p) e = ap isItem e
+
+  pub none-item : length (passed .words) ≡ 0 → isItem (stepAt s at rows octets used) ≡ false
+  none-item h = first-item 4095 h

@@ -1,6 +1,6 @@
 mod Steps
 mod Mets
-mod Runs
+pub mod Runs
 mod Rows
 mod Carrying
 pub mod Entry

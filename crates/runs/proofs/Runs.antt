@@ -35,7 +35,7 @@ pub run-none : (s : List ℕ) (at rows : ℕ) (octets : List ℕ) (used : ℕ) �
 unfolding runFrom
 run-none s at rows octets used = refl
 
-run-goes : (k : ℕ) (s : List ℕ) (at rows : ℕ) (octets : List ℕ) (used : ℕ) (st : Stepped) (i : Item) (next : ℕ) → stepAt s at rows octets used ≡ ok st next
+pub run-goes : (k : ℕ) (s : List ℕ) (at rows : ℕ) (octets : List ℕ) (used : ℕ) (st : Stepped) (i : Item) (next : ℕ) → stepAt s at rows octets used ≡ ok st next
     → st .element ≡ item i
     → runFrom (suc k) s at rows octets used ≡ behind (itemWord i next ∷ []) (runFrom k s next (st .rows) (holding (st .book) octets) (length (bookImage (st .book))))
 unfolding runFrom

@@ -5,8 +5,9 @@ use mathlib.Core.List.{List}
 use mathlib.Core.Bool.{Bool, true, false}
 use lib.ListN.{length, take}
 use Rattle.octets.specs.Reading.{Read, ok, no}
-use Rattle.layouts.specs.Book.{Book, bookImage, bookIn}
+use Rattle.layouts.specs.Book.{bookImage, bookIn}
 use Rattle.plans.specs.Plan.{Planned, Kept}
+use Rattle.plans.specs.Rows.{laid}
 use Rattle.elements.specs.Element.{Item, item, Stepped}
 use Rattle.elements.specs.Steps.{holding, stepAt}
 use Rattle.runs.specs.Runs.{itemWord, Passed, onItem}
@@ -47,10 +48,19 @@ Turns s at rows entry used exit numbers places steps turn.Stop = (isItem (stepAt
 abbrev pub wentOf : Passed → Went
 wentOf p = record { count = length (p .words); next = p .next; rows = p .rows; used = p .used }
 
--- The refusals that stand before every step, or what was passed.
-abbrev pub runTells : Read Book → Passed → Running
-runTells (ok book end) p = running.Went (wentOf p)
-runTells (no n q) p = running.Refused n q
+-- The run's refusal, or what was passed.
+abbrev pub runTells : Read Passed → Running
+runTells (ok p next) = running.Went (wentOf p)
+runTells (no n q) = running.Refused n q
+
+-- The lent book and the lent words behind a run: a refusal leaves both as they were.
+abbrev pub bookLeft : List ℕ → Read Passed → List ℕ
+bookLeft octets (ok p next) = p .octets
+bookLeft octets (no n q) = octets
+
+abbrev pub wordsLeft : List ℕ → Read Passed → List ℕ
+wordsLeft words (ok p next) = laid 0 (p .words) words
+wordsLeft words (no n q) = words
 
 -- A run that is refused.
 abbrev pub Refuses : Running → Type 0

@@ -1,8 +1,8 @@
 -- A run of steps: the layouts and rows from a place on, each told in one number.
-use Prim.Native.Nat.{ℕ, zero, suc, _+_, _*_}
+use Prim.Native.Nat.{ℕ, zero, suc, _+_, _-_, _*_, min}
 use mathlib.Core.List.{List, [], _∷_, _++_}
 use lib.ListN.{length}
-use Rattle.octets.specs.Reading.{Read, ok, no}
+use Rattle.octets.specs.Reading.{Read, ok, no, _then_}
 use Rattle.layouts.specs.Book.{bookImage}
 use Rattle.plans.specs.Rows.{rowWord}
 use Rattle.elements.specs.Element.{Item, layout, row, Element, item, finish, Stepped}
@@ -46,3 +46,12 @@ runFrom (suc k) s at rows octets used =
     onItem (stepAt s at rows octets used)
     (λ st i next. behind (itemWord i next ∷ []) (runFrom k s next (st .rows) (holding (st .book) octets) (length (bookImage (st .book)))))
     (stopped at rows octets used)
+
+-- What a run is: refused exactly as its first step is, else what it passes, at most 4,096 items. It passes none where that step reads the end, and nowhere else.
+unfoldable pub runAsked : List ℕ → ℕ → ℕ → List ℕ → ℕ → Read Passed
+runAsked s at rows octets used =
+    stepAt s at rows octets used then λ _ _. ok (runFrom 4096 s at rows octets used) (runFrom 4096 s at rows octets used .next)
+
+-- The index up to which rows may follow one another behind n items and so many rows: no step is told more than 1,048,576 rows.
+abbrev pub reachOf : ℕ → ℕ → ℕ
+reachOf n rows = min 4096 (n + (1048577 - rows))

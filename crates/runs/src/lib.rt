@@ -1,13 +1,14 @@
 // A run of steps in one call: the layouts and rows from a place on, each told in one number, over a lent book that is checked once.
 
 ghost use mathlib.Core.Path.{_≡_};
-ghost use Prim.Native.Nat.{_≤_, _+_, _-_, _<_};
+ghost use mathlib.Core.Bool.{false};
+ghost use Prim.Native.Nat.{_≤_, _<_};
 ghost use lib.ListN.{length};
 ghost use Rattle.layouts.specs.Book.{IsBook};
 ghost use Rattle.plans.specs.Rows.{laid};
-ghost use Rattle.elements.specs.Steps.{lentBook};
-ghost use Rattle.runs.specs.Runs.{layoutWord, runFrom};
-ghost use Rattle.runs.specs.Answers.{Carried, Turns, wentOf, runTells};
+ghost use Rattle.elements.specs.Steps.{stepAt};
+ghost use Rattle.runs.specs.Runs.{layoutWord, runFrom, runAsked, reachOf};
+ghost use Rattle.runs.specs.Answers.{Carried, Turns, isItem, wentOf, runTells, bookLeft, wordsLeft};
 use elements::Met;
 use elements::Stepping;
 
@@ -127,7 +128,7 @@ fn next_item<'d, 'b, 'n, 'l, 'p>(
 // The index up to which rows may follow one another behind so many items and so many rows: no step is told more than 1,048,576 rows.
 fn reach(n: usize, rows: usize) -> usize
     requires { ⌜ n ≤ 4096 ⌝ }
-    ensures { λ r. ⌜ (n ≤ r) × (r ≤ 4096) × (n < r → rows + (r - n) ≤ 1048577) ⌝ }
+    ensures { λ r. ⌜ r ≡ reachOf n rows ⌝ }
 {
     if 1048576 < rows {
         return n;
@@ -205,7 +206,30 @@ fn items<'d, 'b, 'w>(
     }
 }
 
-// A run of steps from any place, told the rows passed, over a lent book of which so many octets are used: as many items as follow one another, at most 4,096. The end and a refusal stop it, and are left to the step there.
+// What a run that passed nothing answers: the refusal of the step at its place, or that it went nowhere, since the end stands there. It changes nothing.
+fn none_passed<'d, 'b>(
+    doc: &'d [u8],
+    at: usize,
+    rows: usize,
+    book: &'b mut [u8],
+    used: usize,
+) -> Running
+    requires { ⌜ (length (now doc) ≤ 1048576) × (rows ≤ 1048576) × IsBook (now book) used × (isItem (stepAt (now doc) at rows (now book) used) ≡ false) ⌝ }
+    ensures { λ r. ⌜ (r ≡ runTells (runAsked (now (doc .entry)) at rows (now (book .entry)) used)) × (now (book .exit) ≡ now (book .entry)) ⌝ }
+{
+    let one = elements::element(doc, at, rows, book, used);
+    match one {
+        Stepping::Refused(n, p) => Running::Refused(n, p),
+        Stepping::Done(step) => Running::Went(Went {
+            count: 0,
+            next: at,
+            rows,
+            used,
+        }),
+    }
+}
+
+// A run of steps from any place, told the rows passed, over a lent book of which so many octets are used: as many items as follow one another, at most 4,096. It is refused as its first step is; behind an item, the end and a refusal stop it, and are left to the step there.
 pub fn run<'d, 'b, 'w>(
     doc: &'d [u8],
     at: usize,
@@ -214,7 +238,7 @@ pub fn run<'d, 'b, 'w>(
     used: usize,
     words: &'w mut [u64; 4096],
 ) -> Running
-    ensures { λ r. ⌜ (r ≡ runTells (lentBook (now (doc .entry)) rows (now (book .entry)) used) (runFrom 4096 (now (doc .entry)) at rows (now (book .entry)) used)) × (now (book .exit) ≡ runFrom 4096 (now (doc .entry)) at rows (now (book .entry)) used .octets) × (now (words .exit) ≡ laid 0 (runFrom 4096 (now (doc .entry)) at rows (now (book .entry)) used .words) (now (words .entry))) ⌝ }
+    ensures { λ r. ⌜ (r ≡ runTells (runAsked (now (doc .entry)) at rows (now (book .entry)) used)) × (now (book .exit) ≡ bookLeft (now (book .entry)) (runAsked (now (doc .entry)) at rows (now (book .entry)) used)) × (now (words .exit) ≡ wordsLeft (now (words .entry)) (runAsked (now (doc .entry)) at rows (now (book .entry)) used)) ⌝ }
 {
     if 1048576 < doc.len() {
         return Running::Refused(2, 0);
@@ -227,12 +251,11 @@ pub fn run<'d, 'b, 'w>(
         return Running::Refused(17, 0);
     }
     if doc.len() < at {
-        return Running::Went(Went {
-            count: 0,
-            next: at,
-            rows,
-            used,
-        });
+        return Running::Refused(1, at);
     }
-    Running::Went(items(doc, at, rows, book, used, words))
+    let went = items(doc, at, rows, book, used, words);
+    if went.count == 0 {
+        return none_passed(doc, at, rows, book, used);
+    }
+    Running::Went(went)
 }

@@ -1,16 +1,15 @@
 -- `collector::ipdr_run` meets its contract: what the run tells, packed where it is refused, and book and words as the run leaves them. Assumes nothing.
 use borrow.Author.Needs.{needs}
+use native.Mathlib.Omega.{arith}
 use denote.Ref.{now}
 use Prim.Native.Nat.{ℕ}
 use mathlib.Core.Path.{_≡_, sym, ap, _∙_, subst}
 use mathlib.Core.List.{List}
 use Rattle.octets.specs.Reading.{Read}
-use Rattle.layouts.specs.Book.{Book}
-use Rattle.elements.specs.Steps.{lentBook}
-use Rattle.runs.specs.Runs.{Passed, runFrom}
+use Rattle.runs.specs.Runs.{Passed, runAsked}
 use Rattle.runs.specs.declared.Running.{Running}
 use Rattle.collector.specs.Calls.{answered, Packs, runLeaves}
-use Rattle.collector.proofs.Stays.{lent-packs}
+use Rattle.collector.proofs.Stays.{run-packs}
 use Rattle.collector.proofs.Handed.{RunTold, run-told}
 use Rattle.collector.proofs.ipdr_run.Statement.{statement}
 use Rattle.collector.proofs.ipdr_run.Tie as tie
@@ -23,29 +22,26 @@ abbrev Start : Answered → tie.Start
 Start v = v .before .before .before .before .before
 
 module _ (v : Answered) where
-  abbrev lent : Read Book
-  lent = let a = Start v .args in lentBook (now (a .doc)) (a .rows) (now (a .book)) (a .used)
-
-  abbrev passed : Passed
-  passed = let a = Start v .args in runFrom 4096 (now (a .doc)) (a .at) (a .rows) (now (a .book)) (a .used)
+  abbrev asked : Read Passed
+  asked = let a = Start v .args in runAsked (now (a .doc)) (a .at) (a .rows) (now (a .book)) (a .used)
 
   abbrev out : List ℕ
   out = now (Start v .args .out)
 
-  told : (x : Running) → v .run .result ≡ x → RunTold out lent passed x
-  told x q = run-told out lent passed x (sym q ∙ v .run .ensures .0)
+  told : (x : Running) → v .run .result ≡ x → RunTold out asked x
+  told x q = run-told out asked x (sym q ∙ v .run .ensures .0)
 
 pack-requires : tie.Need-pack-requires
 pack-requires c κs =
     let v = c .before .before .before .before .before in
     let a = Start v .args in
-    subst Packs (told v _ (c .before .running .given .1)) (lent-packs (now (a .doc)) (a .rows) (now (a .book)) (a .used)) .1
+    subst Packs (told v _ (c .before .running .given .1)) (run-packs (now (a .doc)) (a .at) (a .rows) (now (a .book)) (a .used) (omega arith)) .1
 
 returns : tie.Need-returns
 returns c =
     let v = c .before .before .before .before .before .before in
     let e = told v _ (c .before .before .running .given .1) in
-    (c .pack .ensures ∙ sym (ap answered e), sym (ap (λ (r : Read Book). runLeaves (out v) r (passed v)) e), v .run .ensures .1, v .run .ensures .2)
+    (c .pack .ensures ∙ sym (ap answered e), sym (ap (runLeaves (out v)) e), v .run .ensures .1, v .run .ensures .2)
 
 returns-2 : tie.Need-returns-2
 returns-2 c =

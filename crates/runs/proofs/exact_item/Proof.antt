@@ -3,7 +3,7 @@ use borrow.Author.Needs.{needs}
 use native.Mathlib.Omega.{arith}
 use Prim.Native.Nat.{ℕ, _+_, _≤_, _<_}
 use denote.Ref.{now}
-use mathlib.Core.Path.{_≡_, sym, ap, _∙_}
+use mathlib.Core.Path.{_≡_, refl, sym, ap, _∙_}
 use mathlib.Core.List.{List}
 use mathlib.Core.Bool.{Bool, true, false}
 use lib.ListN.{length, take}
@@ -22,12 +22,11 @@ use Rattle.elements.specs.declared.Stepping.the-variants.{Done}
 use Rattle.elements.proofs.Before.{step-is}
 use Rattle.elements.proofs.Going.{Told, told, told-used, refusing}
 use Rattle.elements.proofs.Quickly.{New, element-new, element-old, element-keeps, found-new}
-use Rattle.elements.proofs.Told.{holding-same}
 use Rattle.plans.specs.Rows.{rowWord}
 use Rattle.runs.specs.Runs.{layoutWord, ofItem}
 use Rattle.runs.specs.Answers.{Carried, Goes, isItem}
 use Rattle.runs.proofs.Steps.{Taken, taken}
-use Rattle.runs.proofs.Mets.{met-layout, met-row, met-end, end-keeps, row-keeps}
+use Rattle.runs.proofs.Mets.{met-layout, met-row, met-end, row-keeps, stop-leaves}
 use Rattle.runs.proofs.Carrying.{room-new, carried-same, carried-new}
 use Rattle.runs.proofs.exact_item.Statement.{statement}
 use Rattle.runs.proofs.exact_item.Tie as tie
@@ -128,23 +127,24 @@ module _ (v : Answered) (x : Step) (t : Reads v x) where
       (exit v) (x .used) (t .stepped .book)
       (element-old (doc v) (octets v) (at v) (rows v) (bookIn (entry v) (used v)) (t .stepped) (t .next) (t .reads) (used v) (x .used) (lent-here v .size) (told-used t) no-more) left fills
 
+-- What is no item stops the run here and leaves all as it was.
+stopped : (v : Answered) → isItem (elementAt (doc v) (at v) (rows v) (bookIn (entry v) (used v))) ≡ false
+    → (isItem (stepAt (doc v) (at v) (rows v) (entry v) (used v)) ≡ false) × (exit v ≡ entry v)
+stopped v h =
+    (ap isItem (step v) ∙ h, v .element-by .ensures .1 ∙ stop-leaves (doc v) (at v) (rows v) (entry v) (used v) (lent v) (Start v .pre .3) _ refl h)
+
 returns-2 : tie.Need-returns-2
 returns-2 c =
     let v = c .before .before .before .before .before in
-    let e = refusing (elementAt (doc v) (at v) (rows v) (bookIn (entry v) (used v))) _ _ (sym (v .element-by .ensures .0) ∙ c .before .one .given .1) in
-    (ap isItem (step v ∙ e), v .element-by .ensures .1 ∙ ap (leaves (entry v)) e)
+    stopped v (ap isItem (refusing (elementAt (doc v) (at v) (rows v) (bookIn (entry v) (used v))) _ _ (sym (v .element-by .ensures .0) ∙ c .before .one .given .1)))
 
 returns-3 : tie.Need-returns-3
 returns-3 c =
     let v = c .before .before .before .before .before .before .before .before in
-    let x = c .before .before .before .before .one2 .given .0 .0 in
-    let t = reads v x (c .before .before .before .before .one2 .given .1) in
-    let (n, u, is) = met-end (t .stepped .element) _ _ (ap (λ (y : Step). y .met) (t .is) ∙ c .before .met .given .1) in (
-      ap isItem (steps v x t) ∙ ap (λ (y : Element). ofItem y (λ _. true) false) is,
-      left v x t
-          ∙ (ap (λ (b : Book). holding b (entry v)) (end-keeps (doc v) (at v) (rows v) (bookIn (entry v) (used v)) (t .stepped) (t .next) (t .reads) n u is)
-          ∙ holding-same (entry v) (used v) (lent v) (Start v .pre .3)),
-    )
+    let one = c .before .before .before .before in
+    let t = reads v (one .one2 .given .0 .0) (one .one2 .given .1) in
+    let (n, u, is) = met-end (t .stepped .element) _ _ (ap (λ (y : Step). y .met) (t .is) ∙ c .before .met .given .1) in
+    stopped v (ap isItem (t .reads) ∙ ap (λ (y : Element). ofItem y (λ _. true) false) is)
 
 layout-word-requires : tie.Need-layout-word-requires
 layout-word-requires c κs =

@@ -92,7 +92,7 @@ Start t = Before t .before .before
 quick-rows-requires : tie.Need-quick-rows-requires Inv-loop μ-loop
 quick-rows-requires c κs =
     let t = c .before .before .before .before .before in
-    (t .loop .inv .1, Start t .pre .1, c .before .before .before .reach .ensures .0, record { book = bookIn (t .loop .book) (t .loop .filled); planned = t .loop .inv .4 .planned })
+    (t .loop .inv .1, Start t .pre .1, omega (arith, c .before .before .before .reach .ensures, t .loop .inv .0 .few), record { book = bookIn (t .loop .book) (t .loop .filled); planned = t .loop .inv .4 .planned })
 
 -- Behind the rows that plans passed.
 abbrev Strode : Type 0
@@ -149,7 +149,7 @@ module _ (q : Strode) where
 
   -- No step was told too many rows.
   few : 0 < length (passage .rows) → Turned q .loop .passed + length (passage .rows) ≤ 1048577
-  few h = let r = q .before .before .before .before .reach in let some = r .ensures .2 (omega (arith, q .quick-rows .ensures .1, count)) in omega (arith, q .quick-rows .ensures .1, count)
+  few h = omega (arith, q .before .before .before .before .reach .ensures, q .quick-rows .ensures .1, count)
 
   few-passed : passed ≤ 1048577
   few-passed = let b = go (length (passage .rows)) (Turned q .loop .passed) few (Turned q .loop .inv .6) in omega (arith, count)
@@ -161,7 +161,7 @@ module _ (q : Strode) where
   way : OnWay doc at rows entry used lent words book pos passed filled n
   way =
       let w = goes-rows doc (Start (Turned q) .pre .1) at rows entry used lent book filled (Turned q .loop .inv .2) (Turned q .loop .inv .3) (passage .rows) (Turned q .loop .words) (Turned q .loop .pos)
-      (Turned q .loop .passed) (Turned q .loop .n) pos (Turned q .loop .inv .0) (passage .stand) (omega (arith, count, q .quick-rows .ensures .1, q .before .before .before .before .reach .ensures .1)) few in
+      (Turned q .loop .passed) (Turned q .loop .n) pos (Turned q .loop .inv .0) (passage .stand) (omega (arith, count, q .quick-rows .ensures .1, q .before .before .before .before .reach .ensures)) few in
       subst (λ (ws : List ℕ). OnWay doc at rows entry used lent ws book pos passed filled n) (sym (passage .put))
       (subst (λ (m : ℕ). OnWay doc at rows entry used lent (laid (Turned q .loop .n) (wordsOf (passage .rows)) (Turned q .loop .words)) book pos m filled n) (omega (arith, count))
       (subst (λ (m : ℕ). OnWay doc at rows entry used lent (laid (Turned q .loop .n) (wordsOf (passage .rows)) (Turned q .loop .words)) book pos (Turned q .loop .passed + length (passage .rows)) filled m) count w))

@@ -1,26 +1,28 @@
--- `runs::run` meets its contract: 2, then 17, each leaving book and words; a place past the end; then what the items are. Assumes nothing.
+-- `runs::run` meets its contract: 2, then 17, and 1 past the end, each leaving book and words; then what the items are, or what stands where there is none. Assumes nothing.
 use borrow.Author.Needs.{needs}
 use borrow.Author.Tests.{not-true, not-false}
 use native.Mathlib.Omega.{arith}
-use Prim.Native.Nat.{ℕ, _≤_}
+use Prim.Native.Nat.{ℕ}
 use denote.Ref.{now}
-use mathlib.Core.Path.{_≡_, sym, ap, _∙_}
+use mathlib.Core.Path.{_≡_, sym, ap, _∙_, subst}
 use mathlib.Core.List.{List}
 use mathlib.Core.Bool.{Bool, true, false}
 use lib.ListN.{length}
 use lib.Seq.{take-length}
 use Rattle.octets.specs.Reading.{Read, no, isOk}
 use Rattle.octets.proofs.Spans.{each-octet}
-use Rattle.layouts.specs.Book.{Book, bookOf, IsBook}
+use Rattle.layouts.specs.Book.{bookOf, bookIn, IsBook}
 use Rattle.layouts.proofs.Checks.{good-book}
-use Rattle.elements.specs.Steps.{lentBook}
-use Rattle.plans.specs.Rows.{laid}
-use Rattle.runs.specs.Runs.{Passed, stopped, runFrom}
-use Rattle.runs.specs.Answers.{wentOf, runTells}
+use Rattle.elements.specs.Steps.{lentBook, stepAt}
+use Rattle.elements.proofs.Before.{lent-long, lent-unbooked, lent-many, step-refused, step-is}
+use Rattle.elements.proofs.Told.{element-cut}
+use Rattle.runs.specs.Runs.{Passed, runFrom, runAsked}
+use Rattle.runs.specs.Answers.{isItem, runTells, bookLeft, wordsLeft}
+use Rattle.runs.specs.declared.Went as declared
 use Rattle.runs.specs.declared.Running.{Running}
 use Rattle.runs.specs.declared.Running.the-variants as running
-use Rattle.elements.proofs.Before.{lent-long, lent-unbooked, lent-many, lent-is}
-use Rattle.runs.proofs.Entry.{lent-stops, past-stops}
+use Rattle.runs.proofs.Runs.{run-stops}
+use Rattle.runs.proofs.Entry.{asked-no, left-book, left-words, some-asked, none-item}
 use Rattle.runs.proofs.run.Statement.{statement}
 use Rattle.runs.proofs.run.Tie as tie
 
@@ -47,21 +49,25 @@ module _ (k : Known) where
   abbrev words : List ℕ
   words = now (k .before .before .args .words)
 
-  abbrev whole : Passed
-  whole = runFrom 4096 doc at rows lent used
+  abbrev asked : Read Passed
+  asked = runAsked doc at rows lent used
 
-  -- A run that stops where it began leaves book and words as they were.
+  abbrev passed : Passed
+  passed = runFrom 4096 doc at rows lent used
+
   abbrev Left : Running → Type 0
-  Left r = (r ≡ runTells (lentBook doc rows lent used) whole) × (lent ≡ whole .octets) × (words ≡ laid 0 (whole .words) words)
+  Left r = (r ≡ runTells asked) × (lent ≡ bookLeft lent asked) × (words ≡ wordsLeft words asked)
 
-  unmoved : (r : Running) → r ≡ runTells (lentBook doc rows lent used) whole → whole ≡ stopped at rows lent used → Left r
-  unmoved r e stop = (e, sym (ap (λ (p : Passed). p .octets) stop), sym (ap (λ (p : Passed). laid 0 (p .words) words) stop))
+  -- A run whose first step is refused.
+  refused : (n p : ℕ) → stepAt doc at rows lent used ≡ no n p → Left (running.Refused n p)
+  refused n p e = let is = asked-no doc at rows lent used n p e in (sym (ap runTells is), sym (ap (bookLeft lent) is), sym (ap (wordsLeft words) is))
 
-  refused : (n p : ℕ) → lentBook doc rows lent used ≡ no n p → Left (running.Refused n p)
-  refused n p e = unmoved (running.Refused n p) (sym (ap (λ (r : Read Book). runTells r whole) e)) (lent-stops doc at rows lent used 4096 n p e)
+  -- One that is refused before every step.
+  unlent : (n p : ℕ) → lentBook doc rows lent used ≡ no n p → Left (running.Refused n p)
+  unlent n p e = refused n p (step-refused doc rows lent used at n p e)
 
 returns : tie.Need-returns
-returns c = let k = c .before in refused k 2 0 (lent-long (doc k) (rows k) (lent k) (used k) (c .if1 .taken))
+returns c = let k = c .before in unlent k 2 0 (lent-long (doc k) (rows k) (lent k) (used k) (c .if1 .taken))
 
 -- What the check of the book says of it.
 checked : (v : tie.After-is-book) (b : Bool) → v .is-book .result ≡ b → isOk (bookOf (lent (v .before .before .before)) (used (v .before .before .before))) ≡ b
@@ -73,7 +79,7 @@ returns-2 : tie.Need-returns-2
 returns-2 c =
     let v = c .before in
     let k = v .before .before .before in
-    refused k 17 0 (lent-unbooked (doc k) (rows k) (lent k) (used k) (omega arith) (checked v false (not-true _ (c .if2 .taken))))
+    unlent k 17 0 (lent-unbooked (doc k) (rows k) (lent k) (used k) (omega arith) (checked v false (not-true _ (c .if2 .taken))))
 
 is : (v : tie.After-is-book) → v .is-book .result ≡ true → IsBook (lent (v .before .before .before)) (used (v .before .before .before))
 is v q = let k = v .before .before .before in good-book (lent k) (used k) (each-octet (lent k) (k .slice-known .given)) (checked v true q)
@@ -82,34 +88,81 @@ returns-3 : tie.Need-returns-3
 returns-3 c =
     let v = c .before .before in
     let k = v .before .before .before in
-    refused k 17 0 (lent-many (doc k) (rows k) (lent k) (used k) (omega arith) (is v (not-false _ (c .before .if2 .left))) (c .if3 .taken))
+    unlent k 17 0 (lent-many (doc k) (rows k) (lent k) (used k) (omega arith) (is v (not-false _ (c .before .if2 .left))) (c .if3 .taken))
 
 returns-4 : tie.Need-returns-4
 returns-4 c =
     let v = c .before .before .before in
     let k = v .before .before .before in
     let book = is v (not-false _ (c .before .before .if2 .left)) in
-    let few : rows k ≤ 1048576 = c .before .if3 .left in
-    let stop = past-stops (doc k) (at k) (rows k) (lent k) (used k) 4096 (omega arith) book few (c .if4 .taken) in
-    unmoved k _
-    (ap (λ (p : Passed). running.Went (wentOf p)) (sym stop) ∙ sym (ap (λ (r : Read Book). runTells r (whole k)) (lent-is (doc k) (rows k) (lent k) (used k) (omega arith) book few)))
-    stop
+    refused k 1 (at k) (step-is (doc k) (rows k) (lent k) (used k) (at k) (omega arith) book (c .before .if3 .left) ∙ element-cut (doc k) (at k) (rows k) (bookIn (lent k) (used k)) (omega (arith, c .if4 .taken)))
 
 items-requires : tie.Need-items-requires
 items-requires c κs =
     let v = c .before .before .before .before .before in
     (c .before .before .if4 .left, omega arith, c .before .before .before .if3 .left, is v (not-false _ (c .before .before .before .before .if2 .left)))
 
+-- Behind the items.
+abbrev Went : Type 0
+Went = tie.After-items
+
+abbrev Checked : Went → tie.After-is-book
+Checked m = m .before .before .before .before .before .before
+
+abbrev Of : Went → Known
+Of m = Checked m .before .before .before
+
+module _ (m : Went) where
+  abbrev exit : List ℕ
+  exit = m .items .last .1 .1 .1 .0
+
+  count : m .items .result .count ≡ length (passed (Of m) .words)
+  count = ap (λ (w : declared.Went). w .count) (m .items .ensures .0)
+
+  -- What is left, with or without items.
+  book-left : exit ≡ bookLeft (lent (Of m)) (asked (Of m))
+  book-left = let k = Of m in m .items .ensures .1 ∙ sym (left-book (doc k) (at k) (rows k) (lent k) (used k))
+
+  words-left : m .items .last .1 .1 .1 .1 .1 .0 ≡ wordsLeft (words (Of m)) (asked (Of m))
+  words-left = let k = Of m in m .items .ensures .2 ∙ sym (left-words (doc k) (at k) (rows k) (lent k) (used k) (words k))
+
+  module _ (none : m .items .result .count ≡ 0) where
+    no-item : isItem (stepAt (doc (Of m)) (at (Of m)) (rows (Of m)) (lent (Of m)) (used (Of m))) ≡ false
+    no-item = let k = Of m in none-item (doc k) (at k) (rows k) (lent k) (used k) (sym count ∙ none)
+
+    -- Without items the book is as it was.
+    same : exit ≡ lent (Of m)
+    same = let k = Of m in m .items .ensures .1 ∙ ap (λ (p : Passed). p .octets) (run-stops 4096 (doc k) (at k) (rows k) (lent k) (used k) no-item)
+
+none-passed-requires : tie.Need-none-passed-requires
+none-passed-requires c κs =
+    let m = c .before .before .before .before .before in
+    let k = Of m in
+    let none = c .before .if5 .taken in
+    let f = m .before .before .before .before in (
+      omega arith,
+      f .if3 .left,
+      subst (λ (xs : List ℕ). IsBook xs (used k)) (sym (same m none)) (is (Checked m) (not-false _ (f .before .if2 .left))),
+      subst (λ (xs : List ℕ). isItem (stepAt (doc k) (at k) (rows k) xs (used k)) ≡ false) (sym (same m none)) (no-item m none),
+    )
+
 returns-5 : tie.Need-returns-5
 returns-5 c =
-    let m = c .before .before in
-    let v = m .before .before .before .before .before .before in
-    let k = v .before .before .before in
-    let book = is v (not-false _ (m .before .before .before .before .before .if2 .left)) in (
-      ap running.Went (m .items .ensures .0)
-          ∙ sym (ap (λ (r : Read Book). runTells r (whole k)) (lent-is (doc k) (rows k) (lent k) (used k) (omega arith) book (m .before .before .before .before .if3 .left))),
-      m .items .ensures .1,
-      m .items .ensures .2,
+    let w = c .before .before in
+    let m = w .before .before .before .before .before .before in
+    let k = Of m in (
+      w .none-passed .ensures .0 ∙ ap (λ (xs : List ℕ). runTells (runAsked (doc k) (at k) (rows k) xs (used k))) (same m (w .before .before .if5 .taken)),
+      w .none-passed .ensures .1 ∙ book-left m,
+      words-left m,
+    )
+
+returns-6 : tie.Need-returns-6
+returns-6 c =
+    let m = c .before .before .before .before in
+    let k = Of m in (
+      ap running.Went (m .items .ensures .0) ∙ sym (ap runTells (some-asked (doc k) (at k) (rows k) (lent k) (used k) λ h. c .if5 .left (count m ∙ h))),
+      book-left m,
+      words-left m,
     )
 
 slice-aggregate-is-book : tie.Need-slice-aggregate-is-book
@@ -119,4 +172,4 @@ pub run-spec : {M : Type 1} → statement M
 run-spec =
     tie.close
     (tie.spec returns (λ c. search needs) slice-aggregate-is-book (λ c κs. search needs) (λ c. search needs) returns-2 (λ c. search needs) returns-3
-    (λ c. search needs) returns-4 items-requires (λ c. search needs) returns-5)
+    (λ c. search needs) returns-4 items-requires none-passed-requires (λ c. search needs) returns-5 (λ c. search needs) returns-6)
