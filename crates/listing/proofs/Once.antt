@@ -1,4 +1,4 @@
--- A document has one listing: the definition leaves no choice.
+-- A document has one listing, and an input one text that is printed of it: the definitions leave no choice.
 use Prim.Native.Nat.{ℕ}
 use mathlib.Core.Path.{_≡_, refl, sym, ap, _∙_, subst}
 use mathlib.Core.List.{List, []}
@@ -10,8 +10,10 @@ use Rattle.layouts.specs.Book.{Book}
 use Rattle.headers.specs.Header.{Header, headerAt}
 use Rattle.elements.specs.Element.{Element, Stepped, elementAt}
 use Rattle.elements.specs.Steps.{isLast}
+use Rattle.printing.proofs.Puts.{says}
+use Rattle.printing.proofs.Waits.{one-print}
 use Rattle.dates.proofs.Once.{one-time}
-use Rattle.listing.specs.Lines.{Timed, timed, headerText, refusalText, ElementText, of-layout, of-row, of-end, LinesFrom, refused, last, more, Listing, unheaded, headed}
+use Rattle.listing.specs.Lines.{Puts, Timed, timed, headerText, refusalText, ElementText, of-layout, of-row, of-end, LinesFrom, refused, last, more, Listing, unheaded, headed, Listed, long, short}
 
 one-timed : {bits : ℕ} {line : List ℕ → List ℕ} {a b : List ℕ} → Timed bits line a → Timed bits line b → a ≡ b
 one-timed {line = line} (timed p) (timed q) = ap line (one-time p q)
@@ -65,3 +67,13 @@ module _ (s : List ℕ) where
       let here : a ≡ b = one-timed x (subst (λ (z : Header). Timed (z .start) headerText b) same y) in
       let there : rest ≡ others = one-lines l (subst (λ (k : ℕ). LinesFrom s k 0 [] others) place m) in
       cc
+
+  pub one-listed : {a b : List ℕ} → Listed s a → Listed s b → a ≡ b
+  one-listed (long h) (long k) = refl
+  one-listed (long h) (short k l) = absurd (omega arith)
+  one-listed (short h l) (long k) = absurd (omega arith)
+  one-listed (short h l) (short k m) = one-listing l m
+
+  -- So what is answered and left in the lent buffer is settled by the input and the buffer.
+  pub one-output : {before after other : List ℕ} {n r m : ℕ} → Puts (Listed s) before n after r → Puts (Listed s) before n other m → (after ≡ other) × (r ≡ m)
+  one-output p q = one-print (p .prints) (says (one-listed (q .right) (p .right)) (q .prints))

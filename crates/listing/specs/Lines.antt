@@ -1,5 +1,5 @@
 -- The listing of a document, line by line, as octets. One space, 32, stands before every field of a line but the first word, and each line ends in 10.
-use Prim.Native.Nat.{ℕ}
+use Prim.Native.Nat.{ℕ, _≤_, _<_}
 use mathlib.Core.Path.{_≡_}
 use mathlib.Core.List.{List, [], _∷_, _++_}
 use mathlib.Core.Bool.{true, false}
@@ -94,3 +94,12 @@ pub data Listing (s : List ℕ) : List ℕ → Type 0 where
   unheaded : (n p : ℕ) → headerAt s ≡ no n p → Listing s (refusalText n p)
   headed : {first rest : List ℕ} (h : Header) (next : ℕ) → headerAt s ≡ ok h next → Timed (h .start) headerText first
       → LinesFrom s next 0 [] rest → Listing s (first ++ rest)
+
+-- "input too long", as the only line.
+abbrev pub tooLongText : List ℕ
+tooLongText = 105 ∷ 110 ∷ 112 ∷ 117 ∷ 116 ∷ 32 ∷ 116 ∷ 111 ∷ 111 ∷ 32 ∷ 108 ∷ 111 ∷ 110 ∷ 103 ∷ 10 ∷ []
+
+-- What the program prints of its input: the listing of a document of at most 65,536 octets.
+pub data Listed (s : List ℕ) : List ℕ → Type 0 where
+  long : 65536 < length s → Listed s tooLongText
+  short : {text : List ℕ} → length s ≤ 65536 → Listing s text → Listed s text

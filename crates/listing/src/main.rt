@@ -13,7 +13,7 @@ ghost use Rattle.elements.specs.Answers.{metOf, isLastMet};
 ghost use Rattle.questions.specs.Questions.{rowAsked, fieldAsked, layoutAsked, partOf};
 ghost use Rattle.questions.specs.Answers.{octetsOf};
 ghost use Rattle.printing.specs.Text.{Prints};
-ghost use Rattle.listing.specs.Lines.{Puts, Timed, headerText, numbered, stringText, octetsText, wordText, fieldText, layoutText, rowText, endText, refusalText, ElementText, LinesFrom, Listing};
+ghost use Rattle.listing.specs.Lines.{Puts, Timed, headerText, numbered, stringText, octetsText, wordText, fieldText, layoutText, rowText, endText, refusalText, ElementText, LinesFrom, Listing, Listed};
 use elements::Met;
 use elements::Stepping;
 use kinds::Form;
@@ -261,18 +261,21 @@ fn lines<'d, 'o>(doc: &'d [u8], out: &'o mut [u8]) -> usize
     }
 }
 
-fn list(doc: &[u8]) {
-    let mut out = [0u8; 4096];
-    let n = lines(doc, &mut out);
-    printing::flush(&out, n);
+// What is printed of the input: its listing, or that it is too long to be listed.
+fn listed<'d, 'o>(doc: &'d [u8], out: &'o mut [u8]) -> usize
+    ensures { λ r. ⌜ Puts (Listed (now (doc .entry))) (now (out .entry)) 0 (now (out .exit)) r ⌝ }
+{
+    if 65536 < doc.len() {
+        return printing::show_all(out, 0, Show::Plain, b"input too long\n");
+    }
+    lines(doc, out)
 }
 
+// One octet more than the limit is read, so that an input over it is seen.
 fn main() {
     let mut doc = [0u8; 65537];
+    let mut out = [0u8; 4096];
     let n = io::read_full(0, &mut doc);
-    if 65536 < n {
-        io::write_all(1, b"input too long\n");
-        return;
-    }
-    list(&doc[..n]);
+    let to = listed(&doc[..n], &mut out);
+    printing::flush(&out, to);
 }

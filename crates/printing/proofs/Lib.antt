@@ -1,3 +1,4 @@
 pub mod Puts
+pub mod Waits
 pub mod Spelling
 pub mod Signs

@@ -1,22 +1,42 @@
 -- The texts that programs print, as octets, and what it is to print one.
-use Prim.Native.Nat.{ℕ, zero, suc, _+_, _-_, _*_, _/_, _%_, _<_}
+use Prim.Native.Nat.{ℕ, zero, suc, _+_, _-_, _/_, _%_}
 use mathlib.Core.Path.{_≡_}
 use mathlib.Core.List.{List, [], _∷_, _++_}
 use mathlib.Core.Bool.{Bool, true, false, cond, _&&_, not}
-use lib.ListN.{length, take}
+use lib.ListN.{length, take, set}
 use lib.Dec.{leb, ltb, eqb}
 use lib.IntN.{ℤ, pos, negsuc}
 use Rattle.octets.specs.Writing.{images}
 use Rattle.printing.specs.declared.Show.{Show}
 use Rattle.printing.specs.declared.Show.the-variants.{Plain, Hex, Escaped}
 
--- What waited and the text behind it are what was written out and what waits now. Only a full buffer is written out, so what waits is settled; without a buffer all goes out.
+-- A lent buffer, and how many of its octets wait to be written out.
+pub data Held : Type 0 where
+  held : List ℕ → ℕ → Held
+
+abbrev pub waiting : Held → List ℕ
+waiting (held buffer n) = take n buffer
+
+-- One octet more: behind what waits, or at the start of a full buffer, which is written out first. Without a buffer nothing waits.
+unfoldable pub put : Held → ℕ → Held
+put (held buffer n) x = cond (ltb n (length buffer)) (held (set buffer n x) (n + 1)) (cond (eqb (length buffer) 0) (held buffer 0) (held (set buffer 0 x) 1))
+
+-- What is written out for it: nothing, the full buffer, or without one the octet itself.
+unfoldable pub goes : Held → ℕ → List ℕ
+goes (held buffer n) x = cond (ltb n (length buffer)) [] (cond (eqb (length buffer) 0) (x ∷ []) buffer)
+
+-- A text's octets one after another, and what is written out meanwhile.
+unfoldable pub puts : Held → List ℕ → Held
+puts h [] = h
+puts h (x ∷ xs) = puts (put h x) xs
+
+unfoldable pub gone : Held → List ℕ → List ℕ
+gone h [] = []
+gone h (x ∷ xs) = goes h x ++ gone (put h x) xs
+
+-- To print a text is to put its octets: it settles the whole buffer and how much of it waits.
 pub record Prints (before : List ℕ) (n : ℕ) (text after : List ℕ) (r : ℕ) : Type 0 where
-  pub gone : List ℕ
-  pub same : take n before ++ text ≡ gone ++ take r after
-  pub size : length after ≡ length before
-  pub times : ℕ
-  pub full : 0 < length before → length gone ≡ times * length before
+  pub is : held after r ≡ puts (held before n) text
 
 -- A digit: from 10 on a letter, of which the first is given.
 abbrev pub digit : ℕ → ℕ → ℕ

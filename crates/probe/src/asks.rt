@@ -368,7 +368,7 @@ fn place_asked<'d, 'b, 'o, 'i>(
 }
 
 // A command of the reading half, over the document and the book that are lent.
-pub fn ask<'d, 'b, 'o, 'i>(
+pub(crate) fn ask<'d, 'b, 'o, 'i>(
     letter: u8,
     doc: &'d [u8],
     book: &'b mut [u8],

@@ -38,7 +38,7 @@ fn more(buf: &mut [u8; 4096]) -> Fed {
 }
 
 // The next octet.
-pub fn letter(buf: &mut [u8; 4096], feed: Feed) -> Fed {
+pub(crate) fn letter(buf: &mut [u8; 4096], feed: Feed) -> Fed {
     let at = feed.at;
     let filled = feed.filled;
     if filled <= at {
@@ -57,7 +57,12 @@ fn store(to: &mut [u8], i: usize, x: u8) {
 }
 
 // So many octets, of which a lent slice takes as many as it has room for.
-pub fn fill<'b, 't>(buf: &'b mut [u8; 4096], feed: Feed, to: &'t mut [u8], n: u64) -> Filling {
+pub(crate) fn fill<'b, 't>(
+    buf: &'b mut [u8; 4096],
+    feed: Feed,
+    to: &'t mut [u8],
+    n: u64,
+) -> Filling {
     let mut at = feed;
     let mut i: u64 = 0;
     while i < n {
@@ -72,7 +77,7 @@ pub fn fill<'b, 't>(buf: &'b mut [u8; 4096], feed: Feed, to: &'t mut [u8], n: u6
 }
 
 // A number of eight octets.
-pub fn number(buf: &mut [u8; 4096], feed: Feed) -> Told {
+pub(crate) fn number(buf: &mut [u8; 4096], feed: Feed) -> Told {
     let mut eight = [0u8; 8];
     let filling = fill(buf, feed, &mut eight, 8);
     match filling {
@@ -82,7 +87,12 @@ pub fn number(buf: &mut [u8; 4096], feed: Feed) -> Told {
 }
 
 // Octets behind their length, at most so many.
-pub fn take<'b, 't>(buf: &'b mut [u8; 4096], feed: Feed, to: &'t mut [u8], most: u64) -> Taken {
+pub(crate) fn take<'b, 't>(
+    buf: &'b mut [u8; 4096],
+    feed: Feed,
+    to: &'t mut [u8],
+    most: u64,
+) -> Taken {
     let length = number(buf, feed);
     match length {
         Told::Cut => Taken::Bad,

@@ -556,7 +556,7 @@ fn lent_turn<'s, 'k, 'g, 'o, 'i>(
 }
 
 // A command of the writing half.
-pub fn written<'s, 'k, 'g, 'o, 'i>(
+pub(crate) fn written<'s, 'k, 'g, 'o, 'i>(
     letter: u8,
     pen: Pen,
     sheet: &'s mut [u8],
