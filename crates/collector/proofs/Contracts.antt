@@ -49,7 +49,7 @@ contracts =
         λ κs a p x u e h.
             let r = runAsked (now (a .0)) (a .1 .0) (a .1 .1 .0) (now (a .1 .1 .1 .0)) (a .1 .1 .1 .1 .0) in
             refl also refl also refl also put-back (e .2 ∙ kept (bookLeft _) _ (λ n p. refl) r x (e .0) h) also refl
-                also put-back (e .3 ∙ kept (wordsLeft _) _ (λ n p. refl) r x (e .0) h) also put-back (e .1 ∙ kept (runLeaves _) _ (λ n p. refl) r x (e .0) h) also refl,
+            also put-back (e .3 ∙ kept (wordsLeft _) _ (λ n p. refl) r x (e .0) h) also put-back (e .1 ∙ kept (runLeaves _) _ (λ n p. refl) r x (e .0) h) also refl,
       );
       of-whole = (
         λ κs a. tt,

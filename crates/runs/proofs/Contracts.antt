@@ -27,6 +27,6 @@ contracts =
         λ κs a p x u e h.
             let r = runAsked (now (a .0)) (a .1 .0) (a .1 .1 .0) (now (a .1 .1 .1 .0)) (a .1 .1 .1 .1 .0) in
             refl also refl also refl also put-back (e .1 ∙ kept (bookLeft _) _ (λ n q. refl) r x (e .0) h) also refl
-                also put-back (e .2 ∙ kept (wordsLeft _) _ (λ n q. refl) r x (e .0) h) also refl,
+            also put-back (e .2 ∙ kept (wordsLeft _) _ (λ n q. refl) r x (e .0) h) also refl,
       );
     }
