@@ -1,2 +1,3 @@
 pub mod Years
 pub mod Once
+pub mod Contracts

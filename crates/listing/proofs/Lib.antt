@@ -4,3 +4,4 @@ pub mod Passed
 pub mod Heads
 pub mod Once
 pub mod Specimen
+pub mod Contracts

@@ -17,7 +17,12 @@ use Rattle.printing.proofs.Waits.{one-print}
 use Rattle.dates.proofs.Once.{one-time}
 use Rattle.listing.specs.Lines.{Puts, Timed, timed, headerText, refusalText, ElementText, of-layout, of-row, of-end, LinesFrom, refused, last, more, Listing, unheaded, headed, Listed, long, short}
 
-one-timed : {time : ℤ} {line : List ℕ → List ℕ} {a b : List ℕ} → Timed time line a → Timed time line b → a ≡ b
+-- What is answered and left in the lent buffer is settled where the text is.
+pub one-put : {Right : List ℕ → Type 0} {before after other : List ℕ} {n r m : ℕ} → ((a b : List ℕ) → Right a → Right b → a ≡ b)
+    → Puts Right before n after r → Puts Right before n other m → (after ≡ other) × (r ≡ m)
+one-put one p q = one-print (p .prints) (says (one _ _ (q .right) (p .right)) (q .prints))
+
+pub one-timed : {time : ℤ} {line : List ℕ → List ℕ} {a b : List ℕ} → Timed time line a → Timed time line b → a ≡ b
 one-timed {line = line} (timed p) (timed q) = ap line (one-time p q)
 
 one-element : {at : ℕ} {e : Element} {a b : List ℕ} → ElementText at e a → ElementText at e b → a ≡ b
@@ -75,7 +80,3 @@ module _ (s : List ℕ) where
   one-listed (long h) (short k l) = absurd (omega arith)
   one-listed (short h l) (long k) = absurd (omega arith)
   one-listed (short h l) (short k m) = one-listing l m
-
-  -- So what is answered and left in the lent buffer is settled by the input and the buffer.
-  pub one-output : {before after other : List ℕ} {n r m : ℕ} → Puts (Listed s) before n after r → Puts (Listed s) before n other m → (after ≡ other) × (r ≡ m)
-  one-output p q = one-print (p .prints) (says (one-listed (q .right) (p .right)) (q .prints))

@@ -2,3 +2,4 @@ pub mod Puts
 pub mod Waits
 pub mod Spelling
 pub mod Signs
+pub mod Contracts

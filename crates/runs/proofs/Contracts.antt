@@ -14,10 +14,9 @@ use Rattle.runs.proofs.run as run
 pub record Contracts : Type 0 where
   pub of-run : SettledLent run.Kinds.ps run.Kinds.r (λ κs s. s) (λ κs. Refuses) run.Reads.Pre run.Reads.Post
 
--- What a run leaves of the book, or of the words, where it is refused.
-kept : (left : List ℕ → Read Passed → List ℕ) → ((lent : List ℕ) (n p : ℕ) → left lent (no n p) ≡ lent) → (lent : List ℕ) (r : Read Passed) (x : Running)
-    → x ≡ runTells r → Refuses x → left lent r ≡ lent
-kept left same lent = as-it-was runTells Refuses (λ p next z. z) (left lent) lent (same lent)
+-- What a refused run leaves.
+kept : (left : Read Passed → List ℕ) (lent : List ℕ) → ((n p : ℕ) → left (no n p) ≡ lent) → (r : Read Passed) (x : Running) → x ≡ runTells r → Refuses x → left r ≡ lent
+kept = as-it-was runTells Refuses (λ p next z. z)
 
 pub contracts : Contracts
 contracts =
@@ -27,7 +26,7 @@ contracts =
         λ κs a p x y u v e f. (e .0 ∙ sym (f .0), refl also refl also refl also (e .1 ∙ sym (f .1)) also refl also (e .2 ∙ sym (f .2)) also refl),
         λ κs a p x u e h.
             let r = runAsked (now (a .0)) (a .1 .0) (a .1 .1 .0) (now (a .1 .1 .1 .0)) (a .1 .1 .1 .1 .0) in
-            refl also refl also refl also put-back (e .1 ∙ kept bookLeft (λ o n p. refl) _ r x (e .0) h) also refl
-            also put-back (e .2 ∙ kept wordsLeft (λ o n p. refl) _ r x (e .0) h) also refl,
+            refl also refl also refl also put-back (e .1 ∙ kept (bookLeft _) _ (λ n q. refl) r x (e .0) h) also refl
+            also put-back (e .2 ∙ kept (wordsLeft _) _ (λ n q. refl) r x (e .0) h) also refl,
       );
     }
