@@ -4,6 +4,7 @@ ghost use mathlib.Core.Path.{_≡_};
 ghost use Prim.Native.Nat.{ℕ, _+_, _≤_};
 ghost use lib.ListN.{length};
 ghost use Rattle.kinds.specs.Kinds.{codeOf, formOf, signed, unsigned, kindOf, kindAt};
+ghost use Rattle.kinds.specs.Values.{basicOfValue, bitsOfValue};
 ghost use Rattle.kinds.specs.Answers.{kinds, kindSays, Fitting};
 
 // A basic type.
@@ -63,6 +64,23 @@ pub enum Form {
     Truth,
     Octets,
     Text,
+}
+
+// A value by its basic type: float and double as bits; octets are not held here, they stand in a document.
+pub enum Value {
+    Int(i32),
+    UnsignedInt(u32),
+    Long(i64),
+    UnsignedLong(u64),
+    Float(u32),
+    Double(u64),
+    HexBinary,
+    String,
+    Boolean(bool),
+    Byte(i8),
+    UnsignedByte(u8),
+    Short(i16),
+    UnsignedShort(u16),
 }
 
 // What a type number stands for, or its refusal.
@@ -226,6 +244,48 @@ pub fn bits64(x: i64) -> u64
         x as u64
     } else {
         0xffff_ffff_ffff_ffff - (-1 - x) as u64
+    }
+}
+
+// A value's basic type.
+pub fn basic_of_value(v: Value) -> Basic
+    ensures { λ r. ⌜ r ≡ basicOfValue v ⌝ }
+{
+    match v {
+        Value::Int(x) => Basic::Int,
+        Value::UnsignedInt(x) => Basic::UnsignedInt,
+        Value::Long(x) => Basic::Long,
+        Value::UnsignedLong(x) => Basic::UnsignedLong,
+        Value::Float(x) => Basic::Float,
+        Value::Double(x) => Basic::Double,
+        Value::HexBinary => Basic::HexBinary,
+        Value::String => Basic::String,
+        Value::Boolean(x) => Basic::Boolean,
+        Value::Byte(x) => Basic::Byte,
+        Value::UnsignedByte(x) => Basic::UnsignedByte,
+        Value::Short(x) => Basic::Short,
+        Value::UnsignedShort(x) => Basic::UnsignedShort,
+    }
+}
+
+// A value's bits at its type's width; 0 where it is octets.
+pub fn bits_of_value(v: Value) -> u64
+    ensures { λ r. ⌜ r ≡ bitsOfValue v ⌝ }
+{
+    match v {
+        Value::Int(x) => bits32(x) as u64,
+        Value::UnsignedInt(x) => x as u64,
+        Value::Long(x) => bits64(x),
+        Value::UnsignedLong(x) => x,
+        Value::Float(x) => x as u64,
+        Value::Double(x) => x,
+        Value::HexBinary => 0,
+        Value::String => 0,
+        Value::Boolean(x) => if x { 1 } else { 0 },
+        Value::Byte(x) => bits8(x) as u64,
+        Value::UnsignedByte(x) => x as u64,
+        Value::Short(x) => bits16(x) as u64,
+        Value::UnsignedShort(x) => x as u64,
     }
 }
 

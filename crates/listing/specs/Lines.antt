@@ -17,7 +17,7 @@ use Rattle.headers.specs.Header.{Header, headerAt}
 use Rattle.elements.specs.Element.{Element, item, layout, row, finish, Stepped, elementAt}
 use Rattle.elements.specs.Steps.{isLast}
 use Rattle.questions.specs.Answers.{valueOf, octetsOf}
-use Rattle.questions.specs.declared.Value.{Value}
+use Rattle.kinds.specs.declared.Value.{Value}
 use Rattle.values.specs.Values.{valueText}
 use Rattle.printing.specs.Text.{Prints, showing, decimal, signed, refusal}
 use Rattle.printing.specs.declared.Show.the-variants.{Hex, Escaped}

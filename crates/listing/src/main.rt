@@ -17,9 +17,9 @@ ghost use Rattle.listing.specs.Lines.{Puts, Timed, headerText, numbered,
 use elements::Met;
 use elements::Stepping;
 use kinds::Form;
+use kinds::Value;
 use printing::Show;
 use questions::Fielded;
-use questions::Value;
 use reading::Headed;
 
 // The version and the start time.

@@ -13,3 +13,4 @@ pub mod KeepsRow
 pub mod Wrote
 pub mod Only
 pub mod Numbers
+pub mod Copies

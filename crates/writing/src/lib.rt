@@ -14,7 +14,7 @@ ghost use Rattle.rows.specs.Row.{Value, bits, held, valueImage};
 ghost use Rattle.fields.specs.Answers.{says};
 ghost use Rattle.writing.specs.Writer.{fresh, room, rule, sameTurn, isOpen, bounded, fine, unless, put, puts, attributes, turnAt, known, suits, early};
 ghost use Rattle.writing.specs.Writer.{recorder, startTime, defaultNamespace, namespaceCount, uri, shortName, serviceCount, service, documentId};
-ghost use Rattle.writing.specs.Writer.{openLayout, typeName, attributeCount, attributeName, attributeType, openRow, value, closeRow, giveUp, finish};
+ghost use Rattle.writing.specs.Writer.{openLayout, typeName, attributeCount, attributeName, attributeType, openRow, value, valueCall, closeRow, giveUp, finish};
 ghost use Rattle.writing.specs.Answers.{left, leavesOf, leavesOn, leaves, widthOf, valueFault, closeFault};
 use fields::Completed;
 use fields::Counting;
@@ -773,7 +773,7 @@ fn width_of(b: Basic) -> usize
     }
 }
 
-// A value of the open row that is a number, by its bits.
+// A value of the open row that is a number, by its bits: those of its type's own width. A number that does not fit its type, as 300 for a byte or all 64 bits of -2 for an int, is refused by 21.
 pub fn value_number(s: State, buf: &mut [u8], book: &[u8], used: usize, b: Basic, n: u64) -> Answer
     ensures { λ r. ⌜ left r (now (buf .exit)) (now (book .entry)) ≡ leaves s (now (buf .entry)) (now (book .entry)) used (value b (bits n)) ⌝ }
 {
@@ -810,6 +810,24 @@ pub fn value_octets(
     let fits = suits_octets(b);
     let head = fields::word4(xs.len() as u64);
     give_value(s, buf, book, used, b, fits, &head, xs)
+}
+
+// A value of the open row as reading hands it out: its number, or the octets given beside it where its type has those.
+pub fn value(
+    s: State,
+    buf: &mut [u8],
+    book: &[u8],
+    used: usize,
+    v: kinds::Value,
+    xs: &[u8],
+) -> Answer
+    ensures { λ r. ⌜ left r (now (buf .exit)) (now (book .entry)) ≡ leaves s (now (buf .entry)) (now (book .entry)) used (valueCall v (now (xs .entry))) ⌝ }
+{
+    let b = kinds::basic_of_value(v);
+    if suits_octets(b) {
+        return value_octets(s, buf, book, used, b, xs);
+    }
+    value_number(s, buf, book, used, b, kinds::bits_of_value(v))
 }
 
 // 12 for a row whose layout is not in the book; 22 for one with fields missing.
