@@ -79,3 +79,12 @@ pub record Nth (s : List ℕ) (all : List Attribute) (n p : ℕ) : Type 0 where
   pub next : ℕ
   pub is : drop n all ≡ attribute ∷ more
   pub reads : attributeAt s p ≡ ok attribute next
+
+-- An answer but for its place: what is read there is settled, and equal octets might stand elsewhere too.
+abbrev pub foundBut : Found → Found
+foundBut (At p) = At 0
+foundBut Nothing = Nothing
+
+abbrev pub lookedBut : Looked → Looked
+lookedBut (There p) = There 0
+lookedBut (Missing k) = Missing k
