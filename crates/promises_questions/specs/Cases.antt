@@ -16,7 +16,7 @@ use Rattle.questions.specs.Questions.{fieldAsked}
 use Rattle.questions.specs.Answers.{fieldTells}
 use Rattle.questions.specs.declared.Fielded.{Fielded}
 use Rattle.questions.specs.declared.Fielded.the-variants.{Is}
-use Rattle.questions.specs.declared.Value.the-variants as value
+use Rattle.kinds.specs.declared.Value.the-variants as value
 use Rattle.promises.specs.Specimen.{specimen, shorts, layoutBook, shortBook, emptyBook}
 
 -- What a case asks.
