@@ -384,6 +384,23 @@ static void try_header_refusals(void)
     header_accepts("header with a start time before 1970", 0x8000000000015180, 0, 0, HEADER_END);
 }
 
+/* Times of which all bits are set: the words have them as they stand, and cast they are -1. */
+static void try_times(void)
+{
+    begin(8);
+    put_number(0xffffffff);
+    put_number(0xffffffff);
+    put(specimen + 16, 129 - 16);
+    put_number(0xffffffff);
+    put_number(0xffffffff);
+    header_accepts("header with start time -1", UINT64_MAX, 0, 0, HEADER_END);
+    check("the start time's word is -1 when it is cast", (int64_t)out[IPDR_HEADER_START] == -1 && ipdr_time(out[IPDR_HEADER_START]) == -1);
+    lend_specimen_book();
+    uint64_t words[WORDS] = {IPDR_END, SPECIMEN_SIZE, 2, LAYOUT_SIZE, 2, UINT64_MAX, 0, 0};
+    step_accepts("end with time -1", END_AT, 2, LAYOUT_SIZE, words);
+    check("the end time's word is -1 when it is cast", (int64_t)out[IPDR_STEP_END_TIME] == -1 && ipdr_time(out[IPDR_STEP_END_TIME]) == -1);
+}
+
 static void try_element_refusals(void)
 {
     change(HEADER_END, 4);
@@ -602,6 +619,7 @@ int main(void)
     try_specimen();
     try_changes();
     try_header_refusals();
+    try_times();
     try_element_refusals();
     try_places();
     try_lent();

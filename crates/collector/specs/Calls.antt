@@ -4,10 +4,10 @@ use mathlib.Core.List.{List, [], _∷_}
 use mathlib.Core.Bool.{Bool, true, false}
 use lib.ListN.{length, set}
 use Rattle.octets.specs.Reading.{Read, ok, no}
+use Rattle.kinds.specs.Kinds.{unsigned}
 use Rattle.layouts.specs.Book.{bookImage}
 use Rattle.headers.specs.Header.{Header}
-use Rattle.elements.specs.Element.{Stepped}
-use Rattle.elements.specs.Answers.{metOf}
+use Rattle.elements.specs.Element.{Element, item, layout, row, finish, Stepped}
 use Rattle.elements.specs.declared.Met.{Met}
 use Rattle.elements.specs.declared.Met.the-variants as met
 use Rattle.runs.specs.Runs.{Passed}
@@ -36,14 +36,20 @@ bit true = 1
 bit false = 0
 
 -- A step's words: the kind, the next place, the new row count, the new used count; then the number, the count of attributes or fields and whether the length is stated, or the end's count and the bits of its time.
+abbrev pub stepWords : Element → ℕ → ℕ → ℕ → List ℕ
+stepWords (item (layout l)) next rows used = 1 ∷ next ∷ rows ∷ used ∷ l .number ∷ length (l .attributes) ∷ 0 ∷ 0 ∷ []
+stepWords (item (row r)) next rows used = 2 ∷ next ∷ rows ∷ used ∷ r .number ∷ length (r .fields) ∷ bit (r .is-stated) ∷ 0 ∷ []
+stepWords (finish n t) next rows used = 3 ∷ next ∷ rows ∷ used ∷ n ∷ t ∷ 0 ∷ 0 ∷ []
+
+abbrev pub stepLeaves : List ℕ → Read Stepped → List ℕ
+stepLeaves words (ok st next) = stepWords (st .element) next (st .rows) (length (bookImage (st .book)))
+stepLeaves words (no n p) = words
+
+-- The same words by what reading answers of an element.
 abbrev pub metWords : Met → ℕ → ℕ → ℕ → List ℕ
 metWords (met.Layout number count) next rows used = 1 ∷ next ∷ rows ∷ used ∷ number ∷ count ∷ 0 ∷ 0 ∷ []
 metWords (met.Row number stated count) next rows used = 2 ∷ next ∷ rows ∷ used ∷ number ∷ count ∷ bit stated ∷ 0 ∷ []
-metWords (met.End count time) next rows used = 3 ∷ next ∷ rows ∷ used ∷ count ∷ time ∷ 0 ∷ 0 ∷ []
-
-abbrev pub stepLeaves : List ℕ → Read Stepped → List ℕ
-stepLeaves words (ok st next) = metWords (metOf (st .element)) next (st .rows) (length (bookImage (st .book)))
-stepLeaves words (no n p) = words
+metWords (met.End count time) next rows used = 3 ∷ next ∷ rows ∷ used ∷ count ∷ unsigned 8 time ∷ 0 ∷ 0 ∷ []
 
 -- What a run leaves: how many items it has passed, the place, the row count and the used count behind them.
 abbrev pub runLeaves : List ℕ → Read Passed → List ℕ

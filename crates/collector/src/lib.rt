@@ -46,7 +46,7 @@ fn words_of(met: Met, next: u64, rows: u64, used: u64) -> [u64; 8]
             bit_of(stated),
             0,
         ],
-        Met::End(count, time) => [3, next, rows, used, count as u64, time, 0, 0],
+        Met::End(count, time) => [3, next, rows, used, count as u64, kinds::bits64(time), 0, 0],
     }
 }
 
@@ -59,7 +59,8 @@ pub extern "C" fn ipdr_header(doc: &[u8], out: &mut [u64; 8]) -> u64
     match headed {
         Headed::Refused(n, p) => pack(n, p),
         Headed::Is(head) => {
-            out[0] = head.start;
+            let start = kinds::bits64(head.start);
+            out[0] = start;
             out[1] = head.namespaces as u64;
             out[2] = head.services as u64;
             out[3] = head.next as u64;

@@ -4,11 +4,12 @@ use mathlib.Core.List.{List, _++_}
 use mathlib.Core.Bool.{Bool, true, false}
 use Prim.Native.Nat.{ℕ, zero, suc, _+_, _/_, _%_, _≤_, _<_}
 use native.Mathlib.Omega.{arith}
+use lib.IntN.{ℤ}
 use lib.Dec.{ltb}
 use borrow.Author.Tests.{ltb-true, ltb-false}
 use Rattle.dates.specs.declared.Date.{Date}
 use Rattle.dates.specs.Calendar.{yearDays, monthDays, yearsDays, monthsDays, DateOf}
-use Rattle.dates.specs.Times.{dayText, clockText, TimeText, dated, outside}
+use Rattle.dates.specs.Times.{dayText, clockText, TimeText, dated, late, early}
 
 -- Spans one behind another: a place lies in one of them.
 module _ (start size : ℕ → ℕ) (next : (k : ℕ) → start (suc k) ≡ start k + size k) where
@@ -65,8 +66,9 @@ module _ (days : ℕ) (d e : Date) (p : DateOf days d) (q : DateOf days e) where
   one-day : dayText d ≡ dayText e
   one-day = rw (years, months, days-same) refl
 
-pub one-time : {bits : ℕ} {a b : List ℕ} → TimeText bits a → TimeText bits b → a ≡ b
-one-time {bits} (dated d h p) (dated e k q) = ap (λ (x : List ℕ). x ++ clockText (bits % 86400)) (one-day (bits / 86400) d e p q)
-one-time (dated d h p) (outside k) = absurd (omega arith)
-one-time (outside h) (dated e k q) = absurd (omega arith)
-one-time (outside h) (outside k) = refl
+pub one-time : {time : ℤ} {a b : List ℕ} → TimeText time a → TimeText time b → a ≡ b
+one-time (dated {seconds} d h p) (dated e k q) = ap (λ (x : List ℕ). x ++ clockText (seconds % 86400)) (one-day (seconds / 86400) d e p q)
+one-time (dated d h p) (late k) = absurd (omega arith)
+one-time (late h) (dated e k q) = absurd (omega arith)
+one-time (late h) (late k) = refl
+one-time (early n) (early m) = refl

@@ -1,7 +1,7 @@
--- The text of a time, given by its 64 bits: seconds since 1970.
+-- The text of a time: seconds since 1970, a signed number.
 use Prim.Native.Nat.{ℕ, _+_, _/_, _%_, _≤_, _<_}
 use mathlib.Core.List.{List, [], _∷_, _++_}
-use Rattle.kinds.specs.Kinds as kinds
+use lib.IntN.{ℤ, pos, negsuc}
 use Rattle.printing.specs.Text.{Prints, decimal, signed}
 use Rattle.dates.specs.declared.Date.{Date}
 use Rattle.dates.specs.Calendar.{DateOf}
@@ -18,13 +18,14 @@ dayText d = decimal (1970 + d .years) ++ (two 45 (d .months + 1) ++ two 45 (d .d
 abbrev pub clockText : ℕ → List ℕ
 clockText s = two 84 (s / 3600) ++ (two 58 (s / 60 % 60) ++ (two 58 (s % 60) ++ 90 ∷ []))
 
--- The date and the time of day of the seconds up to the end of 9999; of all others "@" and the signed number.
-pub data TimeText (bits : ℕ) : List ℕ → Type 0 where
-  dated : (d : Date) → bits ≤ 253402300799 → DateOf (bits / 86400) d → TimeText bits (dayText d ++ clockText (bits % 86400))
-  outside : 253402300799 < bits → TimeText bits (64 ∷ signed (kinds.signed 8 bits))
+-- The date and the time of day of the seconds from 1970 to the end of 9999; "@" and the number of those behind and before.
+pub data TimeText : ℤ → List ℕ → Type 0 where
+  dated : {seconds : ℕ} (d : Date) → seconds ≤ 253402300799 → DateOf (seconds / 86400) d → TimeText (pos seconds) (dayText d ++ clockText (seconds % 86400))
+  late : {seconds : ℕ} → 253402300799 < seconds → TimeText (pos seconds) (64 ∷ signed (pos seconds))
+  early : (n : ℕ) → TimeText (negsuc n) (64 ∷ signed (negsuc n))
 
 -- What it is to print one.
-pub record Stamps (before : List ℕ) (n bits : ℕ) (after : List ℕ) (r : ℕ) : Type 0 where
+pub record Stamps (before : List ℕ) (n : ℕ) (time : ℤ) (after : List ℕ) (r : ℕ) : Type 0 where
   pub text : List ℕ
-  pub right : TimeText bits text
+  pub right : TimeText time text
   pub prints : Prints before n text after r

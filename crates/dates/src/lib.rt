@@ -129,13 +129,14 @@ fn clock(out: &mut [u8], n: usize, seconds: u64) -> usize
     printing::octet(out, second, b'Z')
 }
 
-// A time, by its bits.
-pub fn time(out: &mut [u8], n: usize, bits: u64) -> usize
-    ensures { λ r. ⌜ Stamps (now (out .entry)) n bits (now (out .exit)) r ⌝ }
+// A time. The bits of one before 1970 are past every date's.
+pub fn time(out: &mut [u8], n: usize, time: i64) -> usize
+    ensures { λ r. ⌜ Stamps (now (out .entry)) n time (now (out .exit)) r ⌝ }
 {
+    let bits = kinds::bits64(time);
     if 253402300799 < bits {
         let sign = printing::octet(out, n, b'@');
-        return printing::signed(out, sign, kinds::signed64(bits));
+        return printing::signed(out, sign, time);
     }
     let date = date_after(bits / 86400);
     let to = day(out, n, date);

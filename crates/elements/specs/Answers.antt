@@ -5,6 +5,7 @@ use mathlib.Core.List.{List}
 use mathlib.Core.Bool.{Bool, true, false}
 use lib.ListN.{length}
 use Rattle.octets.specs.Reading.{Read, ok, no, be}
+use Rattle.kinds.specs.Kinds.{signed}
 use Rattle.layouts.specs.Layout.{Layout}
 use Rattle.layouts.specs.Book.{Book, bookImage}
 use Rattle.layouts.specs.Answers.{Looks}
@@ -19,11 +20,11 @@ use Rattle.elements.specs.declared.Stepping.the-variants.{Done, Refused}
 use Rattle.elements.specs.declared.Counting.{Counting}
 use Rattle.elements.specs.declared.Counting.the-variants as counting
 
--- What an element says: a layout's number and count of attributes, a row's number, whether its length is stated and its count of fields, the end's count and the bits of its time.
+-- What an element says: a layout's number and count of attributes, a row's number, whether its length is stated and its count of fields, the end's count and its time, which is signed.
 abbrev pub metOf : element.Element → Met
 metOf (element.item (element.layout l)) = met.Layout (l .number) (length (l .attributes))
 metOf (element.item (element.row r)) = met.Row (r .number) (r .is-stated) (length (r .fields))
-metOf (element.finish n t) = met.End n t
+metOf (element.finish n t) = met.End n (signed 8 t)
 
 abbrev pub isLastMet : Met → Bool
 isLastMet (met.Layout n k) = false

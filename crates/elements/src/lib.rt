@@ -21,7 +21,7 @@ use rows::Rowed;
 pub enum Met {
     Layout(u32, u32),
     Row(u32, bool, u32),
-    End(u32, u64),
+    End(u32, i64),
 }
 
 // An element with the next place, the rows passed and the octets of the book that are used then.
@@ -58,7 +58,7 @@ fn end_step(doc: &[u8], at: usize, rows: usize, used: usize) -> Stepping
     if doc.len() < at + 4 + 8 {
         return Stepping::Refused(1, at + 4);
     }
-    let time = octets::u64_at(doc, at + 4);
+    let time = kinds::signed64(octets::u64_at(doc, at + 4));
     let next = at + 4 + 8;
     if next != doc.len() {
         return Stepping::Refused(16, next);

@@ -15,6 +15,12 @@ use Rattle.kinds.proofs.signed8 as signed8
 use Rattle.kinds.proofs.signed16 as signed16
 use Rattle.kinds.proofs.signed32 as signed32
 use Rattle.kinds.proofs.signed64 as signed64
+use Rattle.kinds.proofs.bits8 as bits8
+use Rattle.kinds.proofs.bits16 as bits16
+use Rattle.kinds.proofs.bits32 as bits32
+use Rattle.kinds.proofs.bits64 as bits64
+use Rattle.kinds.proofs.basic_of_value as basic-of-value
+use Rattle.kinds.proofs.bits_of_value as bits-of-value
 use Rattle.kinds.proofs.kind_of as kind-of
 use Rattle.kinds.proofs.kind_at as kind-at
 
@@ -26,6 +32,12 @@ pub record Contracts : Type 0 where
   pub of-signed16 : Once signed16.Kinds.ps signed16.Kinds.r signed16.Reads.Pre signed16.Reads.Post
   pub of-signed32 : Once signed32.Kinds.ps signed32.Kinds.r signed32.Reads.Pre signed32.Reads.Post
   pub of-signed64 : Once signed64.Kinds.ps signed64.Kinds.r signed64.Reads.Pre signed64.Reads.Post
+  pub of-bits8 : Once bits8.Kinds.ps bits8.Kinds.r bits8.Reads.Pre bits8.Reads.Post
+  pub of-bits16 : Once bits16.Kinds.ps bits16.Kinds.r bits16.Reads.Pre bits16.Reads.Post
+  pub of-bits32 : Once bits32.Kinds.ps bits32.Kinds.r bits32.Reads.Pre bits32.Reads.Post
+  pub of-bits64 : Once bits64.Kinds.ps bits64.Kinds.r bits64.Reads.Pre bits64.Reads.Post
+  pub of-basic-of-value : Once basic-of-value.Kinds.ps basic-of-value.Kinds.r basic-of-value.Reads.Pre basic-of-value.Reads.Post
+  pub of-bits-of-value : Once bits-of-value.Kinds.ps bits-of-value.Kinds.r bits-of-value.Reads.Pre bits-of-value.Reads.Post
   pub of-kind-of : Once kind-of.Kinds.ps kind-of.Kinds.r kind-of.Reads.Pre kind-of.Reads.Post
   pub of-kind-at : Once kind-at.Kinds.ps kind-at.Kinds.r kind-at.Reads.Pre kind-at.Reads.Post
 
@@ -52,6 +64,12 @@ contracts =
       of-signed16 = λ κs a p x y u v e f. (e ∙ sym f, refl);
       of-signed32 = λ κs a p x y u v e f. (e ∙ sym f, refl);
       of-signed64 = λ κs a p x y u v e f. (e ∙ sym f, refl);
+      of-bits8 = λ κs a p x y u v e f. (e ∙ sym f, refl);
+      of-bits16 = λ κs a p x y u v e f. (e ∙ sym f, refl);
+      of-bits32 = λ κs a p x y u v e f. (e ∙ sym f, refl);
+      of-bits64 = λ κs a p x y u v e f. (e ∙ sym f, refl);
+      of-basic-of-value = λ κs a p x y u v e f. (e ∙ sym f, refl);
+      of-bits-of-value = λ κs a p x y u v e f. (e ∙ sym f, refl);
       of-kind-of = λ κs a p x y u v e f. (kinds-once x y (e 0 0 ∙ sym (f 0 0)), refl);
       of-kind-at = λ κs a p x y u v e f. (kind-says-once _ x y (e .0 ∙ sym (f .0)), refl);
     }

@@ -1,3 +1,5 @@
 pub mod Table
 pub mod Signed
+pub mod Unsigned
+pub mod Values
 pub mod Contracts

@@ -1,9 +1,9 @@
 -- The thirteen basic types and what a type number means.
-use Prim.Native.Nat.{ℕ, _+_, _-_, _*_, _^_, _%_, _/_}
+use Prim.Native.Nat.{ℕ, suc, _+_, _-_, _*_, _^_, _%_, _/_}
 use mathlib.Core.List.{List, [], _∷_}
 use mathlib.Core.Option.{Option, some, none}
 use lib.Dec.{leb, ltb, eqb}
-use lib.IntN.{ℤ, pos, subℕ}
+use lib.IntN.{ℤ, pos, negsuc, subℕ}
 use Rattle.octets.specs.Reading.{Read, ok, no, _then_, choose, number}
 use Rattle.kinds.specs.declared.Basic.{Basic}
 use Rattle.kinds.specs.declared.Basic.the-variants.{Int, UnsignedInt, Long, UnsignedLong, Float, Double, HexBinary, String, Boolean, Byte, UnsignedByte, Short, UnsignedShort}
@@ -63,6 +63,11 @@ formOf UnsignedShort = Fixed 2
 -- Two's complement: the signed number that has the bits n in w octets.
 unfoldable pub signed : ℕ → ℕ → ℤ
 signed w n = choose (ltb n (2 ^ (w * 8 - 1))) (λ _. pos n) (λ _. subℕ n (2 ^ (w * 8)))
+
+-- And back: the bits of a signed number in w octets.
+unfoldable pub unsigned : ℕ → ℤ → ℕ
+unsigned w (pos n) = n
+unsigned w (negsuc n) = 2 ^ (w * 8) - suc n
 
 abbrev pub known : ℕ → ℕ → ℕ → Option Basic → Read Kind
 known at t next (some b) = ok (record { derived = t / 256; basic = b }) next

@@ -3,7 +3,8 @@
 ghost use mathlib.Core.Path.{_≡_};
 ghost use Prim.Native.Nat.{ℕ, _+_, _≤_};
 ghost use lib.ListN.{length};
-ghost use Rattle.kinds.specs.Kinds.{codeOf, formOf, signed, kindOf, kindAt};
+ghost use Rattle.kinds.specs.Kinds.{codeOf, formOf, signed, unsigned, kindOf, kindAt};
+ghost use Rattle.kinds.specs.Values.{basicOfValue, bitsOfValue};
 ghost use Rattle.kinds.specs.Answers.{kinds, kindSays, Fitting};
 
 // A basic type.
@@ -63,6 +64,23 @@ pub enum Form {
     Truth,
     Octets,
     Text,
+}
+
+// A value by its basic type: float and double as bits; octets are not held here, they stand in a document.
+pub enum Value {
+    Int(i32),
+    UnsignedInt(u32),
+    Long(i64),
+    UnsignedLong(u64),
+    Float(u32),
+    Double(u64),
+    HexBinary,
+    String,
+    Boolean(bool),
+    Byte(i8),
+    UnsignedByte(u8),
+    Short(i16),
+    UnsignedShort(u16),
 }
 
 // What a type number stands for, or its refusal.
@@ -182,6 +200,92 @@ pub fn signed64(x: u64) -> i64
         x as i64
     } else {
         -1 - (0xffff_ffff_ffff_ffff - x) as i64
+    }
+}
+
+// And back: the bits of a signed number, at one octet.
+pub fn bits8(x: i8) -> u8
+    ensures { λ r. ⌜ r ≡ unsigned 1 x ⌝ }
+{
+    if 0 <= x {
+        x as u8
+    } else {
+        0xff - (-1 - x) as u8
+    }
+}
+
+// The same at two octets.
+pub fn bits16(x: i16) -> u16
+    ensures { λ r. ⌜ r ≡ unsigned 2 x ⌝ }
+{
+    if 0 <= x {
+        x as u16
+    } else {
+        0xffff - (-1 - x) as u16
+    }
+}
+
+// The same at four octets.
+pub fn bits32(x: i32) -> u32
+    ensures { λ r. ⌜ r ≡ unsigned 4 x ⌝ }
+{
+    if 0 <= x {
+        x as u32
+    } else {
+        0xffff_ffff - (-1 - x) as u32
+    }
+}
+
+// The same at eight octets.
+pub fn bits64(x: i64) -> u64
+    ensures { λ r. ⌜ r ≡ unsigned 8 x ⌝ }
+{
+    if 0 <= x {
+        x as u64
+    } else {
+        0xffff_ffff_ffff_ffff - (-1 - x) as u64
+    }
+}
+
+// A value's basic type.
+pub fn basic_of_value(v: Value) -> Basic
+    ensures { λ r. ⌜ r ≡ basicOfValue v ⌝ }
+{
+    match v {
+        Value::Int(x) => Basic::Int,
+        Value::UnsignedInt(x) => Basic::UnsignedInt,
+        Value::Long(x) => Basic::Long,
+        Value::UnsignedLong(x) => Basic::UnsignedLong,
+        Value::Float(x) => Basic::Float,
+        Value::Double(x) => Basic::Double,
+        Value::HexBinary => Basic::HexBinary,
+        Value::String => Basic::String,
+        Value::Boolean(x) => Basic::Boolean,
+        Value::Byte(x) => Basic::Byte,
+        Value::UnsignedByte(x) => Basic::UnsignedByte,
+        Value::Short(x) => Basic::Short,
+        Value::UnsignedShort(x) => Basic::UnsignedShort,
+    }
+}
+
+// A value's bits at its type's width; 0 where it is octets.
+pub fn bits_of_value(v: Value) -> u64
+    ensures { λ r. ⌜ r ≡ bitsOfValue v ⌝ }
+{
+    match v {
+        Value::Int(x) => bits32(x) as u64,
+        Value::UnsignedInt(x) => x as u64,
+        Value::Long(x) => bits64(x),
+        Value::UnsignedLong(x) => x,
+        Value::Float(x) => x as u64,
+        Value::Double(x) => x,
+        Value::HexBinary => 0,
+        Value::String => 0,
+        Value::Boolean(x) => if x { 1 } else { 0 },
+        Value::Byte(x) => bits8(x) as u64,
+        Value::UnsignedByte(x) => x as u64,
+        Value::Short(x) => bits16(x) as u64,
+        Value::UnsignedShort(x) => x as u64,
     }
 }
 

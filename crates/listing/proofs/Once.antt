@@ -4,8 +4,10 @@ use mathlib.Core.Path.{_≡_, refl, sym, ap, _∙_, subst}
 use mathlib.Core.List.{List, []}
 use mathlib.Core.Bool.{true, false}
 use native.Mathlib.Omega.{arith}
+use lib.IntN.{ℤ}
 use Rattle.octets.specs.Reading.{Read, no}
 use Rattle.octets.proofs.Inverse.{no-ok, ok-value, ok-place}
+use Rattle.kinds.specs.Kinds.{signed}
 use Rattle.layouts.specs.Book.{Book}
 use Rattle.headers.specs.Header.{Header, headerAt}
 use Rattle.elements.specs.Element.{Element, Stepped, elementAt}
@@ -20,7 +22,7 @@ pub one-put : {Right : List ℕ → Type 0} {before after other : List ℕ} {n r
     → Puts Right before n after r → Puts Right before n other m → (after ≡ other) × (r ≡ m)
 one-put one p q = one-print (p .prints) (says (one _ _ (q .right) (p .right)) (q .prints))
 
-pub one-timed : {bits : ℕ} {line : List ℕ → List ℕ} {a b : List ℕ} → Timed bits line a → Timed bits line b → a ≡ b
+pub one-timed : {time : ℤ} {line : List ℕ → List ℕ} {a b : List ℕ} → Timed time line a → Timed time line b → a ≡ b
 one-timed {line = line} (timed p) (timed q) = ap line (one-time p q)
 
 one-element : {at : ℕ} {e : Element} {a b : List ℕ} → ElementText at e a → ElementText at e b → a ≡ b
@@ -69,7 +71,7 @@ module _ (s : List ℕ) where
   one-listing (headed {first = a} {rest} h next f x l) (headed {first = b} {rest = others} g mext e y m) =
       let same : g ≡ h = ok-value e f in
       let place : mext ≡ next = ok-place e f in
-      let here : a ≡ b = one-timed x (subst (λ (z : Header). Timed (z .start) headerText b) same y) in
+      let here : a ≡ b = one-timed x (subst (λ (z : Header). Timed (signed 8 (z .start)) headerText b) same y) in
       let there : rest ≡ others = one-lines l (subst (λ (k : ℕ). LinesFrom s k 0 [] others) place m) in
       cc
 

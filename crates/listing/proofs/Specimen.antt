@@ -63,8 +63,8 @@ header =
 pub specimen-listed : Listing specimen fiveLines
 unfolding specimen be part numberIn octetsIn textIn count exactly run word textImage images among basicOf signed kindAt attributeAt layoutAt attributeImage layoutImage find bookImage learn valueIn fieldsIn valuesAt rowAt namespaceAt idAt headerFrom headerAt finishAt elementAt digits
 specimen-listed =
-    headed header 52 refl (timed (dated second (omega arith) is-second))
+    headed header 52 refl (timed (dated {seconds = 86400} second (omega arith) is-second))
     (more (record { element = item (layout seven); rows = 0; book = seven ∷ [] }) 87 refl refl (of-layout seven)
     (more (record { element = item (row (values true 10 0xfe)); rows = 1; book = seven ∷ [] }) 104 refl refl (of-row (values true 10 0xfe))
     (more (record { element = item (row (values false 0 127)); rows = 2; book = seven ∷ [] }) 121 refl refl (of-row (values false 0 127))
-    (last (record { element = finish 2 86401; rows = 2; book = seven ∷ [] }) 137 refl refl (of-end 2 86401 (timed (dated second (omega arith) is-second)))))))
+    (last (record { element = finish 2 86401; rows = 2; book = seven ∷ [] }) 137 refl refl (of-end 2 86401 (timed (dated {seconds = 86401} second (omega arith) is-second)))))))

@@ -4,9 +4,11 @@ use mathlib.Core.Path.{_≡_, refl}
 use mathlib.Core.List.{List}
 use mathlib.Core.Bool.{Bool}
 use native.Mathlib.Omega.{arith}
+use lib.IntN.{ℤ}
 use lib.ListN.{length}
 use Rattle.octets.specs.Reading.{ok}
 use Rattle.octets.proofs.Inverse.{after}
+use Rattle.kinds.specs.Kinds.{signed}
 use Rattle.layouts.specs.Layout.{Layout}
 use Rattle.layouts.specs.Book.{Book}
 use Rattle.rows.specs.Row.{Row}
@@ -36,13 +38,13 @@ met-row (item (row r)) number stated count e =
     (r, refl, a, b)
 met-row (finish n t) number stated count e = absurd (let z : _≡_ {A = ℕ} 0 1 = cc in omega arith)
 
-pub met-end : (e : Element) (count time : ℕ) → metOf e ≡ met.End count time → e ≡ finish count time
+pub met-end : (e : Element) (count : ℕ) (time : ℤ) → metOf e ≡ met.End count time → (t : ℕ) × (e ≡ finish count t) × (signed 8 t ≡ time)
 met-end (item (layout l)) count time e = absurd (let z : _≡_ {A = ℕ} 0 1 = cc in omega arith)
 met-end (item (row r)) count time e = absurd (let z : _≡_ {A = ℕ} 0 1 = cc in omega arith)
 met-end (finish n t) count time e =
     let a : n ≡ count = cc in
-    let b : t ≡ time = cc in
-    cc
+    let b : signed 8 t ≡ time = cc in
+    (t, cc, b)
 
 -- The questions after a step.
 module _ (s : List ℕ) (at rows : ℕ) (octets : List ℕ) (used : ℕ) (st : Stepped) (next : ℕ) (e : stepAt s at rows octets used ≡ ok st next) where

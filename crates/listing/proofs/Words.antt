@@ -13,7 +13,7 @@ use Rattle.kinds.specs.declared.Kind.{Kind}
 use Rattle.rows.specs.Row.{Field, Row}
 use Rattle.questions.specs.Questions.{rowAsked, fieldAsked, partOf}
 use Rattle.questions.specs.Answers.{valueOf, octetsOf, fieldTells}
-use Rattle.questions.specs.declared.Value.{Value}
+use Rattle.kinds.specs.declared.Value.{Value}
 use Rattle.questions.specs.declared.Fielded.the-variants.{Is}
 use Rattle.questions.proofs.Asked.{nth-some}
 use Rattle.printing.specs.Text.{Prints, showing}

@@ -4,6 +4,7 @@ use mathlib.Core.Path.{_≡_}
 use mathlib.Core.List.{List, [], _∷_, _++_}
 use mathlib.Core.Bool.{true, false}
 use lib.ListN.{length}
+use lib.IntN.{ℤ}
 use Rattle.octets.specs.Reading.{ok, no}
 use Rattle.octets.specs.Writing.{images}
 use Rattle.kinds.specs.Kinds as kinds
@@ -16,7 +17,7 @@ use Rattle.headers.specs.Header.{Header, headerAt}
 use Rattle.elements.specs.Element.{Element, item, layout, row, finish, Stepped, elementAt}
 use Rattle.elements.specs.Steps.{isLast}
 use Rattle.questions.specs.Answers.{valueOf, octetsOf}
-use Rattle.questions.specs.declared.Value.{Value}
+use Rattle.kinds.specs.declared.Value.{Value}
 use Rattle.values.specs.Values.{valueText}
 use Rattle.printing.specs.Text.{Prints, showing, decimal, signed, refusal}
 use Rattle.printing.specs.declared.Show.the-variants.{Hex, Escaped}
@@ -29,8 +30,8 @@ pub record Puts (Right : List ℕ → Type 0) (before : List ℕ) (n : ℕ) (aft
   pub prints : Prints before n text after r
 
 -- A line with a time in it.
-pub data Timed (bits : ℕ) (line : List ℕ → List ℕ) : List ℕ → Type 0 where
-  timed : {time : List ℕ} → TimeText bits time → Timed bits line (line time)
+pub data Timed (time : ℤ) (line : List ℕ → List ℕ) : List ℕ → Type 0 where
+  timed : {text : List ℕ} → TimeText time text → Timed time line (line text)
 
 -- "document 4 " and the start time.
 abbrev pub headerText : List ℕ → List ℕ
@@ -79,7 +80,7 @@ refusalText n p = refusal n p ++ 10 ∷ []
 pub data ElementText (at : ℕ) : Element → List ℕ → Type 0 where
   of-layout : (l : Layout) → ElementText at (item (layout l)) (layoutText at l)
   of-row : (r : Row) → ElementText at (item (row r)) (rowText at r)
-  of-end : (n t : ℕ) {text : List ℕ} → Timed t (endText at n) text → ElementText at (finish n t) text
+  of-end : (n t : ℕ) {text : List ℕ} → Timed (kinds.signed 8 t) (endText at n) text → ElementText at (finish n t) text
 
 -- The lines from a place on, told the rows passed and over a book: up to the end, or to a refusal, which is the last line.
 pub data LinesFrom (s : List ℕ) : ℕ → ℕ → Book → List ℕ → Type 0 where
@@ -92,7 +93,7 @@ pub data LinesFrom (s : List ℕ) : ℕ → ℕ → Book → List ℕ → Type 0
 -- The listing of a document: the header's line and those of the elements from an empty book, or the header's refusal.
 pub data Listing (s : List ℕ) : List ℕ → Type 0 where
   unheaded : (n p : ℕ) → headerAt s ≡ no n p → Listing s (refusalText n p)
-  headed : {first rest : List ℕ} (h : Header) (next : ℕ) → headerAt s ≡ ok h next → Timed (h .start) headerText first
+  headed : {first rest : List ℕ} (h : Header) (next : ℕ) → headerAt s ≡ ok h next → Timed (kinds.signed 8 (h .start)) headerText first
       → LinesFrom s next 0 [] rest → Listing s (first ++ rest)
 
 -- "input too long", as the only line.

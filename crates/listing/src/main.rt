@@ -17,13 +17,13 @@ ghost use Rattle.listing.specs.Lines.{Puts, Timed, headerText, numbered,
 use elements::Met;
 use elements::Stepping;
 use kinds::Form;
+use kinds::Value;
 use printing::Show;
 use questions::Fielded;
-use questions::Value;
 use reading::Headed;
 
 // The version and the start time.
-fn header_line(out: &mut [u8], start: u64) -> usize
+fn header_line(out: &mut [u8], start: i64) -> usize
     ensures { λ r. ⌜ Puts (Timed start headerText) (now (out .entry)) 0 (now (out .exit)) r ⌝ }
 {
     let head = printing::show_all(out, 0, Show::Plain, b"document 4 ");
@@ -157,7 +157,7 @@ fn row_line<'d, 'b, 'o>(
 }
 
 // The end's count and time.
-fn end_line(out: &mut [u8], n: usize, at: usize, count: u32, time: u64) -> usize
+fn end_line(out: &mut [u8], n: usize, at: usize, count: u32, time: i64) -> usize
     ensures { λ r. ⌜ Puts (Timed time (endText at count)) (now (out .entry)) n (now (out .exit)) r ⌝ }
 {
     let place = printing::named(out, n, b"end ", at as u64);

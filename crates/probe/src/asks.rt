@@ -61,7 +61,7 @@ fn header<'d, 'o>(doc: &'d [u8], out: &'o mut [u8], n: usize) -> usize {
         Headed::Refused(number, place) => printing::refused(out, n, number, place),
         Headed::Is(head) => {
             let word = printing::show_all(out, n, Show::Plain, b"header ");
-            let start = printing::signed(out, word, kinds::signed64(head.start));
+            let start = printing::signed(out, word, head.start);
             let namespaces = printing::named(out, start, b" ", head.namespaces as u64);
             let services = printing::named(out, namespaces, b" ", head.services as u64);
             printing::named(out, services, b" ", head.next as u64)
@@ -93,7 +93,7 @@ fn met<'o>(out: &'o mut [u8], n: usize, met: Met) -> usize {
         Met::End(count, time) => {
             let word = printing::named(out, n, b"end ", count as u64);
             let to = printing::octet(out, word, b' ');
-            printing::signed(out, to, kinds::signed64(time))
+            printing::signed(out, to, time)
         }
     }
 }

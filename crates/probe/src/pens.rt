@@ -317,9 +317,10 @@ fn time_called<'s, 'k, 'i>(
     buf: &'i mut [u8; 4096],
     feed: Feed,
 ) -> Called {
-    let Told::Is(time, rest) = input::number(buf, feed) else {
+    let Told::Is(bits, rest) = input::number(buf, feed) else {
         return Called::Bad;
     };
+    let time = kinds::signed64(bits);
     if letter == b'2' {
         return Called::Is(writing::start_time(state, sheet, shelf, used, time), rest);
     }

@@ -11,3 +11,4 @@ pub mod KeepsHeader
 pub mod KeepsLayout
 pub mod KeepsRow
 pub mod Wrote
+pub mod Copies

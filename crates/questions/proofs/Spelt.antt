@@ -15,7 +15,8 @@ use Rattle.kinds.specs.declared.Form.{Form}
 use Rattle.kinds.specs.declared.Form.the-variants as form
 use Rattle.kinds.specs.Kinds.{formOf}
 use Rattle.rows.specs.Row.{Value, bits, valueIn}
-use Rattle.questions.specs.Answers.{bitsOf, octetsOf, numeral, valueOf}
+use Rattle.kinds.specs.Values.{numeral}
+use Rattle.questions.specs.Answers.{bitsOf, octetsOf, valueOf}
 use Rattle.questions.specs.Places.{Stood, isHeld}
 
 module _ (s : List ℕ) (end at : ℕ) where

@@ -18,6 +18,7 @@ ghost use Rattle.questions.specs.Places.{Lines, NthField, Stood, Spots, 
 use kinds::Basic;
 use kinds::Form;
 use kinds::Kind;
+use kinds::Value;
 use layouts::Learning;
 use layouts::Looked;
 use octets::Ended;
@@ -28,23 +29,6 @@ use rows::Valued;
 pub enum Refusal {
     None,
     Is(u32, usize),
-}
-
-// A value by its basic type: float and double as bits; octets are not held here, they are a part of the document.
-pub enum Value {
-    Int(i32),
-    UnsignedInt(u32),
-    Long(i64),
-    UnsignedLong(u64),
-    Float(u32),
-    Double(u64),
-    HexBinary,
-    String,
-    Boolean(bool),
-    Byte(i8),
-    UnsignedByte(u8),
-    Short(i16),
-    UnsignedShort(u16),
 }
 
 // A field's type and value, or a refusal by number and place.

@@ -1,2 +1,4 @@
 pub mod Entry
+pub mod Earlier
+pub mod Times
 pub mod Contracts

@@ -2,6 +2,7 @@
 use Prim.Native.Nat.{ℕ}
 use lib.ListN.{length}
 use Rattle.octets.specs.Reading.{Read, ok, no}
+use Rattle.kinds.specs.Kinds.{signed}
 use Rattle.headers.specs.Header.{Header}
 use Rattle.elements.specs.declared.Stepping.{Stepping}
 use Rattle.elements.specs.declared.Stepping.the-variants as stepping
@@ -11,9 +12,9 @@ use Rattle.reading.specs.declared.Headed.the-variants as headed
 use Rattle.reading.specs.declared.Checked.{Checked}
 use Rattle.reading.specs.declared.Checked.the-variants as checked
 
--- The header's numbers: the bits of the start time, the counts of both lists, and the place behind the header.
+-- The header's numbers: the start time, which is signed, the counts of both lists, and the place behind the header.
 abbrev pub headOf : Header → ℕ → Head
-headOf h next = record { start = h .start; namespaces = length (h .others); services = length (h .services); next = next }
+headOf h next = record { start = signed 8 (h .start); namespaces = length (h .others); services = length (h .services); next = next }
 
 abbrev pub headTells : Read Header → Headed
 headTells (ok h next) = headed.Is (headOf h next)

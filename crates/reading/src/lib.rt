@@ -9,9 +9,9 @@ use elements::Counting;
 use elements::Stepping;
 use headers::Placing;
 
-// The header's numbers: the bits of the start time, how many other namespaces and service definitions there are, and the place behind the header.
+// The header's numbers: the start time, how many other namespaces and service definitions there are, and the place behind the header.
 pub struct Head {
-    pub start: u64,
+    pub start: i64,
     pub namespaces: u32,
     pub services: u32,
     pub next: usize,
@@ -43,7 +43,7 @@ pub fn header(doc: &[u8]) -> Headed
             let namespaces = places.namespaces;
             let services = places.services;
             Headed::Is(Head {
-                start: octets::u64_at(doc, start),
+                start: kinds::signed64(octets::u64_at(doc, start)),
                 namespaces: octets::u32_at(doc, namespaces),
                 services: octets::u32_at(doc, services),
                 next: places.end,

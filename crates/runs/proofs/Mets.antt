@@ -4,6 +4,7 @@ use mathlib.Core.Path.{_≡_, refl, sym, ap, _∙_}
 use mathlib.Core.List.{List}
 use mathlib.Core.Bool.{Bool, true, false, cond}
 use native.Mathlib.Omega.{arith}
+use lib.IntN.{ℤ}
 use Rattle.octets.specs.Reading.{Read, ok, no}
 use Rattle.octets.specs.Writing.{Each, Octet}
 use Rattle.layouts.specs.Layout.{Layout}
@@ -28,7 +29,7 @@ met-row (item (layout l)) n stated k e = absurd (let z : _≡_ {A = ℕ} 0 1 = c
 met-row (item (row r)) n stated k e = (r, refl, (let same : r .number ≡ n = cc in same), (let same : r .is-stated ≡ stated = cc in same))
 met-row (finish m t) n stated k e = absurd (let z : _≡_ {A = ℕ} 0 1 = cc in omega arith)
 
-pub met-end : (x : Element) (n t : ℕ) → metOf x ≡ met.End n t → (m : ℕ) × (u : ℕ) × (x ≡ finish m u)
+pub met-end : (x : Element) (n : ℕ) (t : ℤ) → metOf x ≡ met.End n t → (m : ℕ) × (u : ℕ) × (x ≡ finish m u)
 met-end (item (layout l)) n t e = absurd (let z : _≡_ {A = ℕ} 0 1 = cc in omega arith)
 met-end (item (row r)) n t e = absurd (let z : _≡_ {A = ℕ} 0 1 = cc in omega arith)
 met-end (finish m u) n t e = (m, u, refl)

@@ -4,8 +4,8 @@ use mathlib.Core.List.{List, [], _∷_}
 use Rattle.octets.specs.Writing.{word}
 use Rattle.printing.specs.Text.{showing, decimal, signed, truth}
 use Rattle.printing.specs.declared.Show.the-variants.{Hex}
-use Rattle.questions.specs.declared.Value.{Value}
-use Rattle.questions.specs.declared.Value.the-variants.{Int, UnsignedInt, Long, UnsignedLong, Float, Double, HexBinary, String, Boolean, Byte, UnsignedByte, Short, UnsignedShort}
+use Rattle.kinds.specs.declared.Value.{Value}
+use Rattle.kinds.specs.declared.Value.the-variants.{Int, UnsignedInt, Long, UnsignedLong, Float, Double, HexBinary, String, Boolean, Byte, UnsignedByte, Short, UnsignedShort}
 
 -- A value by its basic type: a number in decimal, "x" and hex digits for float and double, 0 or 1, "-" for octets.
 abbrev pub valueText : Value → List ℕ

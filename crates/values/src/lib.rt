@@ -5,8 +5,8 @@ ghost use Prim.Native.Nat.{_≤_};
 ghost use Rattle.octets.specs.Writing.{word};
 ghost use Rattle.printing.specs.Text.{Prints, showing};
 ghost use Rattle.values.specs.Values.{valueText};
+use kinds::Value;
 use printing::Show;
-use questions::Value;
 
 // Bits kept as they are: "x" and the hex digits of their octets.
 fn bits(out: &mut [u8], n: usize, w: usize, v: u64) -> usize

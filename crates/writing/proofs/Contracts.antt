@@ -28,6 +28,7 @@ use Rattle.writing.proofs.attribute_type as attribute-type
 use Rattle.writing.proofs.open_row as open-row
 use Rattle.writing.proofs.value_number as value-number
 use Rattle.writing.proofs.value_octets as value-octets
+use Rattle.writing.proofs.value as value
 use Rattle.writing.proofs.close_row as close-row
 use Rattle.writing.proofs.give_up as give-up
 use Rattle.writing.proofs.finish as finish
@@ -51,6 +52,7 @@ pub record Contracts : Type 0 where
   pub of-open-row : SettledLent open-row.Kinds.ps open-row.Kinds.r (λ κs s. s) (λ κs. Refuses) open-row.Reads.Pre open-row.Reads.Post
   pub of-value-number : SettledLent value-number.Kinds.ps value-number.Kinds.r (λ κs s. s) (λ κs. Refuses) value-number.Reads.Pre value-number.Reads.Post
   pub of-value-octets : SettledLent value-octets.Kinds.ps value-octets.Kinds.r (λ κs s. s) (λ κs. Refuses) value-octets.Reads.Pre value-octets.Reads.Post
+  pub of-value : SettledLent value.Kinds.ps value.Kinds.r (λ κs s. s) (λ κs. Refuses) value.Reads.Pre value.Reads.Post
   pub of-close-row : SettledLent close-row.Kinds.ps close-row.Kinds.r (λ κs s. s) (λ κs. Refuses) close-row.Reads.Pre close-row.Reads.Post
   pub of-give-up : SettledLent give-up.Kinds.ps give-up.Kinds.r (λ κs s. s) (λ κs. Refuses) give-up.Reads.Pre give-up.Reads.Post
   pub of-finish : SettledLent finish.Kinds.ps finish.Kinds.r (λ κs s. s) (λ κs. Refuses) finish.Reads.Pre finish.Reads.Post
@@ -155,6 +157,11 @@ contracts =
         λ κs a p x u e h. refl also put-back (unchanged _ _ _ _ _ e h .0) also refl,
       );
       of-value-octets = (
+        λ κs a. tt,
+        λ κs a p x y u v e f. let q = one-answer e f in (q .0, refl also q .1 also refl),
+        λ κs a p x u e h. refl also put-back (unchanged _ _ _ _ _ e h .0) also refl,
+      );
+      of-value = (
         λ κs a. tt,
         λ κs a p x y u v e f. let q = one-answer e f in (q .0, refl also q .1 also refl),
         λ κs a p x u e h. refl also put-back (unchanged _ _ _ _ _ e h .0) also refl,

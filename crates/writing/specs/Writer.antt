@@ -10,7 +10,9 @@ use Rattle.octets.specs.Writing.{word, textImage, over}
 use Rattle.kinds.specs.declared.Basic.{Basic}
 use Rattle.kinds.specs.declared.Form.{Form}
 use Rattle.kinds.specs.declared.Form.the-variants as form
+use Rattle.kinds.specs.declared.Value as given
 use Rattle.kinds.specs.Kinds.{codeOf, formOf, kindOf}
+use Rattle.kinds.specs.Values.{basicOfValue, bitsOfValue}
 use Rattle.layouts.specs.Layout.{Attribute, Layout, layoutImage}
 use Rattle.layouts.specs.Book.{Book, find, bookOf, bookIn}
 use Rattle.rows.specs.Row.{Value, bits, held, valueImage, lengthImage}
@@ -40,6 +42,17 @@ pub data Call : Type 0 where
   closeRow : Call
   giveUp : Call
   finish : ℕ → Call
+
+-- A value of a form, by its number's bits and its octets, of which the form has one.
+abbrev pub inForm : Form → ℕ → List ℕ → Value
+inForm (form.Fixed w) n xs = bits n
+inForm form.Truth n xs = bits n
+inForm form.Octets n xs = held xs
+inForm form.Text n xs = held xs
+
+-- The call that gives a value as reading hands it out, with its octets beside it.
+abbrev pub valueCall : given.Value → List ℕ → Call
+valueCall v xs = value (basicOfValue v) (inForm (formOf (basicOfValue v)) (bitsOfValue v) xs)
 
 -- What an accepted call leaves: the state and used count that it answers, the whole buffer and the whole book.
 pub record Written : Type 0 where

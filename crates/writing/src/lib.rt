@@ -8,13 +8,13 @@ ghost use lib.ListN.{length};
 ghost use lib.Dec.{leb, eqb};
 ghost use Rattle.octets.specs.Reading.{_then_};
 ghost use Rattle.octets.specs.Writing.{word, textImage};
-ghost use Rattle.kinds.specs.Kinds.{formOf, kindOf};
+ghost use Rattle.kinds.specs.Kinds.{formOf, unsigned, kindOf};
 ghost use Rattle.layouts.specs.Book.{find, bookIn, IsBook};
 ghost use Rattle.rows.specs.Row.{Value, bits, held, valueImage};
 ghost use Rattle.fields.specs.Answers.{says};
 ghost use Rattle.writing.specs.Writer.{fresh, room, rule, sameTurn, isOpen, bounded, fine, unless, put, puts, attributes, turnAt, known, suits, early};
 ghost use Rattle.writing.specs.Writer.{recorder, startTime, defaultNamespace, namespaceCount, uri, shortName, serviceCount, service, documentId};
-ghost use Rattle.writing.specs.Writer.{openLayout, typeName, attributeCount, attributeName, attributeType, openRow, value, closeRow, giveUp, finish};
+ghost use Rattle.writing.specs.Writer.{openLayout, typeName, attributeCount, attributeName, attributeType, openRow, value, valueCall, closeRow, giveUp, finish};
 ghost use Rattle.writing.specs.Answers.{left, leavesOf, leavesOn, leaves, widthOf, valueFault, closeFault};
 use fields::Completed;
 use fields::Counting;
@@ -380,9 +380,9 @@ pub fn recorder(s: State, buf: &mut [u8], book: &[u8], used: usize, xs: &[u8]) -
     )
 }
 
-// The start time, by its bits.
-pub fn start_time(s: State, buf: &mut [u8], book: &[u8], used: usize, time: u64) -> Answer
-    ensures { λ r. ⌜ left r (now (buf .exit)) (now (book .entry)) ≡ leaves s (now (buf .entry)) (now (book .entry)) used (startTime time) ⌝ }
+// The start time.
+pub fn start_time(s: State, buf: &mut [u8], book: &[u8], used: usize, time: i64) -> Answer
+    ensures { λ r. ⌜ left r (now (buf .exit)) (now (book .entry)) ≡ leaves s (now (buf .entry)) (now (book .entry)) used (startTime (unsigned 8 time)) ⌝ }
 {
     give_number(
         s,
@@ -392,7 +392,7 @@ pub fn start_time(s: State, buf: &mut [u8], book: &[u8], used: usize, time: u64)
         Turn::StartTime,
         Fault::None,
         8,
-        time,
+        kinds::bits64(time),
         Turn::DefaultNamespace,
         0,
     )
@@ -773,7 +773,7 @@ fn width_of(b: Basic) -> usize
     }
 }
 
-// A value of the open row that is a number, by its bits.
+// A value of the open row that is a number, by its bits: those of its type's own width. A number that does not fit its type, as 300 for a byte or all 64 bits of -2 for an int, is refused by 21.
 pub fn value_number(s: State, buf: &mut [u8], book: &[u8], used: usize, b: Basic, n: u64) -> Answer
     ensures { λ r. ⌜ left r (now (buf .exit)) (now (book .entry)) ≡ leaves s (now (buf .entry)) (now (book .entry)) used (value b (bits n)) ⌝ }
 {
@@ -810,6 +810,24 @@ pub fn value_octets(
     let fits = suits_octets(b);
     let head = fields::word4(xs.len() as u64);
     give_value(s, buf, book, used, b, fits, &head, xs)
+}
+
+// A value of the open row as reading hands it out: its number, or the octets given beside it where its type has those.
+pub fn value(
+    s: State,
+    buf: &mut [u8],
+    book: &[u8],
+    used: usize,
+    v: kinds::Value,
+    xs: &[u8],
+) -> Answer
+    ensures { λ r. ⌜ left r (now (buf .exit)) (now (book .entry)) ≡ leaves s (now (buf .entry)) (now (book .entry)) used (valueCall v (now (xs .entry))) ⌝ }
+{
+    let b = kinds::basic_of_value(v);
+    if suits_octets(b) {
+        return value_octets(s, buf, book, used, b, xs);
+    }
+    value_number(s, buf, book, used, b, kinds::bits_of_value(v))
 }
 
 // 12 for a row whose layout is not in the book; 22 for one with fields missing.
@@ -894,11 +912,11 @@ pub fn give_up(s: State, buf: &mut [u8], book: &[u8], used: usize) -> Answer
     )
 }
 
-// The end: its kind, the count of rows closed, and the end time by its bits.
-pub fn finish(s: State, buf: &mut [u8], book: &[u8], used: usize, time: u64) -> Answer
-    ensures { λ r. ⌜ left r (now (buf .exit)) (now (book .entry)) ≡ leaves s (now (buf .entry)) (now (book .entry)) used (finish time) ⌝ }
+// The end: its kind, the count of rows closed, and the end time.
+pub fn finish(s: State, buf: &mut [u8], book: &[u8], used: usize, time: i64) -> Answer
+    ensures { λ r. ⌜ left r (now (buf .exit)) (now (book .entry)) ≡ leaves s (now (buf .entry)) (now (book .entry)) used (finish (unsigned 8 time)) ⌝ }
 {
-    let body = fields::word8(time);
+    let body = fields::word8(kinds::bits64(time));
     give_pair(
         s,
         buf,

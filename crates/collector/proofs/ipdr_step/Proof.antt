@@ -6,9 +6,11 @@ use Prim.Native.Nat.{ℕ}
 use mathlib.Core.Path.{_≡_, sym, ap, _∙_, subst}
 use mathlib.Core.List.{List}
 use Rattle.octets.specs.Reading.{Read}
+use Rattle.octets.proofs.Spans.{each-octet}
 use Rattle.elements.specs.Element.{Stepped}
 use Rattle.elements.specs.Steps.{stepAt}
 use Rattle.elements.specs.declared.Stepping.{Stepping}
+use Rattle.reading.proofs.Times.{step-timed}
 use Rattle.collector.specs.Calls.{answered, Packs, stepLeaves}
 use Rattle.collector.proofs.Stays.{step-packs}
 use Rattle.collector.proofs.Handed.{StepTold, step-told}
@@ -26,7 +28,12 @@ abbrev words : Answered → List ℕ
 words v = now (v .before .before .before .before .args .out)
 
 told : (v : Answered) (x : Stepping) → v .step .result ≡ x → StepTold (words v) (read v) x
-told v x q = step-told (words v) (read v) x (sym q ∙ v .step .ensures .0)
+told v x q =
+    let k = v .before .before in
+    let a = k .before .before .args in
+    let doc = each-octet (now (a .doc)) (k .before .shared-slice-known .given) in
+    let book = each-octet (now (a .book)) (k .slice-known .given) in
+    step-told (words v) (read v) x (sym q ∙ v .step .ensures .0) (step-timed (now (a .doc)) doc (a .at) (a .rows) (now (a .book)) (a .used) book)
 
 pack-requires : tie.Need-pack-requires
 pack-requires c κs =

@@ -2,8 +2,11 @@
 use borrow.Author.Needs.{needs}
 use mathlib.Core.Path.{sym, _∙_, subst}
 use denote.Ref.{now}
+use lib.IntN.{ℤ}
+use mir.Syntax.{w64}
+use mir.Facts.{toZ-ofZ}
 use Rattle.elements.specs.Element.{Element}
-use Rattle.listing.specs.Lines.{layoutText, rowText, ElementText, of-layout, of-row, of-end}
+use Rattle.listing.specs.Lines.{Timed, layoutText, rowText, endText, ElementText, of-layout, of-row, of-end}
 use Rattle.listing.proofs.Stepping.{met-layout, met-row, met-end, asked-layout, asked-row}
 use Rattle.listing.proofs.element_line.Statement.{statement}
 use Rattle.listing.proofs.element_line.Tie as tie
@@ -40,10 +43,13 @@ returns-3 c =
     let told = line .before .before .before in
     let a = told .before .before .before .before .before .args in
     let put = line .end-line .ensures in
+    let count = told .met3 .given .0 .0 in
+    let exact = toZ-ofZ {w = w64} (record { sfits = line .before .before .known-told3 .given .1 .0 .1 }) in
     λ st next e is.
+    let (t, here, time) = met-end (st .element) _ _ (is ∙ told .met3 .given .1) in
     record {
       text = put .text;
-      right = subst (λ (x : Element). ElementText (a .at) x (put .text)) (sym (met-end (st .element) _ _ (is ∙ told .met3 .given .1))) (of-end _ _ (put .right));
+      right = subst (λ (x : Element). ElementText (a .at) x (put .text)) (sym here) (of-end count t (subst (λ (z : ℤ). Timed z (endText (a .at) count) (put .text)) (exact ∙ sym time) (put .right)));
       prints = put .prints;
     }
 

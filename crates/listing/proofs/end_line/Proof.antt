@@ -1,8 +1,12 @@
 -- `listing::end_line` meets its contract. Assumes nothing.
 use borrow.Author.Needs.{needs}
+use mathlib.Core.Path.{subst}
 use mathlib.Core.List.{[], _∷_}
+use lib.IntN.{ℤ}
+use mir.Facts.{toZ-ofZ}
 use Rattle.printing.specs.Text.{decimal}
 use Rattle.printing.proofs.Puts.{then}
+use Rattle.dates.specs.Times.{TimeText}
 use Rattle.listing.specs.Lines.{timed, endText}
 use Rattle.listing.proofs.Words.{word-then}
 use Rattle.listing.proofs.end_line.Statement.{statement}
@@ -15,11 +19,12 @@ returns c =
     let gap = stamp .before .before .before .before in
     let count = gap .before .before .before .before in
     let place = count .before .before .before .before .before in
-    let a = place .before .before .before .before .args in
+    let start = place .before .before .before .before in
+    let a = start .args in
     let time = stamp .time .ensures in
     record {
       text = endText (a .at) (a .count) (time .text);
-      right = timed (time .right);
+      right = timed (subst (λ (z : ℤ). TimeText z (time .text)) (toZ-ofZ (start .fits .time)) (time .right));
       prints = then (word-then (101 ∷ 110 ∷ 100 ∷ 32 ∷ []) (decimal (a .at)) (place .named .ensures))
           (then (word-then (32 ∷ []) (decimal (a .count)) (count .named2 .ensures)) (then (gap .octet .ensures) (then (time .prints) (last .octet2 .ensures))));
     }

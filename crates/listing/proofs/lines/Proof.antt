@@ -1,9 +1,12 @@
 -- `listing::lines` meets its contract: the listing of the document. Assumes nothing.
 use borrow.Author.Needs.{needs}
-use mathlib.Core.Path.{_≡_, sym, _∙_, subst}
+use mathlib.Core.Path.{_≡_, sym, ap, _∙_, subst}
 use mathlib.Core.List.{List, [], _++_}
 use Prim.Native.Nat.{ℕ, _≤_}
 use lib.ListN.{length}
+use lib.IntN.{ℤ}
+use mir.Syntax.{w64}
+use mir.Facts.{toZ-ofZ}
 use denote.Ref.{now}
 use Rattle.octets.specs.Reading.{ok}
 use Rattle.octets.proofs.Spans.{each-octet}
@@ -54,13 +57,14 @@ returns-2 : tie.Need-returns-2
 returns-2 c =
     let rest = c .before .before in
     let line = rest .before .before .before .before in
-    let k = line .before .before in
+    let k = line .before .before .before in
     let first = line .header-line .ensures in
     let from = rest .element-lines .ensures in
     let (h, next, is, same) = told k in
+    let exact = toZ-ofZ {w = w64} (record { sfits = line .before .struct-told .given .0 .1 }) in
     record {
       text = first .text ++ from .text;
-      right = headed h next is (subst (λ (x : Head). Timed (x .start) headerText (first .text)) (sym same) (first .right))
+      right = headed h next is (subst (λ (z : ℤ). Timed z headerText (first .text)) (exact ∙ sym (ap (λ (x : Head). x .start) same)) (first .right))
           (subst (λ (x : Head). LinesFrom (doc k) (x .next) 0 [] (from .text)) (sym same) (from .right));
       prints = then (first .prints) (from .prints);
     }
@@ -69,4 +73,4 @@ pub lines-spec : {M : Type 1} → statement M
 lines-spec =
     tie.close
     (tie.spec (λ c κs. search needs) (λ c. search needs) (λ c κs. search needs) (λ c. search needs) (λ c κs. search needs)
-    (λ c κs. place (c .before .before .before .before .before)) (λ c. search needs) returns (λ c. search needs) returns-2)
+    (λ c κs. place (c .before .before .before .before .before .before)) (λ c. search needs) returns (λ c. search needs) returns-2)

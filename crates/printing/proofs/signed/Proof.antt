@@ -1,14 +1,16 @@
 -- `printing::signed` meets its contract, by the number's sign. Assumes nothing.
 use borrow.Author.Needs.{needs}
+use mir.Syntax.{w64}
+use Rattle.kinds.proofs.Unsigned.{above-cast, below-fits, below-cast}
 use Rattle.printing.proofs.Puts.{then, says}
-use Rattle.printing.proofs.Signs.{above-cast, above-text, below-fits, below-cast, below-next, below-text}
+use Rattle.printing.proofs.Signs.{above-text, below-next, below-text}
 use Rattle.printing.proofs.signed.Statement.{statement}
 use Rattle.printing.proofs.signed.Tie as tie
 
 cast-decimal : tie.Need-cast-decimal
 cast-decimal c =
     let start = c .before .before .before in
-    above-cast (start .args .v) (start .fits .v) (c .before .if1 .taken)
+    above-cast w64 (start .args .v) (start .fits .v) (c .before .if1 .taken)
 
 returns : tie.Need-returns
 returns c =
@@ -19,12 +21,12 @@ returns c =
 sub-decimal : tie.Need-sub-decimal
 sub-decimal c =
     let test = c .before .before .before .before .before in
-    below-fits (test .before .before .args .v) (test .before .before .fits .v) (test .if1 .left)
+    below-fits w64 (test .before .before .args .v) (test .before .before .fits .v) (test .if1 .left)
 
 cast-decimal-2 : tie.Need-cast-decimal-2
 cast-decimal-2 c =
     let test = c .before .before .before .before .before in
-    below-cast (test .before .before .args .v) (test .before .before .fits .v) (test .if1 .left)
+    below-cast w64 (test .before .before .args .v) (test .before .before .fits .v) (test .if1 .left)
 
 add-decimal : tie.Need-add-decimal
 add-decimal c =

@@ -11,8 +11,9 @@ use Rattle.octets.specs.Reading.{be}
 use Rattle.kinds.specs.Kinds.{formOf}
 use Rattle.kinds.specs.declared.Basic.{Basic}
 use Rattle.kinds.specs.declared.Basic.the-variants as basic
-use Rattle.questions.specs.declared.Value.the-variants as value
-use Rattle.questions.specs.Answers.{numeral, valueOf}
+use Rattle.kinds.specs.declared.Value.the-variants as value
+use Rattle.kinds.specs.Values.{numeral}
+use Rattle.questions.specs.Answers.{valueOf}
 use Rattle.questions.specs.Places.{Stood}
 use Rattle.questions.proofs.Spelt.{Wide, stood-room, stood-says}
 use Rattle.questions.proofs.value_at.Statement.{statement}

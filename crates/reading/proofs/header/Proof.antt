@@ -5,6 +5,9 @@ use Prim.Native.Nat.{ℕ}
 use denote.Ref.{now}
 use mathlib.Core.Path.{_≡_, sym, ap, _∙_, subst}
 use mathlib.Core.List.{List}
+use mir.Syntax.{w64}
+use mir.Facts.{toZ-ofZ}
+use Rattle.kinds.specs.Kinds.{signed}
 use Rattle.headers.specs.Answers.{Accepted, Locates}
 use Rattle.headers.specs.declared.Placing.{Placing}
 use Rattle.reading.specs.Answers.{headTells}
@@ -42,16 +45,19 @@ accepted k = located (Of k) _ (k .before .placing2 .given .1)
 
 returns-3 : tie.Need-returns-3
 returns-3 c =
-    let k = c .before .before .before in
+    let t = c .before .before in
+    let u = t .before in
+    let k = u .before in
     let h = accepted k in
     let l = h .located in
     let s = Doc (Of k) in
-    rw (c .before .before .u64-at .ensures, c .before .u32-at .ensures, c .u32-at2 .ensures, number-is s 8 _ _ _ (l .start) .1, number-is s 4 _ _ _ (l .namespaces) .1, number-is s 4 _ _ _ (l .counted) .1)
+    let start = toZ-ofZ {w = w64} (record { sfits = t .signed64 .ok }) ∙ (t .signed64 .ensures ∙ ap (signed 8) (u .u64-at .ensures ∙ number-is s 8 _ _ _ (l .start) .1)) in
+    rw (start, c .before .u32-at .ensures, c .u32-at2 .ensures, number-is s 4 _ _ _ (l .namespaces) .1, number-is s 4 _ _ _ (l .counted) .1)
     (sym (ap headTells (header-short s (omega arith) ∙ h .reads)))
 
 pub header-spec : {M : Type 1} → statement M
 header-spec =
     tie.close
     (tie.spec returns (λ c κs. search needs) (λ c. search needs) (λ c. search needs) (λ c κs. number-is (Doc (Of c)) 8 _ _ _ (accepted c .located .start) .0)
-    (λ c κs. number-is (Doc (Of (c .before))) 4 _ _ _ (accepted (c .before) .located .namespaces) .0)
-    (λ c κs. number-is (Doc (Of (c .before .before))) 4 _ _ _ (accepted (c .before .before) .located .counted) .0) returns-2 returns-3)
+    (λ c κs. search needs) (λ c κs. let k = c .before .before in number-is (Doc (Of k)) 4 _ _ _ (accepted k .located .namespaces) .0)
+    (λ c κs. let k = c .before .before .before in number-is (Doc (Of k)) 4 _ _ _ (accepted k .located .counted) .0) returns-2 returns-3)

@@ -1,5 +1,8 @@
--- `writing::start_time` meets its contract: its number is given as the call says. Assumes nothing.
+-- `writing::start_time` meets its contract: its bits are given as the call says. Assumes nothing.
 use borrow.Author.Needs.{needs}
+use mathlib.Core.Path.{ap, _∙_}
+use mir.Facts.{toZ-ofZ}
+use Rattle.kinds.specs.Kinds.{unsigned}
 use Rattle.writing.specs.Writer.{does}
 use Rattle.writing.specs.Answers.{leaves}
 use Rattle.writing.proofs.start_time.Statement.{statement}
@@ -7,9 +10,13 @@ use Rattle.writing.proofs.start_time.Tie as tie
 
 returns : tie.Need-returns
 unfolding leaves does
-returns c = c .before .before .give-number .ensures
+returns c =
+    let g = c .before .before in
+    let b = g .before in
+    let i = b .before .before .before .before in
+    rw (← b .bits64 .ensures ∙ ap (unsigned 8) (toZ-ofZ (i .fits .time))) (g .give-number .ensures)
 
 pub start-time-spec : {M : Type 1} → statement M
 start-time-spec =
     tie.close
-    (tie.spec (λ c κs. search needs) (λ c. search needs) returns)
+    (tie.spec (λ c κs. search needs) (λ c κs. search needs) (λ c. search needs) returns)
