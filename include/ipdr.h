@@ -92,7 +92,8 @@ enum ipdr_refusal {
     IPDR_END_COUNT = 15,   /* the end's count is not that of the rows: the count */
     IPDR_AFTER_END = 16,   /* octets follow the end: the first of them */
     IPDR_LENT = 17         /* steps and runs, after 2: the book is too short, used is over IPDR_BOOK_SIZE, the used octets
-                              are not whole valid layouts of different numbers, or rows is over IPDR_ROWS_MOST: 0 */
+                              are not whole valid layouts of different numbers, at most IPDR_BOOK_MOST of them, or rows
+                              is over IPDR_ROWS_MOST: 0 */
 };
 
 /* A refusal taken apart. A place is an index into the document: it is at most the document's length or, for a step or
@@ -150,9 +151,9 @@ uint64_t ipdr_step(const uint8_t *doc, size_t doc_len, uint32_t at, uint32_t row
  *
  * at, rows, book and used are as for ipdr_step. A run is refused exactly where ipdr_step is refused at its first
  * element, by the same number and place: 1, 2, 4, 7 to 17. Else it passes at most IPDR_RUN_MOST items and stops before
- * the end, before an element that is refused, and before a row count over IPDR_ROWS_MOST: the step there, or the next
- * run, says which. The lent items are IPDR_RUN_MOST words; the first IPDR_RUN_COUNT of them are written, the others are
- * as they were.
+ * the end and before an element where the step is refused (by 17 too, behind a row that takes the count over
+ * IPDR_ROWS_MOST): the step there, or the next run, says which. The lent items are IPDR_RUN_MOST words; the first
+ * IPDR_RUN_COUNT of them are written, the others are as they were.
  *
  * Answers 0 with all eight words in `out`, or that refusal. The book is as the steps would leave it. A run that passes
  * 0 items stands at the end, which is whole and right: its count is that of the rows, and nothing follows it. */

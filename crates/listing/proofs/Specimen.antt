@@ -1,4 +1,4 @@
--- The specimen's listing is the one that document 01 prints: each element is computed, and so is the text of each line.
+-- The specimen's listing is the one that the scope prints: each element is computed, and so is the text of each line.
 use Prim.Native.Nat.{ℕ}
 use mathlib.Core.Path.{refl}
 use mathlib.Core.List.{[], _∷_}

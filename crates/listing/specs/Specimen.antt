@@ -1,4 +1,4 @@
--- The specimen's listing, as document 01 prints it.
+-- The specimen's listing, as the scope prints it.
 use Prim.Native.Nat.{ℕ}
 use mathlib.Core.List.{List, [], _∷_}
 

@@ -152,7 +152,7 @@ first (stop q) = rw q (refl, refl)
 first (last q t) = rw q (inl (t, refl, refl))
 first (more {rest = rest} q t d) = rw q (inr (t, (rest, d, refl)))
 
-once : {s : List ℕ} {at rows used : ℕ} {octets : List ℕ} {ps : List Placed} {e : Ending} → BySteps s at rows octets used ps e
+pub once : {s : List ℕ} {at rows used : ℕ} {octets : List ℕ} {ps : List Placed} {e : Ending} → BySteps s at rows octets used ps e
     → (qs : List Placed) (f : Ending) → BySteps s at rows octets used qs f → (qs ≡ ps) × (f ≡ e)
 once {s} {at} (stop q) qs f d = subst (First s at qs f) q (first d)
 once {s} {at} (last {next = next} {l = l} q t) qs f d = go (subst (First s at qs f) q (first d))

@@ -23,7 +23,7 @@ use Rattle.layouts.proofs.Finding.{none-some, absent, some-same, find-number, f
 use Rattle.layouts.proofs.Books.{GoodBook}
 use Rattle.layouts.proofs.Growing.{Alike, good-nil}
 use Rattle.promises.proofs.Run.{Spot, Steps, steps-split, steps-rows, Gains, steps-gain, Ends, ends-split, steps-few, Ran, ran}
-use Rattle.promises.proofs.Over.{InStep, header-short, reaches, halts, stops}
+use Rattle.promises.proofs.Over.{InStep, once, header-short, reaches, halts, stops}
 use Rattle.promises.proofs.Beside.{Known, Covered, present, alike-none, Resumes, resumes, lacks, steps-alike, Under, covers}
 
 -- Rows that are covered, and the first that is not.
@@ -228,10 +228,17 @@ module _ (s : List ℕ) (o : Each Octet s) (before : List Placed) (here : Placed
         (subst (λ (q : ℕ). Lacks met q (c .spot .at) (c .spot .rows)) there
         (halts s o (c .short) met from to in-step (t .steps) on stop, stops s o (c .short) met from to in-step (t .steps) on stop))
 
+    first-lacking : Found book (here ∷ rest) → (met : List Placed) × (p : Placed) × FirstLacking book (here ∷ rest) met p
+    first-lacking f = (f .0, f .1, record { others = f .2; split = f .3; lacking = f .5; first = λ a q b e x. covered-first a (f .0) book (f .4) q b e x })
+
+    lacking-or-not : Covered book (here ∷ rest) ⊎ Found book (here ∷ rest)
+        → ((met : List Placed) × (p : Placed) × FirstLacking book (here ∷ rest) met p) ⊎ ((met : List Placed) (p : Placed) → FirstLacking book (here ∷ rest) met p → ⊥)
+    lacking-or-not (inl c) = inr (λ met p f. covered-first met (here ∷ rest) book c p (f .others) (f .split) (f .lacking))
+    lacking-or-not (inr f) = inl (first-lacking f)
+
     covered-or-not : ((met : List Placed) (p : Placed) → FirstLacking book (here ∷ rest) met p → ⊥) → Covered book (here ∷ rest) ⊎ Found book (here ∷ rest) → Covered book (here ∷ rest)
     covered-or-not h (inl c) = c
-    covered-or-not h (inr f) =
-        absurd (h (f .0) (f .1) (record { others = f .2; split = f .3; lacking = f .5; first = λ a q b e x. covered-first a (f .0) book (f .4) q b e x }))
+    covered-or-not h (inr f) = let l = first-lacking f in absurd (h (l .0) (l .1) (l .2))
 
     resumed : Resumed s before here rest end book octets used
     resumed =
@@ -240,6 +247,8 @@ module _ (s : List ℕ) (o : Each Octet s) (before : List Placed) (here : Placed
           lacks = λ met p lack. lacking-stops met p lack .0;
           there = λ met p lack. lacking-stops met p lack .1;
           unneeded = λ h. covered-same (covered-or-not h (covered-or (here ∷ rest) book));
+          either = lacking-or-not (covered-or (here ∷ rest) book);
+          only = λ ps qs e f c d. once c qs f d;
         }
 
 pub demand-3 : (s : List ℕ) → Each Octet s → (before : List Placed) (here : Placed) (behind : List Placed) (end : ℕ) → CutAt s before here behind end

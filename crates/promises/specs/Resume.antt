@@ -3,6 +3,7 @@ use Prim.Native.Nat.{ℕ, _+_}
 use mathlib.Core.Path.{_≡_}
 use mathlib.Core.List.{List, [], _∷_, _++_, List·Memᴰ}
 use mathlib.Core.Option.{none}
+use mathlib.Core.Logic.{_⊎_}
 use Rattle.octets.specs.Reading.{ok}
 use Rattle.layouts.specs.Layout.{Layout}
 use Rattle.layouts.specs.Book.{Book, find}
@@ -10,7 +11,7 @@ use Rattle.rows.specs.Row.{Row}
 use Rattle.headers.specs.Header.{Header}
 use Rattle.elements.specs.Element.{layout, row, Element, item, finish}
 use Rattle.elements.specs.Steps.{Placed, reading, rowsOf}
-use Rattle.promises.specs.BySteps.{ended, refused, BySteps, Stops}
+use Rattle.promises.specs.BySteps.{Ending, ended, refused, BySteps, Stops}
 
 -- An accepted document and one of its elements, with those before it and those behind it.
 pub record CutAt (s : List ℕ) (before : List Placed) (here : Placed) (behind : List Placed) (end : ℕ) : Type 0 where
@@ -67,3 +68,7 @@ pub record Resumed (s : List ℕ) (before : List Placed) (here : Placed) (behind
   -- With some lacking that no row names so, all are the same.
   pub unneeded : ((met : List Placed) (p : Placed) → FirstLacking book (here ∷ behind) met p → ⊥)
       → BySteps s (here .place) (rowsOf before) octets used (here ∷ behind) (ended end)
+  -- There is such a row or there is none, and no other outcome is possible than the one said.
+  pub either : ((met : List Placed) × (p : Placed) × FirstLacking book (here ∷ behind) met p) ⊎ ((met : List Placed) (p : Placed) → FirstLacking book (here ∷ behind) met p → ⊥)
+  pub only : (ps qs : List Placed) (e f : Ending) → BySteps s (here .place) (rowsOf before) octets used ps e → BySteps s (here .place) (rowsOf before) octets used qs f
+      → (qs ≡ ps) × (f ≡ e)

@@ -1,4 +1,4 @@
--- Document 01's specimen, a change to it, and lent books.
+-- The scope's specimen, a change to it, and lent books.
 use Prim.Native.Nat.{ℕ}
 use mathlib.Core.List.{List, [], _∷_, _++_}
 use lib.ListN.{take, drop, replicate}

@@ -1,4 +1,4 @@
--- Document 01's cases that are marked as proved, as the rows of one list: each asks something of the specimen or of a change to it, and has the answer it must get.
+-- The scope's cases that are marked as proved, as the rows of one list: each asks something of the specimen or of a change to it, and has the answer it must get.
 use Prim.Native.Nat.{ℕ}
 use mathlib.Core.List.{List, [], _∷_, _++_}
 use mathlib.Core.Bool.{Bool, true, false}

@@ -3,14 +3,17 @@ use Prim.Native.Nat.{ℕ}
 use mathlib.Core.Path.{_≡_, refl}
 use mathlib.Core.List.{List, [], _∷_, _++_}
 use mathlib.Core.Bool.{true, false}
-use lib.ListN.{replicate}
+use lib.IntN.{negsuc}
+use lib.ListN.{replicate, set}
 use Rattle.octets.specs.Reading.{be, part, numberIn, octetsIn, textIn, count, run}
 use Rattle.octets.specs.Writing.{word, textImage, images, over}
 use Rattle.kinds.specs.declared.Basic.the-variants as b
-use Rattle.kinds.specs.Kinds.{among, basicOf, kindAt}
+use Rattle.kinds.specs.declared.Value.the-variants as value
+use Rattle.kinds.specs.Values.{basicOfValue}
+use Rattle.kinds.specs.Kinds.{among, basicOf, unsigned, kindAt}
 use Rattle.layouts.specs.Layout.{attributeAt, layoutAt, attributeImage, layoutImage}
 use Rattle.layouts.specs.Book.{find, layoutsAt, bookOf, bookIn}
-use Rattle.rows.specs.Row.{bits}
+use Rattle.rows.specs.Row.{bits, held}
 use Rattle.promises.specs.Specimen.{specimen, layoutBook, emptyBook}
 use Rattle.promises.specs.Refusals.{Only, refusalsOf}
 use Rattle.promises.proofs.Given.{layouts}
@@ -18,7 +21,7 @@ use Rattle.writing.specs.declared.Turn.{Turn}
 use Rattle.writing.specs.declared.Turn.the-variants as wants
 use Rattle.writing.specs.Writer.{Call, fine, room, bounded, rowLayout, does, layoutSoFar, early, tried, answered, call}
 use Rattle.writing.specs.Writer as writer
-use Rattle.promises_writing.specs.Numbers.{Made, Opening, Typed, fieldNumbers, countNumbers, idNumbers, attributesNumbers, typeNumbers, rowNumbers, valueNumbers, closeNumbers, giveUpNumbers, Numbers}
+use Rattle.promises_writing.specs.Numbers.{Made, Opening, Typed, Handed, fieldNumbers, countNumbers, idNumbers, attributesNumbers, typeNumbers, rowNumbers, valueNumbers, closeNumbers, giveUpNumbers, Numbers}
 use Rattle.promises_writing.proofs.Only.{plain-only, namespaces-only, services-only, id-only, attributes-only, type-only, open-row-only, value-only, close-only, give-up-only}
 
 -- A call at a turn over a full buffer, whose twelve octets open an element of number 7, over a book of which so much is used.
@@ -67,13 +70,18 @@ typeInputs =
 rowInputs : List (Made Opening)
 rowInputs = anyhow (opened 7) (bare wants.Element (opened 7) ∷ booked wants.Element (opened 7) ∷ [])
 
-abbrev byte : Typed
-byte = record { basic = b.Byte; value = bits 0 }
+-- A value over the book of the specimen's layout, whose second field is a byte, or a string where its type is changed; another is not the next.
+abbrev valueInputs : {A : Type 0} → List ℕ → A → A → List (Made A)
+valueInputs book right wrong = anyhow right (bare wants.Value right ∷ over-book book 31 wants.Value wrong ∷ over-book book 31 wants.Value right ∷ [])
 
--- The second field of the specimen's layout is a byte.
-valueInputs : List (Made Typed)
-valueInputs =
-    anyhow byte (bare wants.Value byte ∷ booked wants.Value (record { basic = b.Short; value = bits 0 }) ∷ booked wants.Value byte ∷ [])
+abbrev numberInputs : List (Made (Typed ℕ))
+numberInputs = valueInputs layoutBook (record { basic = b.Byte; given = 255 }) (record { basic = b.Byte; given = 256 })
+
+abbrev octetsInputs : List (Made (Typed (List ℕ)))
+octetsInputs = valueInputs (set layoutBook 30 0x28) (record { basic = b.String; given = [] }) (record { basic = b.HexBinary; given = [] })
+
+abbrev handedInputs : List (Made Handed)
+handedInputs = valueInputs layoutBook (record { value = value.Byte (negsuc 1); octets = [] }) (record { value = value.Short (negsuc 1); octets = [] })
 
 closeInputs : List (Made (Unit {0}))
 closeInputs = anyhow tt (bare wants.Value tt ∷ booked wants.Value tt ∷ [])
@@ -112,11 +120,13 @@ layouts-each = (refl, refl)
 
 rows-each :
     (refusals (λ (a : Opening). writer.openRow (a .number) (a .is-stated)) rowInputs ≡ rowNumbers)
-    × (refusals (λ (a : Typed). writer.value (a .basic) (a .value)) valueInputs ≡ valueNumbers)
+    × (refusals (λ (a : Typed ℕ). writer.value (a .basic) (bits (a .given))) numberInputs ≡ valueNumbers)
+    × (refusals (λ (a : Typed (List ℕ)). writer.value (a .basic) (held (a .given))) octetsInputs ≡ valueNumbers)
+    × (refusals (λ (a : Handed). writer.valueCall (a .value) (a .octets)) handedInputs ≡ valueNumbers)
     × (refusals (λ (a : Unit {0}). writer.closeRow) closeInputs ≡ closeNumbers)
     × (refusals (λ (a : Unit {0}). writer.giveUp) (anyhow tt []) ≡ giveUpNumbers)
-unfolding rowInputs valueInputs closeInputs specimen layoutBook emptyBook be part numberIn octetsIn textIn count run word textImage images over among basicOf kindAt attributeAt layoutAt find layoutsAt bookOf bookIn room bounded rowLayout does layoutSoFar early tried answered call
-rows-each = (refl, refl, refl, refl)
+unfolding rowInputs closeInputs specimen layoutBook emptyBook be part numberIn octetsIn textIn count run word textImage images over among basicOf kindAt unsigned attributeAt layoutAt find layoutsAt bookOf bookIn room bounded rowLayout does layoutSoFar early tried answered call
+rows-each = (refl, refl, refl, refl, refl, refl)
 
 -- A field with nothing of its own to refuse.
 plain : {A : Type 0} (i : Made A) (c : Call) → does (i .state) (i .buffer) (bookIn (i .book) (i .used)) c .fault ≡ fine → does (i .state) (i .buffer) (bookIn (i .book) (i .used)) c .completes ≡ false
@@ -162,12 +172,22 @@ numbers =
         inputs = rowInputs;
         each = rows-each .0;
       };
-      value = record {
-        only = λ i. value-only (i .state) (i .buffer) (i .book) (i .used) refl refl refl refl refl (i .argument .basic) (i .argument .value);
-        inputs = valueInputs;
+      valueNumber = record {
+        only = λ i. value-only (i .state) (i .buffer) (i .book) (i .used) refl refl refl refl refl (i .argument .basic) (bits (i .argument .given));
+        inputs = numberInputs;
         each = rows-each .1;
       };
-      closeRow = record { only = λ i. close-only (i .state) (i .buffer) (i .book) (i .used) refl refl refl refl; inputs = closeInputs; each = rows-each .2 };
-      giveUp = record { only = λ i. give-up-only (i .state) (i .buffer) (i .book) (i .used) refl refl; inputs = anyhow tt []; each = rows-each .3 };
+      valueOctets = record {
+        only = λ i. value-only (i .state) (i .buffer) (i .book) (i .used) refl refl refl refl refl (i .argument .basic) (held (i .argument .given));
+        inputs = octetsInputs;
+        each = rows-each .2;
+      };
+      value = record {
+        only = λ i. value-only (i .state) (i .buffer) (i .book) (i .used) refl refl refl refl refl (basicOfValue (i .argument .value)) _;
+        inputs = handedInputs;
+        each = rows-each .3;
+      };
+      closeRow = record { only = λ i. close-only (i .state) (i .buffer) (i .book) (i .used) refl refl refl refl; inputs = closeInputs; each = rows-each .4 };
+      giveUp = record { only = λ i. give-up-only (i .state) (i .buffer) (i .book) (i .used) refl refl; inputs = anyhow tt []; each = rows-each .5 };
       finish = record { only = λ i. plain i (writer.finish (i .argument)) refl refl; inputs = fieldInputs wants.Element 0; each = fields-each .9 };
     }

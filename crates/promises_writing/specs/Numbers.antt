@@ -3,7 +3,8 @@ use Prim.Native.Nat.{ℕ}
 use mathlib.Core.List.{List, [], _∷_}
 use mathlib.Core.Bool.{Bool}
 use Rattle.kinds.specs.declared.Basic.{Basic}
-use Rattle.rows.specs.Row.{Value}
+use Rattle.kinds.specs.declared.Value.{Value}
+use Rattle.rows.specs.Row.{bits, held}
 use Rattle.promises.specs.Refusals.{Gives}
 use Rattle.writing.specs.declared.State.{State}
 use Rattle.writing.specs.Writer.{Call, call}
@@ -17,14 +18,18 @@ pub record Made (A : Type 0) : Type 0 where
   pub used : ℕ
   pub argument : A
 
--- The arguments of a call that has two.
+-- The arguments of a call that has two: a row's number and whether it is stated; a type and a number or octets of it; a value as reading hands it out and its octets.
 pub record Opening : Type 0 where
   pub number : ℕ
   pub is-stated : Bool
 
-pub record Typed : Type 0 where
+pub record Typed (A : Type 0) : Type 0 where
   pub basic : Basic
+  pub given : A
+
+pub record Handed : Type 0 where
   pub value : Value
+  pub octets : List ℕ
 
 -- The numbers that a call gives, whatever its argument.
 abbrev pub Refuses : {A : Type 0} → (A → Call) → List ℕ → Type 0
@@ -77,7 +82,9 @@ pub record Numbers : Type 0 where
   pub attributeName : Refuses writer.attributeName fieldNumbers
   pub attributeType : Refuses writer.attributeType typeNumbers
   pub openRow : Refuses (λ (a : Opening). writer.openRow (a .number) (a .is-stated)) rowNumbers
-  pub value : Refuses (λ (a : Typed). writer.value (a .basic) (a .value)) valueNumbers
+  pub valueNumber : Refuses (λ (a : Typed ℕ). writer.value (a .basic) (bits (a .given))) valueNumbers
+  pub valueOctets : Refuses (λ (a : Typed (List ℕ)). writer.value (a .basic) (held (a .given))) valueNumbers
+  pub value : Refuses (λ (a : Handed). writer.valueCall (a .value) (a .octets)) valueNumbers
   pub closeRow : Refuses (λ (a : Unit {0}). writer.closeRow) closeNumbers
   pub giveUp : Refuses (λ (a : Unit {0}). writer.giveUp) giveUpNumbers
   pub finish : Refuses writer.finish fieldNumbers

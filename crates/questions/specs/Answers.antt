@@ -1,4 +1,4 @@
--- What the answers to questions say: document 01's meaning of every case.
+-- What the answers to questions say: the scope's meaning of every case.
 use Prim.Native.Nat.{ℕ}
 use mathlib.Core.List.{List, []}
 use Rattle.octets.specs.Reading.{Read, ok, no}
