@@ -19,7 +19,7 @@ pub struct Example {
 pub fn examples() -> Vec<Example> {
     let example = |name, shows, document| Example { name, shows, document };
     vec![
-        example("specimen", "The specimen of document 01: one layout, a row of stated and a row of unstated length.", SPECIMEN.to_vec()),
+        example("specimen", "The specimen of the scope: one layout, a row of stated and a row of unstated length.", SPECIMEN.to_vec()),
         example("bare", "A header and an end with nothing between them, the shortest document there is.", bare()),
         example("every-type", "All thirteen types, with their lowest and highest values; the layout's number is negative when it is read as signed.", every_type()),
         example("odd-strings", "Strings that are empty or need escapes, lists in the header, a row without fields, times before 1970 and after 9999.", odd_strings()),

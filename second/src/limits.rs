@@ -1,4 +1,4 @@
-//! The limits of document 01, each under one name.
+//! The limits of the scope, each under one name.
 
 /// Octets of a document, and of the room a writer has.
 pub const DOCUMENT: usize = 1_048_576;

@@ -1,5 +1,5 @@
-//! The specimen document of document 01, its changes, and the cases that
-//! document 01 only wants run.
+//! The specimen document of the scope, its changes, and the cases that
+//! the scope only wants run.
 
 use crate::basic::Basic;
 use crate::image::image;
@@ -43,7 +43,7 @@ pub struct FixedCase {
     pub outcome: Result<u64, (u8, u64)>,
 }
 
-/// Every document that document 01 lists, by change or by description.
+/// Every document that the scope lists, by change or by description.
 pub fn fixed_cases() -> Vec<FixedCase> {
     let case = |name, document, outcome| FixedCase { name, document, outcome };
     vec![

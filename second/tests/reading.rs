@@ -1,4 +1,4 @@
-//! The reader on the specimen, on every change that document 01 lists, and on
+//! The reader on the specimen, on every change that the scope lists, and on
 //! each refusal number at its place.
 
 use second::element::Element;

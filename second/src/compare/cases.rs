@@ -26,7 +26,7 @@ impl Named {
     }
 }
 
-/// The documents of document 01, the examples and some documents about the
+/// The documents of the scope, the examples and some documents about the
 /// listing's longest, read in ways that do not depend on a seed.
 pub fn fixed() -> Vec<Named> {
     let listed =
