@@ -1,8 +1,9 @@
 -- The contracts of printing themselves: each allows one count of what waits and one content of the buffer. Assumes nothing.
-use mathlib.Core.Path.{refl}
+use mathlib.Core.Path.{refl, sym, _∙_}
 use Rattle.octets.specs.Contracts.{Once}
 use Rattle.octets.proofs.Alike.{_also_}
 use Rattle.printing.proofs.Waits.{one-print}
+use Rattle.printing.proofs.flush as flush
 use Rattle.printing.proofs.octet as octet
 use Rattle.printing.proofs.show_all as show-all
 use Rattle.printing.proofs.decimal as decimal
@@ -13,6 +14,7 @@ use Rattle.printing.proofs.refused as refused
 use Rattle.printing.proofs.truth as truth
 
 pub record Contracts : Type 0 where
+  pub of-flush : Once flush.Kinds.ps flush.Kinds.r flush.Reads.Pre flush.Reads.Post
   pub of-octet : Once octet.Kinds.ps octet.Kinds.r octet.Reads.Pre octet.Reads.Post
   pub of-show-all : Once show-all.Kinds.ps show-all.Kinds.r show-all.Reads.Pre show-all.Reads.Post
   pub of-decimal : Once decimal.Kinds.ps decimal.Kinds.r decimal.Reads.Pre decimal.Reads.Post
@@ -25,6 +27,7 @@ pub record Contracts : Type 0 where
 pub contracts : Contracts
 contracts =
     record {
+      of-flush = λ κs a p x y u v e f. (e ∙ sym f, refl);
       of-octet = λ κs a p x y u v e f. let q = one-print e f in (q .1, q .0 also refl);
       of-show-all = λ κs a p x y u v e f. let q = one-print e f in (q .1, q .0 also refl);
       of-decimal = λ κs a p x y u v e f. let q = one-print e f in (q .1, q .0 also refl);

@@ -14,13 +14,16 @@ pub enum Show {
     Escaped,
 }
 
-// Writes out what waits.
-pub fn flush(out: &[u8], n: usize) {
+// Writes out what waits; how much waits then, which is nothing.
+pub fn flush(out: &[u8], n: usize) -> usize
+    ensures { λ r. ⌜ r ≡ 0 ⌝ }
+{
     if n < out.len() {
         io::write_all(1, &out[..n]);
-        return;
+        return 0;
     }
     io::write_all(1, out);
+    0
 }
 
 // One octet behind what waits; a full buffer is written out first, and without a buffer the octet is.
@@ -31,13 +34,13 @@ pub fn octet(out: &mut [u8], n: usize, x: u8) -> usize
         out[n] = x;
         return n + 1;
     }
-    flush(out, n);
+    let start = flush(out, n);
     if out.len() == 0 {
         io::write_all(1, &[x]);
-        return 0;
+        return start;
     }
-    out[0] = x;
-    1
+    out[start] = x;
+    start + 1
 }
 
 // A digit below 16; from 10 on a letter, of which the first is given.

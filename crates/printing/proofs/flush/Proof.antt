@@ -1,4 +1,4 @@
--- `printing::flush` is safe: the part that is written lies in the buffer. Assumes nothing.
+-- `printing::flush` meets its contract, and the part that is written lies in the buffer. Assumes nothing.
 use borrow.Author.Needs.{needs}
 use native.Mathlib.Omega.{arith}
 use mathlib.Core.Path.{sym}
