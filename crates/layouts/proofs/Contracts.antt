@@ -33,7 +33,6 @@ use Rattle.layouts.proofs.judge as judge
 use Rattle.layouts.proofs.layout_number as layout-number
 use Rattle.layouts.proofs.type_name as type-name
 use Rattle.layouts.proofs.attribute_count as attribute-count
-use Rattle.layouts.proofs.attribute_name as attribute-name
 use Rattle.layouts.proofs.kind_here as kind-here
 use Rattle.layouts.proofs.attribute_kind as attribute-kind
 
@@ -51,7 +50,6 @@ pub record Contracts : Type 0 where
   pub of-layout-number : Once layout-number.Kinds.ps layout-number.Kinds.r layout-number.Reads.Pre layout-number.Reads.Post
   pub of-type-name : OnceSeen type-name.Kinds.ps type-name.Kinds.r (λ κs x. now x) type-name.Reads.Pre type-name.Reads.Post
   pub of-attribute-count : Once attribute-count.Kinds.ps attribute-count.Kinds.r attribute-count.Reads.Pre attribute-count.Reads.Post
-  pub of-attribute-name : OnceSeen attribute-name.Kinds.ps attribute-name.Kinds.r (λ κs x. now x) attribute-name.Reads.Pre attribute-name.Reads.Post
   pub of-kind-here : Once kind-here.Kinds.ps kind-here.Kinds.r kind-here.Reads.Pre kind-here.Reads.Post
   pub of-attribute-kind : Once attribute-kind.Kinds.ps attribute-kind.Kinds.r attribute-kind.Reads.Pre attribute-kind.Reads.Post
 
@@ -111,7 +109,6 @@ contracts =
       of-layout-number = λ κs a p x y u v e f. let (l, next, is) = value-is _ p in (e l next is ∙ sym (f l next is), refl);
       of-type-name = λ κs a p x y u v e f. let (l, next, is) = value-is _ (p .1) in (e l next is ∙ sym (f l next is), refl);
       of-attribute-count = λ κs a p x y u v e f. let (l, next, is) = value-is _ (p .1) in (e l next is ∙ sym (f l next is), refl);
-      of-attribute-name = λ κs a p x y u v e f. let h = p .1 in let (b, more, is) = nth _ _ (h .more) in (e (h .layout) (h .end) b more (h .reads) is ∙ sym (f (h .layout) (h .end) b more (h .reads) is), refl);
       of-kind-here = λ κs a p x y u v e f. let (b, next, is) = value-is _ (p .1) in (e b next is ∙ sym (f b next is), refl);
       of-attribute-kind = λ κs a p x y u v e f. let h = p .1 in let (b, more, is) = nth _ _ (h .more) in (e (h .layout) (h .end) b more (h .reads) is ∙ sym (f (h .layout) (h .end) b more (h .reads) is), refl);
     }

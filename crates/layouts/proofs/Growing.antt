@@ -141,29 +141,3 @@ grown b l at c end g good e = go (learnt b l at c end e)
           keeps = within-front b (l ∷ []);
           has = find-behind (l .number) b (l ∷ []) (h .0) ∙ find-here (l .number) l [] refl;
         })
-
--- Learning puts at most one image behind the book's.
-pub learnt-image : (b : Book) (l : Layout) (at : ℕ) (c : Book) (end : ℕ) → learn b l at ≡ ok c end
-    → (c ≡ b) ⊎ ((c ≡ b ++ l ∷ []) × (bookImage c ≡ bookImage b ++ layoutImage l))
-learnt-image b l at c end e = go (learnt b l at c end e)
-  where
-    go : Learnt b l c → (c ≡ b) ⊎ ((c ≡ b ++ l ∷ []) × (bookImage c ≡ bookImage b ++ layoutImage l))
-    go (inl h) = inl (h .3)
-    go (inr h) = inr (h .3, ap bookImage (h .3) ∙ image-snoc b l)
-
--- Find after learning: under the layout's number the layout, under any other what was found before.
-pub find-learnt : (b : Book) (l : Layout) (at : ℕ) (c : Book) (end : ℕ) → GoodBook b → GoodLayout l → learn b l at ≡ ok c end → (n : ℕ)
-    → ((n ≡ l .number) × (find n c ≡ some l)) ⊎ ((n ≡ l .number → ⊥) × (find n c ≡ find n b))
-find-learnt b l at c end g good e n = go (learnt b l at c end e) (first n l [])
-  where
-    has : find (l .number) c ≡ some l
-    has = grown b l at c end g good e .has
-
-    behind : find n (l ∷ []) ≡ find n [] → (o : Option Layout) → find n b ≡ o → find n (b ++ l ∷ []) ≡ find n b
-    behind f none o = find-behind n b (l ∷ []) o ∙ (f ∙ (find-nil n ∙ sym o))
-    behind f (some m) o = find-front n b (l ∷ []) m o ∙ sym o
-
-    go : Learnt b l c → First n l [] → ((n ≡ l .number) × (find n c ≡ some l)) ⊎ ((n ≡ l .number → ⊥) × (find n c ≡ find n b))
-    go w (inl f) = inl (f .0, ap (λ (k : ℕ). find k c) (f .0) ∙ has)
-    go (inl h) (inr f) = inr (f .0, ap (find n) (h .3))
-    go (inr h) (inr f) = inr (f .0, ap (find n) (h .3) ∙ behind (f .1) (find n b) refl)

@@ -323,15 +323,6 @@ pub fn attribute_place(s: &[u8], at: usize, n: u32) -> usize
     pos
 }
 
-// The name of attribute n.
-pub fn attribute_name<'s>(s: &'s [u8], at: usize, n: u32) -> &'s [u8]
-    requires { ⌜ (length (now s) ≤ 1048576) × Has (now s) at n ⌝ }
-    ensures { λ r. ⌜ ((l : Layout) (end : ℕ) (a : Attribute) (more : List Attribute) → layoutAt (now (s .entry)) at ≡ ok l end → drop n (l .attributes) ≡ a ∷ more → now r ≡ a .name) ⌝ }
-{
-    let place = attribute_place(s, at, n);
-    name_part(s, place)
-}
-
 // The type of an attribute that is known to be accepted at a place: a refusal does not come about.
 pub fn kind_here(s: &[u8], at: usize) -> Kind
     requires { ⌜ (length (now s) ≤ 1048576) × (isOk (attributeAt (now s) at) ≡ true) ⌝ }
