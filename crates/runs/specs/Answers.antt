@@ -39,10 +39,18 @@ pub record Goes (s : List ℕ) (at rows : ℕ) (entry : List ℕ) (used : ℕ) (
 abbrev pub isItem : Read Stepped → Bool
 isItem r = onItem r (λ _ _ _. true) false
 
--- One turn of a run: the item of the step, or that there is none, and then all is as it was.
+-- The end that the step at a place reads.
+pub record Ends (s : List ℕ) (at rows : ℕ) (entry : List ℕ) (used : ℕ) : Type 0 where
+  pub stepped : Stepped
+  pub next : ℕ
+  pub reads : stepAt s at rows entry used ≡ ok stepped next
+  pub no-item : isItem (stepAt s at rows entry used) ≡ false
+
+-- One turn of a run: the item of the step; or the end or the step's refusal, and then all is as it was.
 abbrev pub Turns : List ℕ → ℕ → ℕ → List ℕ → ℕ → List ℕ → List ℕ → List ℕ → List ℕ → Turn → Type 0
 Turns s at rows entry used exit numbers places steps (turn.Item g) = Goes s at rows entry used exit numbers places steps g
-Turns s at rows entry used exit numbers places steps turn.Stop = (isItem (stepAt s at rows entry used) ≡ false) × (exit ≡ entry)
+Turns s at rows entry used exit numbers places steps turn.End = Ends s at rows entry used × (exit ≡ entry)
+Turns s at rows entry used exit numbers places steps (turn.Refused n p) = (stepAt s at rows entry used ≡ no n p) × (exit ≡ entry)
 
 -- How many items were passed, and where the run stands then.
 abbrev pub wentOf : Passed → Went
@@ -61,6 +69,10 @@ bookLeft octets (no n q) = octets
 abbrev pub wordsLeft : List ℕ → Read Passed → List ℕ
 wordsLeft words (ok p next) = laid 0 (p .words) words
 wordsLeft words (no n q) = words
+
+-- What a run answers and leaves, all by what it is.
+abbrev pub Ran : List ℕ → List ℕ → Read Passed → List ℕ → List ℕ → Running → Type 0
+Ran octets words asked book items r = (r ≡ runTells asked) × (book ≡ bookLeft octets asked) × (items ≡ wordsLeft words asked)
 
 -- A run that is refused.
 abbrev pub Refuses : Running → Type 0

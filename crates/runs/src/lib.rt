@@ -1,14 +1,11 @@
 // A run of steps in one call: the layouts and rows from a place on, each told in one number, over a lent book that is checked once.
 
 ghost use mathlib.Core.Path.{_≡_};
-ghost use mathlib.Core.Bool.{false};
 ghost use Prim.Native.Nat.{_≤_, _<_};
 ghost use lib.ListN.{length};
 ghost use Rattle.layouts.specs.Book.{IsBook};
-ghost use Rattle.plans.specs.Rows.{laid};
-ghost use Rattle.elements.specs.Steps.{stepAt};
-ghost use Rattle.runs.specs.Runs.{layoutWord, runFrom, runAsked, reachOf};
-ghost use Rattle.runs.specs.Answers.{Carried, Turns, isItem, wentOf, runTells, bookLeft, wordsLeft};
+ghost use Rattle.runs.specs.Runs.{layoutWord, runAsked, reachOf};
+ghost use Rattle.runs.specs.Answers.{Carried, Turns, Ran, runTells, bookLeft, wordsLeft};
 use elements::Met;
 use elements::Stepping;
 
@@ -21,9 +18,11 @@ pub struct Gone {
     pub known: usize,
 }
 
+// What stands at a place: an item, the end, or what the step there refuses.
 pub enum Turn {
     Item(Gone),
-    Stop,
+    End,
+    Refused(u32, usize),
 }
 
 // How many items a run has passed, and where it stands then.
@@ -65,13 +64,13 @@ fn exact_item<'d, 'b, 'n, 'l, 'p>(
     let looked = plans::look_up(numbers, places, known, elements::number_behind(doc, at));
     let one = elements::element_by(doc, at, rows, book, used, looked);
     match one {
-        Stepping::Refused(n, p) => Turn::Stop,
+        Stepping::Refused(n, p) => Turn::Refused(n, p),
         Stepping::Done(step) => {
             let met = step.met;
             let next = step.next;
             let filled = step.used;
             match met {
-                Met::End(count, time) => Turn::Stop,
+                Met::End(count, time) => Turn::End,
                 Met::Layout(number, count) => {
                     let word = layout_word(number, next);
                     if used < filled {
@@ -120,7 +119,7 @@ fn next_item<'d, 'b, 'n, 'l, 'p>(
     ensures { λ r. ⌜ Turns (now (doc .entry)) at rows (now (book .entry)) used (now (book .exit)) (now (numbers .exit)) (now (places .exit)) (now (steps .exit)) r ⌝ }
 {
     if 1048576 < rows {
-        return Turn::Stop;
+        return Turn::Refused(17, 0);
     }
     exact_item(doc, at, rows, book, used, numbers, places, steps, known)
 }
@@ -140,7 +139,7 @@ fn reach(n: usize, rows: usize) -> usize
     4096
 }
 
-// The items from a place on, at most 4,096, over a book that is known to be good: rows by plans as far as they go, else one item by the exact reader.
+// The run from a place on, at most 4,096 items, over a book that is known to be good: rows by plans as far as they go, else one item by the exact reader. A refusal of the first step is the run's.
 fn items<'d, 'b, 'w>(
     doc: &'d [u8],
     at: usize,
@@ -148,9 +147,9 @@ fn items<'d, 'b, 'w>(
     book: &'b mut [u8],
     used: usize,
     words: &'w mut [u64; 4096],
-) -> Went
+) -> Running
     requires { ⌜ (at ≤ length (now doc)) × (length (now doc) ≤ 1048576) × (rows ≤ 1048576) × IsBook (now book) used ⌝ }
-    ensures { λ r. ⌜ (r ≡ wentOf (runFrom 4096 (now (doc .entry)) at rows (now (book .entry)) used)) × (now (book .exit) ≡ runFrom 4096 (now (doc .entry)) at rows (now (book .entry)) used .octets) × (now (words .exit) ≡ laid 0 (runFrom 4096 (now (doc .entry)) at rows (now (book .entry)) used .words) (now (words .entry))) ⌝ }
+    ensures { λ r. ⌜ Ran (now (book .entry)) (now (words .entry)) (runAsked (now (doc .entry)) at rows (now (book .entry)) used) (now (book .exit)) (now (words .exit)) r ⌝ }
 {
     let mut numbers = [0u32; 64];
     let mut places = [0usize; 64];
@@ -179,13 +178,24 @@ fn items<'d, 'b, 'w>(
                 known,
             );
             match turn {
-                Turn::Stop => {
-                    return Went {
+                Turn::Refused(number, place) => {
+                    if n == 0 {
+                        return Running::Refused(number, place);
+                    }
+                    return Running::Went(Went {
                         count: n,
                         next: pos,
                         rows: passed,
                         used: filled,
-                    };
+                    });
+                }
+                Turn::End => {
+                    return Running::Went(Went {
+                        count: n,
+                        next: pos,
+                        rows: passed,
+                        used: filled,
+                    });
                 }
                 Turn::Item(gone) => {
                     words[n] = gone.word;
@@ -198,35 +208,12 @@ fn items<'d, 'b, 'w>(
             }
         }
     }
-    Went {
+    Running::Went(Went {
         count: n,
         next: pos,
         rows: passed,
         used: filled,
-    }
-}
-
-// What a run that passed nothing answers: the refusal of the step at its place, or that it went nowhere, since the end stands there. It changes nothing.
-fn none_passed<'d, 'b>(
-    doc: &'d [u8],
-    at: usize,
-    rows: usize,
-    book: &'b mut [u8],
-    used: usize,
-) -> Running
-    requires { ⌜ (length (now doc) ≤ 1048576) × (rows ≤ 1048576) × IsBook (now book) used × (isItem (stepAt (now doc) at rows (now book) used) ≡ false) ⌝ }
-    ensures { λ r. ⌜ (r ≡ runTells (runAsked (now (doc .entry)) at rows (now (book .entry)) used)) × (now (book .exit) ≡ now (book .entry)) ⌝ }
-{
-    let one = elements::element(doc, at, rows, book, used);
-    match one {
-        Stepping::Refused(n, p) => Running::Refused(n, p),
-        Stepping::Done(step) => Running::Went(Went {
-            count: 0,
-            next: at,
-            rows,
-            used,
-        }),
-    }
+    })
 }
 
 // A run of steps from any place, told the rows passed, over a lent book of which so many octets are used: as many items as follow one another, at most 4,096. It is refused as its first step is; behind an item, the end and a refusal stop it, and are left to the step there.
@@ -253,9 +240,5 @@ pub fn run<'d, 'b, 'w>(
     if doc.len() < at {
         return Running::Refused(1, at);
     }
-    let went = items(doc, at, rows, book, used, words);
-    if went.count == 0 {
-        return none_passed(doc, at, rows, book, used);
-    }
-    Running::Went(went)
+    items(doc, at, rows, book, used, words)
 }

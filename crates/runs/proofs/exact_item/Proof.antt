@@ -127,24 +127,25 @@ module _ (v : Answered) (x : Step) (t : Reads v x) where
       (exit v) (x .used) (t .stepped .book)
       (element-old (doc v) (octets v) (at v) (rows v) (bookIn (entry v) (used v)) (t .stepped) (t .next) (t .reads) (used v) (x .used) (lent-here v .size) (told-used t) no-more) left fills
 
--- What is no item stops the run here and leaves all as it was.
-stopped : (v : Answered) → isItem (elementAt (doc v) (at v) (rows v) (bookIn (entry v) (used v))) ≡ false
-    → (isItem (stepAt (doc v) (at v) (rows v) (entry v) (used v)) ≡ false) × (exit v ≡ entry v)
-stopped v h =
-    (ap isItem (step v) ∙ h, v .element-by .ensures .1 ∙ stop-leaves (doc v) (at v) (rows v) (entry v) (used v) (lent v) (Start v .pre .3) _ refl h)
+-- What is no item leaves all as it was.
+unmoved : (v : Answered) → isItem (elementAt (doc v) (at v) (rows v) (bookIn (entry v) (used v))) ≡ false → exit v ≡ entry v
+unmoved v h = v .element-by .ensures .1 ∙ stop-leaves (doc v) (at v) (rows v) (entry v) (used v) (lent v) (Start v .pre .3) _ refl h
 
 returns-2 : tie.Need-returns-2
 returns-2 c =
     let v = c .before .before .before .before .before in
-    stopped v (ap isItem (refusing (elementAt (doc v) (at v) (rows v) (bookIn (entry v) (used v))) _ _ (sym (v .element-by .ensures .0) ∙ c .before .one .given .1)))
+    let e = refusing (elementAt (doc v) (at v) (rows v) (bookIn (entry v) (used v))) _ _ (sym (v .element-by .ensures .0) ∙ c .before .one .given .1) in
+    (step v ∙ e, unmoved v (ap isItem e))
 
 returns-3 : tie.Need-returns-3
 returns-3 c =
     let v = c .before .before .before .before .before .before .before .before in
     let one = c .before .before .before .before in
-    let t = reads v (one .one2 .given .0 .0) (one .one2 .given .1) in
+    let x = one .one2 .given .0 .0 in
+    let t = reads v x (one .one2 .given .1) in
     let (n, u, is) = met-end (t .stepped .element) _ _ (ap (λ (y : Step). y .met) (t .is) ∙ c .before .met .given .1) in
-    stopped v (ap isItem (t .reads) ∙ ap (λ (y : Element). ofItem y (λ _. true) false) is)
+    let h = ap isItem (t .reads) ∙ ap (λ (y : Element). ofItem y (λ _. true) false) is in
+    (record { stepped = t .stepped; next = x .next; reads = steps v x t; no-item = ap isItem (step v) ∙ h }, unmoved v h)
 
 layout-word-requires : tie.Need-layout-word-requires
 layout-word-requires c κs =

@@ -14,13 +14,15 @@ use Rattle.layouts.proofs.Books.{Lent}
 use Rattle.layouts.proofs.Walks.{lent-book, book-image}
 use Rattle.plans.specs.Plan.{Shelf}
 use Rattle.plans.specs.Rows.{laid, wordsOf, Passage}
-use Rattle.runs.specs.Runs.{stopped, runFrom}
-use Rattle.runs.specs.Answers.{Carried, Turns, wentOf}
+use Rattle.runs.specs.Runs.{stopped, runFrom, runAsked}
+use Rattle.runs.specs.Answers.{Carried, Turns, isItem, wentOf, runTells, bookLeft, wordsLeft}
 use Rattle.runs.specs.declared.Turn as kind
 use Rattle.runs.specs.declared.Turn.the-variants as turn
 use Rattle.runs.specs.declared.Went.{Went}
+use Rattle.runs.specs.declared.Running.{Running}
 use Rattle.runs.proofs.Runs.{OnWay, started, goes, answered, run-stops, run-none}
 use Rattle.runs.proofs.Rows.{goes-rows}
+use Rattle.runs.proofs.Entry.{left-book, left-words, went-some, went-end, went-refused}
 use Rattle.runs.proofs.Steps.{taken}
 use Rattle.runs.proofs.items.Statement.{statement}
 use Rattle.runs.proofs.items.Tie as tie
@@ -166,11 +168,18 @@ module _ (q : Strode) where
       (subst (λ (m : ℕ). OnWay doc at rows entry used lent (laid (Turned q .loop .n) (wordsOf (passage .rows)) (Turned q .loop .words)) book pos m filled n) (omega (arith, count))
       (subst (λ (m : ℕ). OnWay doc at rows entry used lent (laid (Turned q .loop .n) (wordsOf (passage .rows)) (Turned q .loop .words)) book pos (Turned q .loop .passed + length (passage .rows)) filled m) count w))
 
-  -- What is answered where the run stops here.
-  stopped-here : runFrom (4096 - n) doc pos passed book filled ≡ stopped pos passed book filled
-      → (_≡_ {A = Went} (record { count = n; next = pos; rows = passed; used = filled }) (wentOf (runFrom 4096 doc at rows entry used)))
-      × (book ≡ runFrom 4096 doc at rows entry used .octets) × (words ≡ laid 0 (runFrom 4096 doc at rows entry used .words) lent)
-  stopped-here stop = answered doc at rows entry used lent way stop
+  -- Where the run stops here it has gone so far, and leaves so much.
+  abbrev went : Went
+  went = record { count = n; next = pos; rows = passed; used = filled }
+
+  module _ (stop : runFrom (4096 - n) doc pos passed book filled ≡ stopped pos passed book filled) where
+    stopped-here : (went ≡ wentOf (runFrom 4096 doc at rows entry used)) × (book ≡ runFrom 4096 doc at rows entry used .octets) × (words ≡ laid 0 (runFrom 4096 doc at rows entry used .words) lent)
+    stopped-here = answered doc at rows entry used lent way stop
+
+    says : {r : Running} {exit : List ℕ} → r ≡ runTells (runAsked doc at rows entry used) → exit ≡ book
+        → (r ≡ runTells (runAsked doc at rows entry used)) × (exit ≡ bookLeft entry (runAsked doc at rows entry used)) × (words ≡ wordsLeft lent (runAsked doc at rows entry used))
+    says told kept =
+        (told, kept ∙ stopped-here .1 ∙ sym (left-book doc at rows entry used), stopped-here .2 ∙ sym (left-words doc at rows entry used lent))
 
 -- The item behind them.
 abbrev Answered : Type 0
@@ -190,22 +199,52 @@ next-item-requires c κs =
     let q = c .before .before .before .before .before .before in
     (q .quick-rows .ensures .0, Start (Turned q) .pre .1, Turned q .loop .inv .3, Turned q .loop .inv .4)
 
+-- The step there is refused.
+module _ (v : Answered) (number place : ℕ) (e : v .next-item .result ≡ turn.Refused number place) where
+  refused : Turns (doc (Of v)) (pos (Of v)) (passed (Of v)) (book (Of v)) (filled (Of v)) (v .next-item .last .1 .1 .1 .0) (v .next-item .last .1 .1 .1 .1 .1 .0) (v .next-item .last .1 .1 .1 .1 .1 .1 .0) (v .next-item .last .1 .1 .1 .1 .1 .1 .1 .0) (turn.Refused number place)
+  refused = turns v (turn.Refused number place) e
+
+  halted : runFrom (4096 - n (Of v)) (doc (Of v)) (pos (Of v)) (passed (Of v)) (book (Of v)) (filled (Of v)) ≡ stopped (pos (Of v)) (passed (Of v)) (book (Of v)) (filled (Of v))
+  halted = let q = Of v in run-stops (4096 - n q) (doc q) (pos q) (passed q) (book q) (filled q) (ap isItem (refused .0))
+
 returns : tie.Need-returns Inv-loop μ-loop
 returns c =
-    let v = c .before .before .before .before in
+    let v = c .before .before .before .before .before .before in
     let q = Of v in
-    let (none, kept) = turns v turn.Stop (c .enum-told .given .1) in
-    let (went, same, put) = stopped-here q (run-stops (4096 - n q) (doc q) (pos q) (passed q) (book q) (filled q) none) in
-    (went, kept ∙ same, put)
+    let e = c .before .before .turn .given .1 in
+    let here = stopped-here q (halted v _ _ e) in
+    says q (halted v _ _ e)
+    (went-refused (doc q) (at q) (rows q) (entry q) (used q) (went q) (book q) (here .0) (here .1) (c .if2 .taken) _ _ (refused v _ _ e .0)) (refused v _ _ e .1)
 
 returns-2 : tie.Need-returns-2 Inv-loop μ-loop
 returns-2 c =
+    let v = c .before .before .before .before .before .before in
+    let q = Of v in
+    let e = c .before .before .turn .given .1 in
+    let here = stopped-here q (halted v _ _ e) in
+    says q (halted v _ _ e) (went-some (doc q) (at q) (rows q) (entry q) (used q) (went q) (book q) (here .0) (here .1) (c .if2 .left)) (refused v _ _ e .1)
+
+returns-3 : tie.Need-returns-3 Inv-loop μ-loop
+returns-3 c =
+    let v = c .before .before .before .before in
+    let q = Of v in
+    let (ends, kept) = turns v turn.End (c .enum-told .given .1) in
+    let stop = run-stops (4096 - n q) (doc q) (pos q) (passed q) (book q) (filled q) (ends .no-item) in
+    let here = stopped-here q stop in
+    says q stop (went-end (doc q) (at q) (rows q) (entry q) (used q) (went q) (book q) (here .0) (here .1) (ends .stepped) (ends .next) (ends .reads)) kept
+
+returns-4 : tie.Need-returns-4 Inv-loop μ-loop
+returns-4 c =
     let t = c .before in
     let a = Start t .args in
     let none : 4096 - t .loop .n ≡ 0 = omega (arith, c .loop-test .left) in
-    answered (now (a .doc)) (a .at) (a .rows) (now (a .book)) (a .used) (now (a .words)) (t .loop .inv .0)
+    let (gone, held, put) = answered (now (a .doc)) (a .at) (a .rows) (now (a .book)) (a .used) (now (a .words)) (t .loop .inv .0)
     (ap (λ (k : ℕ). runFrom k (now (a .doc)) (t .loop .pos) (t .loop .passed) (t .loop .book) (t .loop .filled)) none
-    ∙ run-none (now (a .doc)) (t .loop .pos) (t .loop .passed) (t .loop .book) (t .loop .filled))
+    ∙ run-none (now (a .doc)) (t .loop .pos) (t .loop .passed) (t .loop .book) (t .loop .filled)) in (
+      went-some (now (a .doc)) (a .at) (a .rows) (now (a .book)) (a .used) _ (t .loop .book) gone held (λ z. omega (arith, c .loop-test .left)),
+      held ∙ sym (left-book (now (a .doc)) (a .at) (a .rows) (now (a .book)) (a .used)),
+      put ∙ sym (left-words (now (a .doc)) (a .at) (a .rows) (now (a .book)) (a .used) (now (a .words))),
+    )
 
 -- What holds of a step holds of what was answered of it.
 said : {word word' : ℕ} {exit exit' : List ℕ} {rows rows' used used' : ℕ} (P : ℕ → List ℕ → ℕ → ℕ → Type 0) → word ≡ word' → exit ≡ exit' → rows ≡ rows' → used ≡ used'
@@ -216,8 +255,8 @@ loop-again : tie.Need-loop-again Inv-loop μ-loop
 loop-again c =
     let v = c .before .before .before .before .before in
     let q = Of v in
-    let gone = c .before .turn .given .0 .0 in
-    let g = turns v (turn.Item gone) (c .before .turn .given .1) in
+    let gone = c .before .turn2 .given .0 .0 in
+    let g = turns v (turn.Item gone) (c .before .turn2 .given .1) in
     let step = taken (doc q) (pos q) (passed q) (book q) (filled q) (g .stepped) (gone .next) (octets q) (Turned q .loop .inv .2) (g .reads) in (
       said (λ (word : ℕ) (exit : List ℕ) (rows₁ used₁ : ℕ). OnWay (doc q) (at q) (rows q) (entry q) (used q) (lent q) (set (words q) (n q) word) exit (gone .next) rows₁ used₁ (n q + 1))
           (g .told) (g .left) (g .counts) (g .fills)
@@ -252,4 +291,4 @@ loop-less-2 c = let q = c .before .before in omega (arith, c .if1 .left, q .befo
 pub items-spec : {M : Type 1} → statement M
 items-spec =
     tie.close
-    (tie.spec Inv-loop μ-loop slice-reshare-prefix-index slice-aggregate-index index-requires loop-holds (λ c κs. search needs) quick-rows-requires sub-passed add-passed next-item-requires (λ c. search needs) (λ c. search needs) returns (λ c. search needs) (λ c. search needs) (λ c. search needs) (λ c. search needs) loop-less loop-again loop-less-2 loop-again-2 (λ c. search needs) returns-2)
+    (tie.spec Inv-loop μ-loop slice-reshare-prefix-index slice-aggregate-index index-requires loop-holds (λ c κs. search needs) quick-rows-requires sub-passed add-passed next-item-requires (λ c. search needs) (λ c. search needs) returns (λ c. search needs) returns-2 (λ c. search needs) (λ c. search needs) returns-3 (λ c. search needs) (λ c. search needs) (λ c. search needs) (λ c. search needs) loop-less loop-again loop-less-2 loop-again-2 (λ c. search needs) returns-4)

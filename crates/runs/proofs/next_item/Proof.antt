@@ -1,9 +1,8 @@
 -- `runs::next_item` meets its contract: no step is told more than 1,048,576 rows. Assumes nothing.
 use borrow.Author.Needs.{needs}
 use denote.Ref.{now}
-use mathlib.Core.Path.{refl, ap}
+use mathlib.Core.Path.{refl}
 use Rattle.elements.proofs.Before.{lent-many, step-refused}
-use Rattle.runs.specs.Answers.{isItem}
 use Rattle.runs.proofs.next_item.Statement.{statement}
 use Rattle.runs.proofs.next_item.Tie as tie
 
@@ -11,7 +10,7 @@ returns : tie.Need-returns
 returns c =
     let start = c .before .before .before in
     let a = start .args in (
-      ap isItem (step-refused (now (a .doc)) (a .rows) (now (a .book)) (a .used) (a .at) 17 0 (lent-many (now (a .doc)) (a .rows) (now (a .book)) (a .used) (start .pre .1) (start .pre .2) (c .if1 .taken))),
+      step-refused (now (a .doc)) (a .rows) (now (a .book)) (a .used) (a .at) 17 0 (lent-many (now (a .doc)) (a .rows) (now (a .book)) (a .used) (start .pre .1) (start .pre .2) (c .if1 .taken)),
       refl,
     )
 

@@ -1,10 +1,10 @@
--- `runs::run` meets its contract: 2, then 17, and 1 past the end, each leaving book and words; then what the items are, or what stands where there is none. Assumes nothing.
+-- `runs::run` meets its contract: 2, then 17, and 1 past the end, each leaving book and words; then the run over a good book. Assumes nothing.
 use borrow.Author.Needs.{needs}
 use borrow.Author.Tests.{not-true, not-false}
 use native.Mathlib.Omega.{arith}
 use Prim.Native.Nat.{ℕ}
 use denote.Ref.{now}
-use mathlib.Core.Path.{_≡_, sym, ap, _∙_, subst}
+use mathlib.Core.Path.{_≡_, sym, ap, _∙_}
 use mathlib.Core.List.{List}
 use mathlib.Core.Bool.{Bool, true, false}
 use lib.ListN.{length}
@@ -16,13 +16,11 @@ use Rattle.layouts.proofs.Checks.{good-book}
 use Rattle.elements.specs.Steps.{lentBook, stepAt}
 use Rattle.elements.proofs.Before.{lent-long, lent-unbooked, lent-many, step-refused, step-is}
 use Rattle.elements.proofs.Told.{element-cut}
-use Rattle.runs.specs.Runs.{Passed, runFrom, runAsked}
-use Rattle.runs.specs.Answers.{isItem, runTells, bookLeft, wordsLeft}
-use Rattle.runs.specs.declared.Went as declared
+use Rattle.runs.specs.Runs.{Passed, runAsked}
+use Rattle.runs.specs.Answers.{runTells, bookLeft, wordsLeft}
 use Rattle.runs.specs.declared.Running.{Running}
 use Rattle.runs.specs.declared.Running.the-variants as running
-use Rattle.runs.proofs.Runs.{run-stops}
-use Rattle.runs.proofs.Entry.{asked-no, left-book, left-words, some-asked, none-item}
+use Rattle.runs.proofs.Entry.{asked-no}
 use Rattle.runs.proofs.run.Statement.{statement}
 use Rattle.runs.proofs.run.Tie as tie
 
@@ -51,9 +49,6 @@ module _ (k : Known) where
 
   abbrev asked : Read Passed
   asked = runAsked doc at rows lent used
-
-  abbrev passed : Passed
-  passed = runFrom 4096 doc at rows lent used
 
   abbrev Left : Running → Type 0
   Left r = (r ≡ runTells asked) × (lent ≡ bookLeft lent asked) × (words ≡ wordsLeft words asked)
@@ -102,68 +97,8 @@ items-requires c κs =
     let v = c .before .before .before .before .before in
     (c .before .before .if4 .left, omega arith, c .before .before .before .if3 .left, is v (not-false _ (c .before .before .before .before .if2 .left)))
 
--- Behind the items.
-abbrev Went : Type 0
-Went = tie.After-items
-
-abbrev Checked : Went → tie.After-is-book
-Checked m = m .before .before .before .before .before .before
-
-abbrev Of : Went → Known
-Of m = Checked m .before .before .before
-
-module _ (m : Went) where
-  abbrev exit : List ℕ
-  exit = m .items .last .1 .1 .1 .0
-
-  count : m .items .result .count ≡ length (passed (Of m) .words)
-  count = ap (λ (w : declared.Went). w .count) (m .items .ensures .0)
-
-  -- What is left, with or without items.
-  book-left : exit ≡ bookLeft (lent (Of m)) (asked (Of m))
-  book-left = let k = Of m in m .items .ensures .1 ∙ sym (left-book (doc k) (at k) (rows k) (lent k) (used k))
-
-  words-left : m .items .last .1 .1 .1 .1 .1 .0 ≡ wordsLeft (words (Of m)) (asked (Of m))
-  words-left = let k = Of m in m .items .ensures .2 ∙ sym (left-words (doc k) (at k) (rows k) (lent k) (used k) (words k))
-
-  module _ (none : m .items .result .count ≡ 0) where
-    no-item : isItem (stepAt (doc (Of m)) (at (Of m)) (rows (Of m)) (lent (Of m)) (used (Of m))) ≡ false
-    no-item = let k = Of m in none-item (doc k) (at k) (rows k) (lent k) (used k) (sym count ∙ none)
-
-    -- Without items the book is as it was.
-    same : exit ≡ lent (Of m)
-    same = let k = Of m in m .items .ensures .1 ∙ ap (λ (p : Passed). p .octets) (run-stops 4096 (doc k) (at k) (rows k) (lent k) (used k) no-item)
-
-none-passed-requires : tie.Need-none-passed-requires
-none-passed-requires c κs =
-    let m = c .before .before .before .before .before in
-    let k = Of m in
-    let none = c .before .if5 .taken in
-    let f = m .before .before .before .before in (
-      omega arith,
-      f .if3 .left,
-      subst (λ (xs : List ℕ). IsBook xs (used k)) (sym (same m none)) (is (Checked m) (not-false _ (f .before .if2 .left))),
-      subst (λ (xs : List ℕ). isItem (stepAt (doc k) (at k) (rows k) xs (used k)) ≡ false) (sym (same m none)) (no-item m none),
-    )
-
 returns-5 : tie.Need-returns-5
-returns-5 c =
-    let w = c .before .before in
-    let m = w .before .before .before .before .before .before in
-    let k = Of m in (
-      w .none-passed .ensures .0 ∙ ap (λ (xs : List ℕ). runTells (runAsked (doc k) (at k) (rows k) xs (used k))) (same m (w .before .before .if5 .taken)),
-      w .none-passed .ensures .1 ∙ book-left m,
-      words-left m,
-    )
-
-returns-6 : tie.Need-returns-6
-returns-6 c =
-    let m = c .before .before .before .before in
-    let k = Of m in (
-      ap running.Went (m .items .ensures .0) ∙ sym (ap runTells (some-asked (doc k) (at k) (rows k) (lent k) (used k) λ h. c .if5 .left (count m ∙ h))),
-      book-left m,
-      words-left m,
-    )
+returns-5 c = c .before .before .items .ensures
 
 slice-aggregate-is-book : tie.Need-slice-aggregate-is-book
 slice-aggregate-is-book c = ap length (sym (take-length (lent (c .before .before))))
@@ -172,4 +107,4 @@ pub run-spec : {M : Type 1} → statement M
 run-spec =
     tie.close
     (tie.spec returns (λ c. search needs) slice-aggregate-is-book (λ c κs. search needs) (λ c. search needs) returns-2 (λ c. search needs) returns-3
-    (λ c. search needs) returns-4 items-requires none-passed-requires (λ c. search needs) returns-5 (λ c. search needs) returns-6)
+    (λ c. search needs) returns-4 items-requires (λ c. search needs) returns-5)
