@@ -1,7 +1,8 @@
 """
 Compares the C reader with the second program, and with ours if its archive is
 there, on the measured documents and on damaged ones. COUNT and SEED say how
-many damaged ones and which. The last line is `N passed, M failed`.
+many damaged ones and which; with --calls, ours alone are compared. The last
+line is `N passed, M failed`.
 """
 import collections
 import sys
@@ -19,14 +20,25 @@ def second():
     return [target / "release" / "second", "c-probe"]
 
 
-def compared():
-    """The programs that are held to the second one: what is measured, and the reader with every access checked."""
+def readers():
+    """What our calls are measured against, and the same with every access checked."""
     yield "the C reader", started(programs.READER)
     yield "the C reader, sanitized", [programs.build(programs.READER, programs.SANITIZED, "-sanitized", programs.COMPILER)]
-    if programs.ours_is_there():
-        yield "the whole check", started(programs.WHOLE)
-        yield "the reading by steps", started(programs.STEPS)
-        yield "the reading by runs", started(programs.RUNS)
+
+
+def calls():
+    yield "the whole check", started(programs.WHOLE)
+    yield "the reading by steps", started(programs.STEPS)
+    yield "the reading by runs", started(programs.RUNS)
+
+
+def compared(calls_alone):
+    """The programs that are held to the second one."""
+    if calls_alone:
+        if not programs.ours_is_there():
+            raise SystemExit(f"bench: {programs.LACKING}")
+        return list(calls())
+    return [*readers(), *(calls() if programs.ours_is_there() else [])]
 
 
 def started(check):
@@ -75,8 +87,10 @@ def compare_lot(lot, reference, others, tally, met):
             tally.failed[program] += 1
 
 
-def main(count=3000, seed=1):
-    reference, others = second(), list(compared())
+def main(words):
+    calls_alone = words[:1] == ["--calls"]
+    count, seed = [*words[calls_alone:], *["3000", "1"][len(words) - calls_alone:]]
+    reference, others = second(), compared(calls_alone)
     tally, met = Tally(), collections.Counter()
     for lot in batches(damage.all_cases(int(count), int(seed))):
         compare_lot(lot, reference, others, tally, met)
@@ -92,4 +106,4 @@ def main(count=3000, seed=1):
     return 0 if passed and not failed else 1
 
 
-sys.exit(main(*sys.argv[1:]))
+sys.exit(main(sys.argv[1:]))
