@@ -59,8 +59,8 @@ pub fn readme() -> String {
 }
 
 fn bare() -> Vec<u8> {
-    let header = Header { start: 951_782_400, ..Header::default() };
-    image(&Document { header, items: vec![], end_time: 951_868_799 }).octets
+    let header = Header { start: 951_782_400_000, ..Header::default() };
+    image(&Document { header, items: vec![], end_time: 951_868_799_999 }).octets
 }
 
 fn layout(number: u32, name: &str, attributes: &[(&str, u32)]) -> Layout {
@@ -140,7 +140,7 @@ fn odd_strings() -> Vec<u8> {
         row(2, true, vec![]),
         row(2, false, vec![]),
     ];
-    image(&Document { header, items, end_time: 253_402_300_800 }).octets
+    image(&Document { header, items, end_time: 253_402_300_800_000 }).octets
 }
 
 /// Bytes in and out of one subscriber, as the next two examples count them.
@@ -163,8 +163,8 @@ fn repeated_layout() -> Vec<u8> {
         row(2, false, login),
         usage(1, "alice", &[3]),
     ];
-    let header = Header { start: 1_000_000_000, ..Header::default() };
-    image(&Document { header, items, end_time: 1_000_003_600 }).octets
+    let header = Header { start: 1_000_000_000_000, ..Header::default() };
+    image(&Document { header, items, end_time: 1_000_003_600_050 }).octets
 }
 
 fn june() -> Vec<u8> {
@@ -177,8 +177,8 @@ fn june() -> Vec<u8> {
         Item::Layout(layout(1, "Usage", &june)),
         usage(1, "alice", &[90, 4]),
     ];
-    let header = Header { start: 1_117_497_600, ..Header::default() };
-    image(&Document { header, items, end_time: 1_117_670_400 }).octets
+    let header = Header { start: 1_117_497_600_007, ..Header::default() };
+    image(&Document { header, items, end_time: 1_117_670_400_000 }).octets
 }
 
 fn unstated_string() -> Vec<u8> {

@@ -6,11 +6,13 @@ use std::sync::OnceLock;
 use second::command::{stream, Command};
 use second::generate::case;
 use second::generate::document::{document, fullest};
+use second::generate::field;
 use second::generate::random::Random;
 use second::generate::script::script;
 use second::image::image;
 use second::limits;
 use second::probe;
+use second::time;
 use second::whole::whole_check;
 
 /// How often each first word, or call or refusal with its letter, was answered.
@@ -128,4 +130,35 @@ fn good_documents_are_accepted() {
         }
     }
     assert!(accepted > 900, "{accepted} of 1000 accepted");
+}
+
+#[test]
+fn times_reach_the_borders() {
+    let mut random = Random::of(7, 0);
+    let times: Vec<i64> = (0..20_000).map(|_| field::time(&mut random)).collect();
+    const LAST: i64 = 253_402_300_799_999;
+    for border in [0, 1, -1, 999, 1000, 86_400, 86_401, LAST - 1, LAST, LAST + 1, i64::MIN, i64::MAX] {
+        assert!(times.iter().filter(|time| **time == border).count() >= 20, "{border}");
+    }
+    let texts: Vec<String> = times.iter().map(|time| time::text(*time)).collect();
+    let parts = [
+        "-02-28T23:59:59.999Z",
+        "-02-29T00:00:00.000Z",
+        "-02-29T23:59:59.999Z",
+        "-03-01T00:00:00.000Z",
+        "-03-01T00:00:00.001Z",
+        ":59:59.999Z",
+        ":00:00.000Z",
+        ".00",
+        ".01",
+        "@-",
+        "@9",
+    ];
+    for part in parts {
+        assert!(texts.iter().filter(|text| text.contains(part)).count() >= 20, "{part}");
+    }
+    for year in (1970..10_000).step_by(10) {
+        let decade = format!("{:03}", year / 10);
+        assert!(texts.iter().any(|text| text.starts_with(&decade)), "{year}");
+    }
 }

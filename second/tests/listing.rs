@@ -7,11 +7,11 @@ use second::meaning::{Attribute, Document, Header, Item, Layout, Row, Value};
 use second::specimen::{with, SPECIMEN};
 
 const LISTED: &str = "\
-document 4 1970-01-02T00:00:00Z
+document 4 1970-01-01T00:01:26.400Z
 layout 52 7 =A 2
 row 87 7 10 -2
 row 104 7 0 127
-end 121 2 1970-01-02T00:00:01Z
+end 121 2 1970-01-01T00:01:26.401Z
 ";
 
 #[test]
@@ -23,7 +23,7 @@ fn specimen() {
 fn refusals_stand_behind_the_lines_before_them() {
     assert_eq!(list(&[]), "refused 1 0\n");
     assert_eq!(list(&with(0, &[0, 0, 0, 3])), "refused 3 0\n");
-    assert_eq!(list(&SPECIMEN[..52]), "document 4 1970-01-02T00:00:00Z\nrefused 1 52\n");
+    assert_eq!(list(&SPECIMEN[..52]), "document 4 1970-01-01T00:01:26.400Z\nrefused 1 52\n");
     let lines = &LISTED[..LISTED.find("end").unwrap()];
     assert_eq!(list(&with(125, &[0, 0, 0, 3])), format!("{lines}refused 15 125\n"));
     assert_eq!(list(&[&SPECIMEN[..], &[0]].concat()), format!("{lines}refused 16 137\n"));
@@ -36,7 +36,7 @@ fn inputs_about_the_longest() {
         let header = Header { recorder: vec![b'r'; size - 68], ..Header::default() };
         image(&Document { header, items: vec![], end_time: 0 }).octets
     };
-    let listed = "document 4 1970-01-01T00:00:00Z\nend 65520 0 1970-01-01T00:00:00Z\n";
+    let listed = "document 4 1970-01-01T00:00:00.000Z\nend 65520 0 1970-01-01T00:00:00.000Z\n";
     assert_eq!(list(&document(65_536)), listed);
     assert_eq!(list(&document(65_537)), "input too long\n");
     assert_eq!(list(&vec![0; 2_000_000]), "input too long\n");
@@ -51,15 +51,29 @@ fn times() {
         let lines: Vec<&str> = text.lines().collect();
         (lines[0].to_string(), lines[4].to_string())
     };
-    assert_eq!(
-        at(951_782_400, 4_107_542_400),
-        ("document 4 2000-02-29T00:00:00Z".into(), "end 121 2 2100-03-01T00:00:00Z".into())
-    );
-    assert_eq!(
-        at(253_402_300_799, 253_402_300_800),
-        ("document 4 9999-12-31T23:59:59Z".into(), "end 121 2 @253402300800".into())
-    );
-    assert_eq!(at(-1, i64::MIN), ("document 4 @-1".into(), "end 121 2 @-9223372036854775808".into()));
+    let cases = [
+        (0, "1970-01-01T00:00:00.000Z"),
+        (1, "1970-01-01T00:00:00.001Z"),
+        (10, "1970-01-01T00:00:00.010Z"),
+        (999, "1970-01-01T00:00:00.999Z"),
+        (1000, "1970-01-01T00:00:01.000Z"),
+        (951_782_400_000, "2000-02-29T00:00:00.000Z"),
+        (951_868_799_999, "2000-02-29T23:59:59.999Z"),
+        (4_107_542_399_999, "2100-02-28T23:59:59.999Z"),
+        (4_107_542_400_000, "2100-03-01T00:00:00.000Z"),
+        (253_402_300_799, "1978-01-11T21:31:40.799Z"),
+        (253_402_300_800, "1978-01-11T21:31:40.800Z"),
+        (253_402_300_799_999, "9999-12-31T23:59:59.999Z"),
+        (253_402_300_800_000, "@253402300800000"),
+        (-1, "@-1"),
+        (i64::MIN, "@-9223372036854775808"),
+        (i64::MAX, "@9223372036854775807"),
+    ];
+    for (start, first) in cases {
+        for (end, last) in cases {
+            assert_eq!(at(start, end), (format!("document 4 {first}"), format!("end 121 2 {last}")));
+        }
+    }
 }
 
 fn of(layout: Layout, rows: Vec<Vec<Value>>) -> Vec<u8> {
@@ -91,13 +105,13 @@ fn every_type() {
         ],
     );
     let expected = "\
-document 4 1970-01-01T00:00:00Z
+document 4 1970-01-01T00:00:00.000Z
 layout 52 -1 = 13
 row 172 -1 -1 4294967295 -1 18446744073709551615 xffffffff xffffffffffffffff xab5a =%ABZ 1 -1 255 -1 65535
 row 239 -1 0 0 0 0 x00000000 x0000000000000000 x = 0 0 0 0 0
 row 302 -1 -2147450752 2147516544 -9223372034707259264 9223372039002292352 x80008080 x8000000080008080 x25 =%25 0 -128 128 -32640 32896
 row 367 -1 2147450751 2147450751 9223372034707259263 9223372034707259263 x7fff7f7f x7fffffff7fff7f7f x7e =~ 1 127 127 32639 32639
-end 432 4 1970-01-01T00:00:00Z
+end 432 4 1970-01-01T00:00:00.000Z
 ";
     assert_eq!(list(&document), expected);
 }
@@ -107,11 +121,11 @@ fn escapes() {
     let name: Vec<u8> = vec![0x00, 0x1f, 0x20, 0x21, b'%', b'&', b'=', b'a', 0x7e, 0x7f, 0x80, 0xff];
     let document = of(Layout { number: 0x8000_0000, name, attributes: vec![] }, vec![vec![], vec![]]);
     let expected = "\
-document 4 1970-01-01T00:00:00Z
+document 4 1970-01-01T00:00:00.000Z
 layout 52 -2147483648 =%00%1F%20!%25&=a~%7F%80%FF 0
 row 80 -2147483648
 row 92 -2147483648
-end 104 2 1970-01-01T00:00:00Z
+end 104 2 1970-01-01T00:00:00.000Z
 ";
     assert_eq!(list(&document), expected);
 }

@@ -22,20 +22,45 @@ pub fn string(random: &mut Random) -> Vec<u8> {
     }
 }
 
+/// A time in milliseconds, often where its text changes much from one to the next.
 pub fn time(random: &mut Random) -> i64 {
-    const LAST: i64 = 253_402_300_799;
-    const DAY: i64 = 86_400;
-    match random.below(8) {
-        0 => random.pick(&[0, 1, -1, LAST, LAST + 1, LAST - 1, i64::MIN, i64::MAX]),
+    const LAST: i64 = 253_402_300_799_999;
+    const SECOND: i64 = 1_000;
+    const MINUTE: i64 = 60 * SECOND;
+    const HOUR: i64 = 60 * MINUTE;
+    const DAY: i64 = 24 * HOUR;
+    match random.below(9) {
+        0 => random.pick(&[0, 1, -1, 999, 1000, LAST, LAST + 1, LAST - 1, i64::MIN, i64::MAX]),
         1 => random.draw() as i64,
-        2 => near_a_march(random) * DAY + random.pick(&[-DAY - 1, -DAY, -1, 0, DAY - 1]),
-        3 => random.between(0, 0xffff_ffff) as i64,
-        _ => random.below(LAST as usize + 1) as i64,
+        2 => near_a_march(random) * DAY + random.pick(&[-DAY, 0, DAY]) + random.pick(&[-1, 0, 1]),
+        3 => some_seconds(random),
+        4 => {
+            let unit = random.pick(&[SECOND, MINUTE, HOUR, DAY]);
+            up_to(random, LAST / unit) * unit + random.pick(&[-1, 0, 1])
+        }
+        5 => {
+            let decimals = random.pick(&[9, 99]);
+            up_to(random, LAST / SECOND) * SECOND + up_to(random, decimals)
+        }
+        _ => up_to(random, LAST),
     }
 }
 
-/// The day before the first of March of some year, as the calendar's 400
-/// years of 146,097 days have it.
+fn up_to(random: &mut Random, last: i64) -> i64 {
+    random.between(0, last as usize) as i64
+}
+
+/// A number that would be a likely date, or the end of the range, if times
+/// were seconds.
+fn some_seconds(random: &mut Random) -> i64 {
+    match random.below(4) {
+        0 => random.pick(&[86_400, 86_401, 253_402_300_799, 253_402_300_800]),
+        _ => up_to(random, 0xffff_ffff),
+    }
+}
+
+/// The 29 February of some year, or the first of March where the year has
+/// none, as the calendar's 400 years of 146,097 days have it.
 fn near_a_march(random: &mut Random) -> i64 {
     let year = random.between(1970, 9999) as i64;
     let before = year - 1;
