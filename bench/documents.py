@@ -65,8 +65,8 @@ class Image:
         self.numbers.append(len(self.octets))
         self.octets += value.to_bytes(4, "big")
 
-    def time(self, seconds):
-        self.octets += seconds.to_bytes(8, "big", signed=True)
+    def time(self, milliseconds):
+        self.octets += milliseconds.to_bytes(8, "big", signed=True)
 
     def string(self, octets):
         self.number(len(octets))
@@ -90,7 +90,7 @@ class Layout:
 def put_header(image, random, namespaces=2, services=1):
     image.number(4)
     image.string(b"recorder.example")
-    image.time(1_000_000_000)
+    image.time(1_000_000_000_000)
     image.string(b"http://records.example/ns")
     image.number(namespaces)
     for n in range(namespaces):
@@ -145,7 +145,7 @@ def put_row(image, layout, random, longest):
 def put_end(image, rows):
     image.kind(KIND_END)
     image.number(rows)
-    image.time(1_000_086_400)
+    image.time(1_000_086_400_000)
 
 
 def row_size(layout, longest):

@@ -31,7 +31,7 @@ static void show(uint32_t at, const uint64_t out[8])
         printf("row at %" PRIu32 ": layout %" PRIu64 ", %" PRIu64 " fields, length %s\n", at, out[4], out[5], out[6] ? "stated" : "unstated");
         break;
     default:
-        printf("end at %" PRIu32 ": %" PRIu64 " rows, time %" PRId64 "\n", at, out[4], ipdr_time(out[5]));
+        printf("end at %" PRIu32 ": %" PRIu64 " rows, time %" PRId64 " ms\n", at, out[4], ipdr_time(out[5]));
     }
 }
 
@@ -65,6 +65,6 @@ int main(int argc, char **argv)
     fclose(file);
     if ((refused = ipdr_header(doc, len, out)) != 0)
         return refuse(refused);
-    printf("header: time %" PRId64 ", %" PRIu64 " other namespaces, %" PRIu64 " service definitions\n", ipdr_time(out[0]), out[1], out[2]);
+    printf("header: time %" PRId64 " ms, %" PRIu64 " other namespaces, %" PRIu64 " service definitions\n", ipdr_time(out[0]), out[1], out[2]);
     return read_on(len, (uint32_t)out[IPDR_HEADER_NEXT]);
 }

@@ -101,8 +101,9 @@ enum ipdr_refusal {
 static inline uint32_t ipdr_refusal_number(uint64_t refused) { return (uint32_t)(refused >> 32); }
 static inline uint32_t ipdr_refusal_place(uint64_t refused) { return (uint32_t)(refused & UINT32_MAX); }
 
-/* A time from its word: seconds since 1970-01-01 00:00:00 UTC, which may be negative. The word holds the 64 bits of
- * two's complement as they stand in the document, so that a time of -1 comes as UINT64_MAX and (int64_t) of it is -1. */
+/* A time from its word: milliseconds since 1970-01-01 00:00:00 UTC, which may be negative. The word holds the 64 bits
+ * of two's complement as they stand in the document, so that a time of -1 comes as UINT64_MAX and (int64_t) of it is
+ * -1. For a time from 0 on, the quotient by 1000 is the seconds that gmtime takes, the rest the decimals. */
 static inline int64_t ipdr_time(uint64_t bits)
 {
     return bits <= INT64_MAX ? (int64_t)bits : -1 - (int64_t)(UINT64_MAX - bits);
@@ -112,7 +113,7 @@ static inline int64_t ipdr_time(uint64_t bits)
  *
  * Answers 0 with these words in `out`, the other four as they were, or a refusal: 1 to 6. */
 enum ipdr_header_word {
-    IPDR_HEADER_START = 0,      /* the start time's two's complement bits: cast to int64_t, or ipdr_time */
+    IPDR_HEADER_START = 0,      /* the start time in milliseconds, its two's complement bits: ipdr_time */
     IPDR_HEADER_NAMESPACES = 1, /* how many other namespaces, at most 16 */
     IPDR_HEADER_SERVICES = 2,   /* how many service definitions, at most 16 */
     IPDR_HEADER_NEXT = 3        /* the place behind the header, where the first element begins */
@@ -140,7 +141,7 @@ enum ipdr_step_word {
     IPDR_STEP_COUNT = 5,     /* how many attributes a layout, or fields a row has, at most 64 */
     IPDR_STEP_STATED = 6,    /* 1 where a row states its length; else, and for a layout and the end, 0 */
     IPDR_STEP_END_COUNT = 4, /* the end: the count of rows in the document */
-    IPDR_STEP_END_TIME = 5   /* the end: the end time's two's complement bits, as the start time's */
+    IPDR_STEP_END_TIME = 5   /* the end: the end time in milliseconds, its bits as the start time's */
     /* the eighth word is 0 */
 };
 enum ipdr_kind { IPDR_LAYOUT = 1, IPDR_ROW = 2, IPDR_END = 3 };

@@ -1,3 +1,5 @@
-pub mod Years
-pub mod Once
+pub mod Spans
+pub mod Dates
+pub mod Told
+pub mod Borders
 pub mod Contracts

@@ -1,8 +1,9 @@
--- Days and dates: a date is known by the days before it, counted from 1970-01-01.
-use Prim.Native.Nat.{ℕ, zero, suc, _+_, _%_, _<_}
+-- Days and dates, both counted from 1970-01-01.
+use Prim.Native.Nat.{ℕ, zero, suc, _+_, _-_, _%_, _<_}
 use mathlib.Core.Path.{_≡_}
 use mathlib.Core.Bool.{Bool, cond, _&&_, _||_, not}
-use lib.Dec.{eqb}
+use lib.Dec.{eqb, ltb}
+use Rattle.octets.specs.Reading.{choose}
 use Rattle.dates.specs.declared.Date.{Date}
 
 -- Every fourth year has a leap day, but of the full hundreds only every fourth.
@@ -18,6 +19,25 @@ monthDays y m =
     cond (eqb m 1) (cond (leap y) 29 28)
     (cond (eqb m 3) 30 (cond (eqb m 5) 30 (cond (eqb m 8) 30 (cond (eqb m 10) 30 31))))
 
+-- Of spans one behind another, of which k has the given size, that in which the day x of span k lies, and which day of it that is; at most so many spans on.
+unfoldable pub spanOf : (ℕ → ℕ) → ℕ → ℕ → ℕ → ℕ × ℕ
+spanOf size zero k x = (k, x)
+spanOf size (suc more) k x = choose (ltb x (size k)) (λ _. (k, x)) (λ _. spanOf size more (k + 1) (x - size k))
+
+-- The month and the day of a year's day.
+abbrev pub inYear : ℕ → ℕ × ℕ → Date
+inYear years s = record { years = years; months = s .0; days = s .1 }
+
+abbrev pub dayOfYear : ℕ → ℕ → Date
+dayOfYear years day = inYear years (spanOf (monthDays (1970 + years)) 11 0 day)
+
+-- The date that so many days stand before, from 1970 to 9999.
+abbrev pub yearOf : ℕ → ℕ × ℕ
+yearOf days = spanOf (λ (k : ℕ). yearDays (1970 + k)) 8029 0 days
+
+unfoldable pub dateAfter : ℕ → Date
+dateAfter days = dayOfYear (yearOf days .0) (yearOf days .1)
+
 -- The days of so many years from 1970 on, and of so many months of a year.
 unfoldable pub yearsDays : ℕ → ℕ
 yearsDays zero = 0
@@ -27,16 +47,8 @@ unfoldable pub monthsDays : ℕ → ℕ → ℕ
 monthsDays y zero = 0
 monthsDays y (suc m) = monthsDays y m + monthDays y m
 
--- The month and the day that so many days of a year stand before, both from 0 on.
-pub record MonthOf (years days : ℕ) (d : Date) : Type 0 where
-  pub year : d .years ≡ years
-  pub sum : monthsDays (1970 + years) (d .months) + d .days ≡ days
-  pub month : d .months < 12
-  pub day : d .days < monthDays (1970 + years) (d .months)
-
--- The date that so many days stand before: its year is counted from 1970.
+-- What makes it the right date: so many days stand before it, and the calendar has it.
 pub record DateOf (days : ℕ) (d : Date) : Type 0 where
-  pub passed : ℕ
-  pub sum : yearsDays (d .years) + passed ≡ days
-  pub within : passed < yearDays (1970 + d .years)
-  pub month : MonthOf (d .years) passed d
+  pub sum : yearsDays (d .years) + (monthsDays (1970 + d .years) (d .months) + d .days) ≡ days
+  pub month : d .months < 12
+  pub day : d .days < monthDays (1970 + d .years) (d .months)

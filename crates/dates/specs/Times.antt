@@ -1,31 +1,30 @@
--- The text of a time: seconds since 1970, a signed number.
-use Prim.Native.Nat.{ℕ, _+_, _/_, _%_, _≤_, _<_}
+-- The text of a time: milliseconds since 1970-01-01 00:00:00 UTC, a signed number.
+use Prim.Native.Nat.{ℕ, _+_, _/_, _%_}
 use mathlib.Core.List.{List, [], _∷_, _++_}
+use lib.Dec.{leb}
 use lib.IntN.{ℤ, pos, negsuc}
-use Rattle.printing.specs.Text.{Prints, decimal, signed}
+use Rattle.octets.specs.Reading.{choose}
+use Rattle.printing.specs.Text.{filled, signed}
 use Rattle.dates.specs.declared.Date.{Date}
-use Rattle.dates.specs.Calendar.{DateOf}
+use Rattle.dates.specs.Calendar.{dateAfter}
 
--- An octet and two digits.
-abbrev pub two : ℕ → ℕ → List ℕ
-two lead v = lead ∷ (48 + v / 10) ∷ (48 + v % 10) ∷ []
+-- "-", "T", ":" or "." and a number in k digits.
+abbrev pub part : ℕ → ℕ → ℕ → List ℕ
+part sign k v = sign ∷ filled k v
 
--- The year, "-", the month, "-" and the day.
+-- YYYY-MM-DD.
 abbrev pub dayText : Date → List ℕ
-dayText d = decimal (1970 + d .years) ++ (two 45 (d .months + 1) ++ two 45 (d .days + 1))
+dayText d = filled 4 (1970 + d .years) ++ (part 45 2 (d .months + 1) ++ part 45 2 (d .days + 1))
 
--- "T", the hour, ":", the minute, ":", the second and "Z".
+-- THH:MM:SS of the seconds of a day.
 abbrev pub clockText : ℕ → List ℕ
-clockText s = two 84 (s / 3600) ++ (two 58 (s / 60 % 60) ++ (two 58 (s % 60) ++ 90 ∷ []))
+clockText s = part 84 2 (s / 3600) ++ (part 58 2 (s / 60 % 60) ++ part 58 2 (s % 60))
 
--- The date and the time of day of the seconds from 1970 to the end of 9999; "@" and the number of those behind and before.
-pub data TimeText : ℤ → List ℕ → Type 0 where
-  dated : {seconds : ℕ} (d : Date) → seconds ≤ 253402300799 → DateOf (seconds / 86400) d → TimeText (pos seconds) (dayText d ++ clockText (seconds % 86400))
-  late : {seconds : ℕ} → 253402300799 < seconds → TimeText (pos seconds) (64 ∷ signed (pos seconds))
-  early : (n : ℕ) → TimeText (negsuc n) (64 ∷ signed (negsuc n))
+-- YYYY-MM-DDTHH:MM:SS.mmmZ.
+unfoldable pub momentText : ℕ → List ℕ
+momentText t = dayText (dateAfter (t / 1000 / 86400)) ++ (clockText (t / 1000 % 86400) ++ (part 46 3 (t % 1000) ++ 90 ∷ []))
 
--- What it is to print one.
-pub record Stamps (before : List ℕ) (n : ℕ) (time : ℤ) (after : List ℕ) (r : ℕ) : Type 0 where
-  pub text : List ℕ
-  pub right : TimeText time text
-  pub prints : Prints before n text after r
+-- So from 1970 to the last millisecond of 9999; "@" and the number before and behind.
+unfoldable pub timeText : ℤ → List ℕ
+timeText (pos t) = choose (leb t 253402300799999) (λ _. momentText t) (λ _. 64 ∷ signed (pos t))
+timeText (negsuc n) = 64 ∷ signed (negsuc n)

@@ -1,10 +1,10 @@
-// Times as text: seconds since 1970 as a date, or "@" and the number outside the years 1970 to 9999.
+// Times as text: milliseconds since 1970 as a date with three decimals, or "@" and the number outside the years 1970 to 9999.
 
 ghost use mathlib.Core.Path.{_≡_};
-ghost use Prim.Native.Nat.{_+_, _<_};
+ghost use Prim.Native.Nat.{_≤_};
 ghost use Rattle.printing.specs.Text.{Prints};
-ghost use Rattle.dates.specs.Calendar.{leap, yearDays, monthDays, MonthOf, DateOf};
-ghost use Rattle.dates.specs.Times.{two, dayText, clockText, Stamps};
+ghost use Rattle.dates.specs.Calendar.{leap, yearDays, monthDays, dayOfYear, dateAfter};
+ghost use Rattle.dates.specs.Times.{part, dayText, clockText, momentText, timeText};
 
 // A date: years from 1970 on, months and days from 0 on.
 pub struct Date {
@@ -52,13 +52,13 @@ fn month_days(y: u64, m: u64) -> u64
     }
 }
 
-// The month and the day that so many days of a year stand before.
-fn month_after(years: u64, days: u64) -> Date
-    requires { ⌜ (years < 4294967296) × (days < yearDays (1970 + years)) ⌝ }
-    ensures { λ r. ⌜ MonthOf years days r ⌝ }
+// The month and the day of a year's day.
+fn day_of_year(years: u64, day: u64) -> Date
+    requires { ⌜ years ≤ 8029 ⌝ }
+    ensures { λ r. ⌜ r ≡ dayOfYear years day ⌝ }
 {
     let mut months: u64 = 0;
-    let mut left = days;
+    let mut left = day;
     while months < 11 {
         let here = month_days(1970 + years, months);
         if left < here {
@@ -80,65 +80,73 @@ fn month_after(years: u64, days: u64) -> Date
 
 // The date that so many days stand before.
 fn date_after(days: u64) -> Date
-    requires { ⌜ days < 4294967296 ⌝ }
-    ensures { λ r. ⌜ DateOf days r ⌝ }
+    ensures { λ r. ⌜ r ≡ dateAfter days ⌝ }
 {
     let mut years: u64 = 0;
     let mut left = days;
-    loop {
+    while years < 8029 {
         let here = year_days(1970 + years);
         if left < here {
-            return month_after(years, left);
+            return day_of_year(years, left);
         }
         left -= here;
         years += 1;
     }
+    day_of_year(years, left)
 }
 
-// An octet and two digits.
-fn two(out: &mut [u8], n: usize, lead: u8, v: u64) -> usize
-    requires { ⌜ v < 100 ⌝ }
-    ensures { λ r. ⌜ Prints (now (out .entry)) n (two lead v) (now (out .exit)) r ⌝ }
+// A sign and a number in k digits.
+fn part(out: &mut [u8], n: usize, sign: u8, k: usize, v: u64) -> usize
+    requires { ⌜ k ≤ 20 ⌝ }
+    ensures { λ r. ⌜ Prints (now (out .entry)) n (part sign k v) (now (out .exit)) r ⌝ }
 {
-    let first = printing::octet(out, n, lead);
-    let second = printing::octet(out, first, 48 + (v / 10) as u8);
-    printing::octet(out, second, 48 + (v % 10) as u8)
+    let to = printing::octet(out, n, sign);
+    printing::filled(out, to, k, v)
 }
 
 // The year, the month and the day.
 fn day(out: &mut [u8], n: usize, date: Date) -> usize
-    requires { ⌜ (date .years < 4294967296) × (date .months < 12) × (date .days < 31) ⌝ }
+    requires { ⌜ (date .years ≤ 8029) × (date .months ≤ 11) × (date .days ≤ 30) ⌝ }
     ensures { λ r. ⌜ Prints (now (out .entry)) n (dayText date) (now (out .exit)) r ⌝ }
 {
     let years = date.years;
     let months = date.months;
     let days = date.days;
-    let year = printing::decimal(out, n, 1970 + years);
-    let month = two(out, year, b'-', months + 1);
-    two(out, month, b'-', days + 1)
+    let year = printing::filled(out, n, 4, 1970 + years);
+    let month = part(out, year, b'-', 2, months + 1);
+    part(out, month, b'-', 2, days + 1)
 }
 
 // The hour, the minute and the second of a day.
 fn clock(out: &mut [u8], n: usize, seconds: u64) -> usize
-    requires { ⌜ seconds < 86400 ⌝ }
     ensures { λ r. ⌜ Prints (now (out .entry)) n (clockText seconds) (now (out .exit)) r ⌝ }
 {
-    let hour = two(out, n, b'T', seconds / 3600);
-    let minute = two(out, hour, b':', seconds / 60 % 60);
-    let second = two(out, minute, b':', seconds % 60);
-    printing::octet(out, second, b'Z')
+    let hour = part(out, n, b'T', 2, seconds / 3600);
+    let minute = part(out, hour, b':', 2, seconds / 60 % 60);
+    part(out, minute, b':', 2, seconds % 60)
+}
+
+// A time that has a date: the day, the time of day and three decimals.
+fn moment(out: &mut [u8], n: usize, t: u64) -> usize
+    requires { ⌜ t ≤ 253402300799999 ⌝ }
+    ensures { λ r. ⌜ Prints (now (out .entry)) n (momentText t) (now (out .exit)) r ⌝ }
+{
+    let seconds = t / 1000;
+    let date = date_after(seconds / 86400);
+    let to = day(out, n, date);
+    let second = clock(out, to, seconds % 86400);
+    let last = part(out, second, b'.', 3, t % 1000);
+    printing::octet(out, last, b'Z')
 }
 
 // A time. The bits of one before 1970 are past every date's.
 pub fn time(out: &mut [u8], n: usize, time: i64) -> usize
-    ensures { λ r. ⌜ Stamps (now (out .entry)) n time (now (out .exit)) r ⌝ }
+    ensures { λ r. ⌜ Prints (now (out .entry)) n (timeText time) (now (out .exit)) r ⌝ }
 {
     let bits = kinds::bits64(time);
-    if 253402300799 < bits {
+    if 253402300799999 < bits {
         let sign = printing::octet(out, n, b'@');
         return printing::signed(out, sign, time);
     }
-    let date = date_after(bits / 86400);
-    let to = day(out, n, date);
-    clock(out, to, bits % 86400)
+    moment(out, n, bits)
 }

@@ -3,7 +3,7 @@ use mathlib.Core.Path.{refl, sym, _∙_}
 use Rattle.octets.specs.Contracts.{Once}
 use Rattle.octets.proofs.Alike.{_also_}
 use Rattle.printing.proofs.Waits.{one-print}
-use Rattle.listing.proofs.Once.{one-put, one-timed, one-lines, one-listing, one-listed}
+use Rattle.listing.proofs.Once.{one-put, one-lines, one-listing, one-listed}
 use Rattle.listing.proofs.header_line as header-line
 use Rattle.listing.proofs.numbered as numbered
 use Rattle.listing.proofs.string as string
@@ -32,12 +32,12 @@ pub record Contracts : Type 0 where
 pub contracts : Contracts
 contracts =
     record {
-      of-header-line = λ κs a p x y u v e f. let q = one-put (λ b c. one-timed) e f in (q .1, q .0 also refl);
+      of-header-line = λ κs a p x y u v e f. let q = one-print e f in (q .1, q .0 also refl);
       of-numbered = λ κs a p x y u v e f. let q = one-print e f in (q .1, q .0 also refl);
       of-string = λ κs a p x y u v e f. let q = one-print e f in (q .1, q .0 also refl);
       of-octets = λ κs a p x y u v e f. let q = one-print e f in (q .1, q .0 also refl);
       of-value-word = λ κs a p x y u v e f. let q = one-print e f in (q .1, refl also refl also refl also refl also refl also refl also refl also refl also q .0 also refl);
-      of-end-line = λ κs a p x y u v e f. let q = one-put (λ b c. one-timed) e f in (q .1, q .0 also refl);
+      of-end-line = λ κs a p x y u v e f. let q = one-print e f in (q .1, q .0 also refl);
       of-is-end = λ κs a p x y u v e f. (e ∙ sym f, refl);
       of-refused-line = λ κs a p x y u v e f. let q = one-print e f in (q .1, q .0 also refl);
       of-element-lines = λ κs a p x y u v e f. let q = one-put (λ b c. one-lines _) e f in (q .1, refl also refl also q .0 also refl);

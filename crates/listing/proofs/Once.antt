@@ -4,31 +4,21 @@ use mathlib.Core.Path.{_≡_, refl, sym, ap, _∙_, subst}
 use mathlib.Core.List.{List, []}
 use mathlib.Core.Bool.{true, false}
 use native.Mathlib.Omega.{arith}
-use lib.IntN.{ℤ}
 use Rattle.octets.specs.Reading.{Read, no}
 use Rattle.octets.proofs.Inverse.{no-ok, ok-value, ok-place}
 use Rattle.kinds.specs.Kinds.{signed}
 use Rattle.layouts.specs.Book.{Book}
 use Rattle.headers.specs.Header.{Header, headerAt}
-use Rattle.elements.specs.Element.{Element, Stepped, elementAt}
+use Rattle.elements.specs.Element.{Stepped, elementAt}
 use Rattle.elements.specs.Steps.{isLast}
 use Rattle.printing.proofs.Puts.{says}
 use Rattle.printing.proofs.Waits.{one-print}
-use Rattle.dates.proofs.Once.{one-time}
-use Rattle.listing.specs.Lines.{Puts, Timed, timed, headerText, refusalText, ElementText, of-layout, of-row, of-end, LinesFrom, refused, last, more, Listing, unheaded, headed, Listed, long, short}
+use Rattle.listing.specs.Lines.{Puts, headerText, refusalText, elementText, LinesFrom, refused, last, more, Listing, unheaded, headed, Listed, long, short}
 
 -- What is answered and left in the lent buffer is settled where the text is.
 pub one-put : {Right : List ℕ → Type 0} {before after other : List ℕ} {n r m : ℕ} → ((a b : List ℕ) → Right a → Right b → a ≡ b)
     → Puts Right before n after r → Puts Right before n other m → (after ≡ other) × (r ≡ m)
 one-put one p q = one-print (p .prints) (says (one _ _ (q .right) (p .right)) (q .prints))
-
-pub one-timed : {time : ℤ} {line : List ℕ → List ℕ} {a b : List ℕ} → Timed time line a → Timed time line b → a ≡ b
-one-timed {line = line} (timed p) (timed q) = ap line (one-time p q)
-
-one-element : {at : ℕ} {e : Element} {a b : List ℕ} → ElementText at e a → ElementText at e b → a ≡ b
-one-element (of-layout l) (of-layout _) = refl
-one-element (of-row r) (of-row _) = refl
-one-element (of-end n t p) (of-end _ _ q) = one-timed p q
 
 one-refusal : {A : Type 0} (r : Read A) (n p m q : ℕ) → r ≡ no n p → r ≡ no m q → refusalText n p ≡ refusalText m q
 one-refusal r n p m q e f =
@@ -43,35 +33,32 @@ never x y same t f =
     let z : _≡_ {A = ℕ} 0 1 = cc in
     omega arith
 
-same-element : {at : ℕ} (x y : Stepped) {a b : List ℕ} → x ≡ y → ElementText at (x .element) a → ElementText at (y .element) b → a ≡ b
-same-element {at} x y {b = b} same p q = one-element p (subst (λ (z : Stepped). ElementText at (z .element) b) (sym same) q)
-
 module _ (s : List ℕ) where
   pub one-lines : {at rows : ℕ} {book : Book} {a b : List ℕ} → LinesFrom s at rows book a → LinesFrom s at rows book b → a ≡ b
   one-lines {at} {rows} {book} (refused n p e) (refused m q f) = one-refusal (elementAt s at rows book) n p m q e f
-  one-lines (refused n p e) (last st next f t x) = absurd (no-ok e f)
-  one-lines (refused n p e) (more st next f t x l) = absurd (no-ok e f)
-  one-lines (last st next f t x) (refused n p e) = absurd (no-ok e f)
-  one-lines (last st next f t x) (last su mext g u y) = same-element st su (ok-value f g) x y
-  one-lines (last st next f t x) (more su mext g u y l) = absurd (never st su (ok-value f g) t u)
-  one-lines (more st next f t x l) (refused n p e) = absurd (no-ok e f)
-  one-lines (more st next f t x l) (last su mext g u y) = absurd (never su st (ok-value g f) u t)
-  one-lines (more {text = a} {rest} st next f t x l) (more {text = b} {rest = others} su mext g u y m) =
+  one-lines (refused n p e) (last st next f t) = absurd (no-ok e f)
+  one-lines (refused n p e) (more st next f t l) = absurd (no-ok e f)
+  one-lines (last st next f t) (refused n p e) = absurd (no-ok e f)
+  one-lines {at} (last st next f t) (last su mext g u) = ap (λ (z : Stepped). elementText at (z .element)) (ok-value f g)
+  one-lines (last st next f t) (more su mext g u l) = absurd (never st su (ok-value f g) t u)
+  one-lines (more st next f t l) (refused n p e) = absurd (no-ok e f)
+  one-lines (more st next f t l) (last su mext g u) = absurd (never su st (ok-value g f) u t)
+  one-lines {at} (more {rest = rest} st next f t l) (more {rest = others} su mext g u m) =
       let same : su ≡ st = ok-value g f in
       let place : mext ≡ next = ok-place g f in
-      let here : a ≡ b = same-element st su (sym same) x y in
+      let here : elementText at (st .element) ≡ elementText at (su .element) = ap (λ (z : Stepped). elementText at (z .element)) (sym same) in
       let there : rest ≡ others = one-lines l
       (subst (λ (z : Stepped). LinesFrom s next (z .rows) (z .book) others) same (subst (λ (k : ℕ). LinesFrom s k (su .rows) (su .book) others) place m)) in
       cc
 
   pub one-listing : {a b : List ℕ} → Listing s a → Listing s b → a ≡ b
   one-listing (unheaded n p e) (unheaded m q f) = one-refusal (headerAt s) n p m q e f
-  one-listing (unheaded n p e) (headed h next f x l) = absurd (no-ok e f)
-  one-listing (headed h next f x l) (unheaded n p e) = absurd (no-ok e f)
-  one-listing (headed {first = a} {rest} h next f x l) (headed {first = b} {rest = others} g mext e y m) =
+  one-listing (unheaded n p e) (headed h next f l) = absurd (no-ok e f)
+  one-listing (headed h next f l) (unheaded n p e) = absurd (no-ok e f)
+  one-listing (headed {rest = rest} h next f l) (headed {rest = others} g mext e m) =
       let same : g ≡ h = ok-value e f in
       let place : mext ≡ next = ok-place e f in
-      let here : a ≡ b = one-timed x (subst (λ (z : Header). Timed (signed 8 (z .start)) headerText b) same y) in
+      let here : headerText (signed 8 (h .start)) ≡ headerText (signed 8 (g .start)) = ap (λ (z : Header). headerText (signed 8 (z .start))) (sym same) in
       let there : rest ≡ others = one-lines l (subst (λ (k : ℕ). LinesFrom s k 0 [] others) place m) in
       cc
 

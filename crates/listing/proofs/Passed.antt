@@ -22,7 +22,7 @@ use Rattle.elements.proofs.Before.{lent-is}
 use Rattle.elements.proofs.Went.{Went, at-layout, at-row, at-finish, went, step-rows}
 use Rattle.printing.specs.Text.{Prints}
 use Rattle.printing.proofs.Puts.{then, nothing}
-use Rattle.listing.specs.Lines.{Puts, refusalText, ElementText, LinesFrom, refused, last, more}
+use Rattle.listing.specs.Lines.{Puts, refusalText, elementText, LinesFrom, refused, last, more}
 
 -- An element leaves the used octets as they were: a book grows behind them.
 module _ (octets : List ℕ) (used : ℕ) (b : Book) (lent : Lent octets used b) where
@@ -124,25 +124,28 @@ module _ (s : List ℕ) (short : length s ≤ 1048576) (o : Each Octet s) (at : 
         prints = then (p .prints) put;
       }
 
-  module _ (st : Stepped) (next : ℕ) (e : stepAt s pos rows octets used ≡ ok st next) (put : Puts (ElementText pos (st .element)) mid m after to) where
+  module _ (st : Stepped) (next : ℕ) (e : stepAt s pos rows octets used ≡ ok st next) (put : Prints mid m (elementText pos (st .element)) after to) where
+    abbrev line : List ℕ
+    line = elementText pos (st .element)
+
     is : elementAt s pos rows (bookIn octets used) ≡ ok st next
     is = read s short o octets pos rows used (p .stands) st next e
 
     pub passed-last : isLast (st .element) ≡ true → Puts (LinesFrom s at 0 []) before n after to
     passed-last t =
         record {
-          text = p .text ++ put .text;
-          right = p .lines (put .text) (last st next is t (put .right));
-          prints = then (p .prints) (put .prints);
+          text = p .text ++ line;
+          right = p .lines line (last st next is t);
+          prints = then (p .prints) put;
         }
 
     pub passed-more : isLast (st .element) ≡ false → Passed s at before n (holding (st .book) octets) next (st .rows) (length (bookImage (st .book))) after to
     passed-more t =
         record {
           stands = stands-on s short o octets pos rows used (p .stands) st next e;
-          text = p .text ++ put .text;
-          prints = then (p .prints) (put .prints);
+          text = p .text ++ line;
+          prints = then (p .prints) put;
           lines = λ rest from.
-              subst (LinesFrom s at 0 []) (sym (append-assoc (p .text) (put .text) rest))
-              (p .lines (put .text ++ rest) (more st next is t (put .right) (subst (λ (b : Book). LinesFrom s next (st .rows) b rest) (left s short o octets pos rows used (p .stands) st next e) from)));
+              subst (LinesFrom s at 0 []) (sym (append-assoc (p .text) line rest))
+              (p .lines (line ++ rest) (more st next is t (subst (λ (b : Book). LinesFrom s next (st .rows) b rest) (left s short o octets pos rows used (p .stands) st next e) from)));
         }

@@ -1,53 +1,43 @@
--- The specimen's listing is the one that the scope prints: each element is computed, and so is the text of each line.
+-- The lines that the scope has proved of the specimen: each element is computed, and so is the text of each line.
 use Prim.Native.Nat.{ℕ}
 use mathlib.Core.Path.{refl}
 use mathlib.Core.List.{[], _∷_}
 use mathlib.Core.Bool.{Bool, true, false}
-use native.Mathlib.Omega.{arith}
 use Rattle.octets.specs.Reading.{be, part, numberIn, octetsIn, textIn, count, exactly, run}
 use Rattle.octets.specs.Writing.{word, textImage, images}
-use Rattle.kinds.specs.declared.Basic.the-variants.{UnsignedInt, Byte}
+use Rattle.kinds.specs.declared.Basic.{Basic}
+use Rattle.kinds.specs.declared.Basic.the-variants.{Byte, Short}
 use Rattle.kinds.specs.Kinds.{among, basicOf, signed, kindAt}
-use Rattle.layouts.specs.Layout.{Attribute, Layout, attributeAt, layoutAt, attributeImage, layoutImage}
+use Rattle.layouts.specs.Layout.{attributeAt, layoutAt, attributeImage, layoutImage}
 use Rattle.layouts.specs.Book.{find, bookImage, learn}
-use Rattle.rows.specs.Row.{Row, bits, valueIn, fieldsIn, valuesAt, rowAt}
+use Rattle.rows.specs.Row.{bits, valueIn, fieldsIn, valuesAt, rowAt}
 use Rattle.headers.specs.Header.{Header, namespaceAt, idAt, headerFrom, headerAt}
-use Rattle.elements.specs.Element.{item, layout, row, finish, finishAt, elementAt}
-use Rattle.printing.specs.Text.{digits}
-use Rattle.dates.specs.declared.Date.{Date}
-use Rattle.dates.specs.Calendar.{yearDays, monthDays, yearsDays, monthsDays, DateOf}
-use Rattle.dates.specs.Times.{dated}
-use Rattle.promises.specs.Specimen.{specimen}
-use Rattle.listing.specs.Lines.{timed, of-layout, of-row, of-end, last, more, Listing, headed}
-use Rattle.listing.specs.Specimen.{fiveLines}
+use Rattle.elements.specs.Element.{item, layout, row, finish, Stepped, finishAt, elementAt}
+use Rattle.printing.specs.Text.{digits, filled}
+use Rattle.dates.specs.Calendar.{yearDays, monthDays, spanOf, dateAfter}
+use Rattle.dates.specs.Times.{momentText, timeText}
+use Rattle.promises.specs.Specimen.{specimen, shorts}
+use Rattle.listing.specs.Lines.{LinesFrom, last, more, headed}
+use Rattle.listing.specs.Specimen.{u, d, seven, Printed}
 
--- The second day of 1970.
-abbrev second : Date
-second = record { years = 0; months = 0; days = 1 }
+-- What is read of it: a layout, a row of which so many were passed, the end.
+abbrev learnt : Basic → Stepped
+learnt b = record { element = item (layout (seven b)); rows = 0; book = seven b ∷ [] }
 
-is-second : DateOf 1 second
-unfolding yearDays monthDays yearsDays monthsDays
-is-second =
+abbrev counted : Basic → ℕ → Bool → ℕ → ℕ → Stepped
+counted b rows is-stated x y =
     record {
-      passed = 1;
-      sum = refl;
-      within = omega arith;
-      month = record { year = refl; sum = refl; month = omega arith; day = omega arith };
+      element = item (row (record {
+        number = 7;
+        is-stated = is-stated;
+        fields = record { attribute = u; value = bits x } ∷ record { attribute = d b; value = bits y } ∷ [];
+      }));
+      rows = rows;
+      book = seven b ∷ [];
     }
 
--- What the specimen holds.
-abbrev u : Attribute
-u = record { name = 0x75 ∷ []; kind = record { derived = 0; basic = UnsignedInt } }
-
-abbrev d : Attribute
-d = record { name = 0x64 ∷ []; kind = record { derived = 0; basic = Byte } }
-
-abbrev seven : Layout
-seven = record { number = 7; type-name = 0x41 ∷ []; attributes = u ∷ d ∷ [] }
-
-abbrev values : Bool → ℕ → ℕ → Row
-values is-stated x y =
-    record { number = 7; is-stated = is-stated; fields = record { attribute = u; value = bits x } ∷ record { attribute = d; value = bits y } ∷ [] }
+abbrev ended : Basic → Stepped
+ended b = record { element = finish 2 86401; rows = 2; book = seven b ∷ [] }
 
 abbrev header : Header
 header =
@@ -60,11 +50,14 @@ header =
       id = 0 ∷ 0 ∷ 0 ∷ 0 ∷ 0 ∷ 0 ∷ 0 ∷ 0 ∷ 0 ∷ 0 ∷ 0 ∷ 0 ∷ 0 ∷ 0 ∷ 0 ∷ 0 ∷ [];
     }
 
-pub specimen-listed : Listing specimen fiveLines
-unfolding specimen be part numberIn octetsIn textIn count exactly run word textImage images among basicOf signed kindAt attributeAt layoutAt attributeImage layoutImage find bookImage learn valueIn fieldsIn valuesAt rowAt namespaceAt idAt headerFrom headerAt finishAt elementAt digits
-specimen-listed =
-    headed header 52 refl (timed (dated {seconds = 86400} second (omega arith) is-second))
-    (more (record { element = item (layout seven); rows = 0; book = seven ∷ [] }) 87 refl refl (of-layout seven)
-    (more (record { element = item (row (values true 10 0xfe)); rows = 1; book = seven ∷ [] }) 104 refl refl (of-row (values true 10 0xfe))
-    (more (record { element = item (row (values false 0 127)); rows = 2; book = seven ∷ [] }) 121 refl refl (of-row (values false 0 127))
-    (last (record { element = finish 2 86401; rows = 2; book = seven ∷ [] }) 137 refl refl (of-end 2 86401 (timed (dated {seconds = 86401} second (omega arith) is-second)))))))
+pub printed : Printed
+unfolding specimen shorts be part numberIn octetsIn textIn count exactly run word textImage images among basicOf signed kindAt attributeAt layoutAt attributeImage layoutImage find bookImage learn valueIn fieldsIn valuesAt rowAt namespaceAt idAt headerFrom headerAt finishAt elementAt digits filled yearDays monthDays spanOf dateAfter momentText timeText
+printed =
+    let rest : LinesFrom specimen 104 1 (seven Byte ∷ []) _ = more (counted Byte 2 false 0 127) 121 refl refl (last (ended Byte) 137 refl refl) in
+    record {
+      five = headed header 52 refl (more (learnt Byte) 87 refl refl (more (counted Byte 1 true 10 0xfe) 104 refl refl rest));
+      rest = rest;
+      short = headed header 52 refl
+          (more (learnt Short) 87 refl refl
+          (more (counted Short 1 true 10 0xfffe) 105 refl refl (more (counted Short 2 false 0 127) 123 refl refl (last (ended Short) 139 refl refl))));
+    }

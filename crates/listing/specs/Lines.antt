@@ -19,9 +19,9 @@ use Rattle.elements.specs.Steps.{isLast}
 use Rattle.questions.specs.Answers.{valueOf, octetsOf}
 use Rattle.kinds.specs.declared.Value.{Value}
 use Rattle.values.specs.Values.{valueText}
-use Rattle.printing.specs.Text.{Prints, showing, decimal, signed, refusal}
+use Rattle.printing.specs.Text.{Prints, spelt, showing, decimal, signed, refusal}
 use Rattle.printing.specs.declared.Show.the-variants.{Hex, Escaped}
-use Rattle.dates.specs.Times.{TimeText}
+use Rattle.dates.specs.Times.{timeText}
 
 -- What it is to print a text that is right.
 pub record Puts (Right : List ℕ → Type 0) (before : List ℕ) (n : ℕ) (after : List ℕ) (r : ℕ) : Type 0 where
@@ -29,13 +29,9 @@ pub record Puts (Right : List ℕ → Type 0) (before : List ℕ) (n : ℕ) (aft
   pub right : Right text
   pub prints : Prints before n text after r
 
--- A line with a time in it.
-pub data Timed (time : ℤ) (line : List ℕ → List ℕ) : List ℕ → Type 0 where
-  timed : {text : List ℕ} → TimeText time text → Timed time line (line text)
-
--- "document 4 " and the start time.
-abbrev pub headerText : List ℕ → List ℕ
-headerText time = (100 ∷ 111 ∷ 99 ∷ 117 ∷ 109 ∷ 101 ∷ 110 ∷ 116 ∷ 32 ∷ 52 ∷ 32 ∷ []) ++ (time ++ 10 ∷ [])
+-- The version and the start time.
+abbrev pub headerText : ℤ → List ℕ
+headerText start = spelt "document 4 " ++ (timeText start ++ 10 ∷ [])
 
 -- A word that says what an element is, its place and a layout's number, which is signed.
 abbrev pub numbered : List ℕ → ℕ → ℕ → List ℕ
@@ -58,47 +54,47 @@ wordText form.Truth v xs = valueText v
 abbrev pub fieldText : Field → List ℕ
 fieldText f = wordText (kinds.formOf (f .attribute .kind .basic)) (valueOf (f .attribute .kind .basic) (f .value)) (octetsOf (f .value))
 
--- "layout ", place, number, type name and attribute count.
+-- Place, number, type name and attribute count.
 abbrev pub layoutText : ℕ → Layout → List ℕ
 layoutText at l =
-    numbered (108 ∷ 97 ∷ 121 ∷ 111 ∷ 117 ∷ 116 ∷ 32 ∷ []) at (l .number)
+    numbered (spelt "layout ") at (l .number)
     ++ ((32 ∷ stringText (l .type-name)) ++ ((32 ∷ decimal (length (l .attributes))) ++ 10 ∷ []))
 
--- "row ", place, number and values.
+-- Place, number and values.
 abbrev pub rowText : ℕ → Row → List ℕ
-rowText at r = numbered (114 ∷ 111 ∷ 119 ∷ 32 ∷ []) at (r .number) ++ (images (λ f. 32 ∷ fieldText f) (r .fields) ++ 10 ∷ [])
+rowText at r = numbered (spelt "row ") at (r .number) ++ (images (λ f. 32 ∷ fieldText f) (r .fields) ++ 10 ∷ [])
 
--- "end ", place, count and end time.
-abbrev pub endText : ℕ → ℕ → List ℕ → List ℕ
-endText at count time = ((101 ∷ 110 ∷ 100 ∷ 32 ∷ []) ++ decimal at) ++ ((32 ∷ decimal count) ++ (32 ∷ time ++ 10 ∷ []))
+-- Place, count and end time.
+abbrev pub endText : ℕ → ℕ → ℤ → List ℕ
+endText at count time = (spelt "end " ++ decimal at) ++ ((32 ∷ decimal count) ++ (32 ∷ timeText time ++ 10 ∷ []))
 
--- "refused ", number and place, as the last line.
+-- Number and place, as the last line.
 abbrev pub refusalText : ℕ → ℕ → List ℕ
 refusalText n p = refusal n p ++ 10 ∷ []
 
 -- The line of an element at a place.
-pub data ElementText (at : ℕ) : Element → List ℕ → Type 0 where
-  of-layout : (l : Layout) → ElementText at (item (layout l)) (layoutText at l)
-  of-row : (r : Row) → ElementText at (item (row r)) (rowText at r)
-  of-end : (n t : ℕ) {text : List ℕ} → Timed (kinds.signed 8 t) (endText at n) text → ElementText at (finish n t) text
+abbrev pub elementText : ℕ → Element → List ℕ
+elementText at (item (layout l)) = layoutText at l
+elementText at (item (row r)) = rowText at r
+elementText at (finish n t) = endText at n (kinds.signed 8 t)
 
 -- The lines from a place on, told the rows passed and over a book: up to the end, or to a refusal, which is the last line.
 pub data LinesFrom (s : List ℕ) : ℕ → ℕ → Book → List ℕ → Type 0 where
   refused : {at rows : ℕ} {book : Book} (n p : ℕ) → elementAt s at rows book ≡ no n p → LinesFrom s at rows book (refusalText n p)
-  last : {at rows : ℕ} {book : Book} {text : List ℕ} (st : Stepped) (next : ℕ) → elementAt s at rows book ≡ ok st next → isLast (st .element) ≡ true
-      → ElementText at (st .element) text → LinesFrom s at rows book text
-  more : {at rows : ℕ} {book : Book} {text rest : List ℕ} (st : Stepped) (next : ℕ) → elementAt s at rows book ≡ ok st next → isLast (st .element) ≡ false
-      → ElementText at (st .element) text → LinesFrom s next (st .rows) (st .book) rest → LinesFrom s at rows book (text ++ rest)
+  last : {at rows : ℕ} {book : Book} (st : Stepped) (next : ℕ) → elementAt s at rows book ≡ ok st next → isLast (st .element) ≡ true
+      → LinesFrom s at rows book (elementText at (st .element))
+  more : {at rows : ℕ} {book : Book} {rest : List ℕ} (st : Stepped) (next : ℕ) → elementAt s at rows book ≡ ok st next → isLast (st .element) ≡ false
+      → LinesFrom s next (st .rows) (st .book) rest → LinesFrom s at rows book (elementText at (st .element) ++ rest)
 
 -- The listing of a document: the header's line and those of the elements from an empty book, or the header's refusal.
 pub data Listing (s : List ℕ) : List ℕ → Type 0 where
   unheaded : (n p : ℕ) → headerAt s ≡ no n p → Listing s (refusalText n p)
-  headed : {first rest : List ℕ} (h : Header) (next : ℕ) → headerAt s ≡ ok h next → Timed (kinds.signed 8 (h .start)) headerText first
-      → LinesFrom s next 0 [] rest → Listing s (first ++ rest)
+  headed : {rest : List ℕ} (h : Header) (next : ℕ) → headerAt s ≡ ok h next → LinesFrom s next 0 [] rest
+      → Listing s (headerText (kinds.signed 8 (h .start)) ++ rest)
 
--- "input too long", as the only line.
+-- The only line of an input over the limit.
 abbrev pub tooLongText : List ℕ
-tooLongText = 105 ∷ 110 ∷ 112 ∷ 117 ∷ 116 ∷ 32 ∷ 116 ∷ 111 ∷ 111 ∷ 32 ∷ 108 ∷ 111 ∷ 110 ∷ 103 ∷ 10 ∷ []
+tooLongText = spelt "input too long\n"
 
 -- What the program prints of its input: the listing of a document of at most 65,536 octets.
 pub data Listed (s : List ℕ) : List ℕ → Type 0 where

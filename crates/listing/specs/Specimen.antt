@@ -1,16 +1,30 @@
--- The specimen's listing, as the scope prints it.
+-- What the scope has listed and proved of the specimen, its times in milliseconds: the five lines; those from 104 on; and the specimen with a short for its byte.
 use Prim.Native.Nat.{ℕ}
-use mathlib.Core.List.{List, [], _∷_}
+use mathlib.Core.List.{List, [], _∷_, _++_}
+use Rattle.kinds.specs.declared.Basic.{Basic}
+use Rattle.kinds.specs.declared.Basic.the-variants.{UnsignedInt, Byte}
+use Rattle.layouts.specs.Layout.{Attribute, Layout}
+use Rattle.printing.specs.Text.{spelt}
+use Rattle.promises.specs.Specimen.{specimen, shorts}
+use Rattle.listing.specs.Lines.{LinesFrom, Listing}
 
-abbrev pub fiveLines : List ℕ
-fiveLines =
-    -- document 4 1970-01-02T00:00:00Z
-    100 ∷ 111 ∷ 99 ∷ 117 ∷ 109 ∷ 101 ∷ 110 ∷ 116 ∷ 32 ∷ 52 ∷ 32 ∷ 49 ∷ 57 ∷ 55 ∷ 48 ∷ 45 ∷ 48 ∷ 49 ∷ 45 ∷ 48 ∷ 50 ∷ 84 ∷ 48 ∷ 48 ∷ 58 ∷ 48 ∷ 48 ∷ 58 ∷ 48 ∷ 48 ∷ 90 ∷ 10
-    -- layout 52 7 =A 2
-    ∷ 108 ∷ 97 ∷ 121 ∷ 111 ∷ 117 ∷ 116 ∷ 32 ∷ 53 ∷ 50 ∷ 32 ∷ 55 ∷ 32 ∷ 61 ∷ 65 ∷ 32 ∷ 50 ∷ 10
-    -- row 87 7 10 -2
-    ∷ 114 ∷ 111 ∷ 119 ∷ 32 ∷ 56 ∷ 55 ∷ 32 ∷ 55 ∷ 32 ∷ 49 ∷ 48 ∷ 32 ∷ 45 ∷ 50 ∷ 10
-    -- row 104 7 0 127
-    ∷ 114 ∷ 111 ∷ 119 ∷ 32 ∷ 49 ∷ 48 ∷ 52 ∷ 32 ∷ 55 ∷ 32 ∷ 48 ∷ 32 ∷ 49 ∷ 50 ∷ 55 ∷ 10
-    -- end 121 2 1970-01-02T00:00:01Z
-    ∷ 101 ∷ 110 ∷ 100 ∷ 32 ∷ 49 ∷ 50 ∷ 49 ∷ 32 ∷ 50 ∷ 32 ∷ 49 ∷ 57 ∷ 55 ∷ 48 ∷ 45 ∷ 48 ∷ 49 ∷ 45 ∷ 48 ∷ 50 ∷ 84 ∷ 48 ∷ 48 ∷ 58 ∷ 48 ∷ 48 ∷ 58 ∷ 48 ∷ 49 ∷ 90 ∷ 10 ∷ []
+-- The layout: "u" is an unsignedInt, "d" of a type given.
+abbrev pub u : Attribute
+u = record { name = spelt "u"; kind = record { derived = 0; basic = UnsignedInt } }
+
+abbrev pub d : Basic → Attribute
+d b = record { name = spelt "d"; kind = record { derived = 0; basic = b } }
+
+abbrev pub seven : Basic → Layout
+seven b = record { number = 7; type-name = spelt "A"; attributes = u ∷ d b ∷ [] }
+
+abbrev startLines : List ℕ
+startLines = spelt "document 4 1970-01-01T00:01:26.400Z\n" ++ (spelt "layout 52 7 =A 2\n" ++ spelt "row 87 7 10 -2\n")
+
+abbrev lastLines : List ℕ
+lastLines = spelt "row 104 7 0 127\n" ++ spelt "end 121 2 1970-01-01T00:01:26.401Z\n"
+
+pub record Printed : Type 0 where
+  pub five : Listing specimen (startLines ++ lastLines)
+  pub rest : LinesFrom specimen 104 1 (seven Byte ∷ []) lastLines
+  pub short : Listing shorts (startLines ++ (spelt "row 105 7 0 127\n" ++ spelt "end 123 2 1970-01-01T00:01:26.401Z\n"))

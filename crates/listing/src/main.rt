@@ -13,7 +13,7 @@ ghost use Rattle.elements.specs.Answers.{metOf, isLastMet};
 ghost use Rattle.questions.specs.Questions.{rowAsked, fieldAsked, layoutAsked, partOf};
 ghost use Rattle.questions.specs.Answers.{octetsOf};
 ghost use Rattle.printing.specs.Text.{Prints};
-ghost use Rattle.listing.specs.Lines.{Puts, Timed, headerText, numbered, stringText, octetsText, wordText, fieldText, layoutText, rowText, endText, refusalText, ElementText, LinesFrom, Listing, Listed};
+ghost use Rattle.listing.specs.Lines.{Puts, headerText, numbered, stringText, octetsText, wordText, fieldText, layoutText, rowText, endText, refusalText, elementText, LinesFrom, Listing, Listed};
 use elements::Met;
 use elements::Stepping;
 use kinds::Form;
@@ -24,7 +24,7 @@ use reading::Headed;
 
 // The version and the start time.
 fn header_line(out: &mut [u8], start: i64) -> usize
-    ensures { λ r. ⌜ Puts (Timed start headerText) (now (out .entry)) 0 (now (out .exit)) r ⌝ }
+    ensures { λ r. ⌜ Prints (now (out .entry)) 0 (headerText start) (now (out .exit)) r ⌝ }
 {
     let head = printing::show_all(out, 0, Show::Plain, b"document 4 ");
     let to = dates::time(out, head, start);
@@ -158,7 +158,7 @@ fn row_line<'d, 'b, 'o>(
 
 // The end's count and time.
 fn end_line(out: &mut [u8], n: usize, at: usize, count: u32, time: i64) -> usize
-    ensures { λ r. ⌜ Puts (Timed time (endText at count)) (now (out .entry)) n (now (out .exit)) r ⌝ }
+    ensures { λ r. ⌜ Prints (now (out .entry)) n (endText at count time) (now (out .exit)) r ⌝ }
 {
     let place = printing::named(out, n, b"end ", at as u64);
     let head = printing::named(out, place, b" ", count as u64);
@@ -178,7 +178,7 @@ fn element_line<'d, 'b, 'o>(
     out: &'o mut [u8],
     n: usize,
 ) -> usize
-    ensures { λ r. ⌜ ((st : Stepped) (next : ℕ) → stepAt (now (doc .entry)) at rows (now (book .entry)) used ≡ ok st next → metOf (st .element) ≡ met → Puts (ElementText at (st .element)) (now (out .entry)) n (now (out .exit)) r) ⌝ }
+    ensures { λ r. ⌜ ((st : Stepped) (next : ℕ) → stepAt (now (doc .entry)) at rows (now (book .entry)) used ≡ ok st next → metOf (st .element) ≡ met → Prints (now (out .entry)) n (elementText at (st .element)) (now (out .exit)) r) ⌝ }
 {
     match met {
         Met::Layout(number, count) => layout_line(doc, at, rows, book, used, number, count, out, n),

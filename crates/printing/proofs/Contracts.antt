@@ -7,6 +7,7 @@ use Rattle.printing.proofs.flush as flush
 use Rattle.printing.proofs.octet as octet
 use Rattle.printing.proofs.show_all as show-all
 use Rattle.printing.proofs.decimal as decimal
+use Rattle.printing.proofs.filled as filled
 use Rattle.printing.proofs.signed as signed
 use Rattle.printing.proofs.named as named
 use Rattle.printing.proofs.hex as hex
@@ -18,6 +19,7 @@ pub record Contracts : Type 0 where
   pub of-octet : Once octet.Kinds.ps octet.Kinds.r octet.Reads.Pre octet.Reads.Post
   pub of-show-all : Once show-all.Kinds.ps show-all.Kinds.r show-all.Reads.Pre show-all.Reads.Post
   pub of-decimal : Once decimal.Kinds.ps decimal.Kinds.r decimal.Reads.Pre decimal.Reads.Post
+  pub of-filled : Once filled.Kinds.ps filled.Kinds.r filled.Reads.Pre filled.Reads.Post
   pub of-signed : Once signed.Kinds.ps signed.Kinds.r signed.Reads.Pre signed.Reads.Post
   pub of-named : Once named.Kinds.ps named.Kinds.r named.Reads.Pre named.Reads.Post
   pub of-hex : Once hex.Kinds.ps hex.Kinds.r hex.Reads.Pre hex.Reads.Post
@@ -31,6 +33,7 @@ contracts =
       of-octet = λ κs a p x y u v e f. let q = one-print e f in (q .1, q .0 also refl);
       of-show-all = λ κs a p x y u v e f. let q = one-print e f in (q .1, q .0 also refl);
       of-decimal = λ κs a p x y u v e f. let q = one-print e f in (q .1, q .0 also refl);
+      of-filled = λ κs a p x y u v e f. let q = one-print e f in (q .1, q .0 also refl);
       of-signed = λ κs a p x y u v e f. let q = one-print e f in (q .1, q .0 also refl);
       of-named = λ κs a p x y u v e f. let q = one-print e f in (q .1, q .0 also refl);
       of-hex = λ κs a p x y u v e f. let q = one-print e f in (q .1, q .0 also refl);

@@ -2,4 +2,5 @@ pub mod Puts
 pub mod Waits
 pub mod Spelling
 pub mod Signs
+pub mod Digits
 pub mod Contracts

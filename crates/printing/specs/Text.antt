@@ -1,5 +1,7 @@
 -- The texts that programs print, as octets, and what it is to print one.
 use Prim.Native.Nat.{ℕ, zero, suc, _+_, _-_, _/_, _%_}
+use Prim.Native.Char.{code}
+use Prim.Native.String as str
 use mathlib.Core.Path.{_≡_}
 use mathlib.Core.List.{List, [], _∷_, _++_}
 use mathlib.Core.Bool.{Bool, true, false, cond, _&&_, not}
@@ -9,6 +11,11 @@ use lib.IntN.{ℤ, pos, negsuc}
 use Rattle.octets.specs.Writing.{images}
 use Rattle.printing.specs.declared.Show.{Show}
 use Rattle.printing.specs.declared.Show.the-variants.{Plain, Hex, Escaped}
+
+-- The octets of a literal, which is ASCII.
+abbrev pub spelt : str.String → List ℕ
+spelt str.[] = []
+spelt (str._∷_ c s) = code c ∷ spelt s
 
 -- A lent buffer, and how many of its octets wait to be written out.
 pub data Held : Type 0 where
@@ -69,6 +76,11 @@ digits (suc k) n = cond (ltb n 10) [] (digits k (n / 10)) ++ (48 + n % 10) ∷ [
 abbrev pub decimal : ℕ → List ℕ
 decimal n = digits 20 n
 
+-- A number in k digits, with zeros before it; of a longer number the last k.
+unfoldable pub filled : ℕ → ℕ → List ℕ
+filled zero n = []
+filled (suc k) n = filled k (n / 10) ++ (48 + n % 10) ∷ []
+
 -- A signed number in decimal, with "-" before a negative one.
 abbrev pub signed : ℤ → List ℕ
 signed (pos n) = decimal n
@@ -78,7 +90,7 @@ abbrev pub truth : Bool → List ℕ
 truth true = 49 ∷ []
 truth false = 48 ∷ []
 
--- "refused ", the number, " " and the place.
+-- A refusal's number and place.
 abbrev pub refusal : ℕ → ℕ → List ℕ
 refusal number place =
-    (showing Plain (114 ∷ 101 ∷ 102 ∷ 117 ∷ 115 ∷ 101 ∷ 100 ∷ 32 ∷ []) ++ decimal number) ++ (showing Plain (32 ∷ []) ++ decimal place)
+    (showing Plain (spelt "refused ") ++ decimal number) ++ (showing Plain (spelt " ") ++ decimal place)

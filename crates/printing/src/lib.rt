@@ -5,7 +5,7 @@ ghost use mathlib.Core.List.{[], _∷_, _++_};
 ghost use Prim.Native.Nat.{_+_, _≤_, _<_};
 ghost use lib.ListN.{length, drop};
 ghost use Rattle.octets.specs.Writing.{word};
-ghost use Rattle.printing.specs.Text.{Prints, digit, pair, isPlain, shown, showing, decimal, signed, truth, refusal};
+ghost use Rattle.printing.specs.Text.{Prints, digit, pair, isPlain, shown, showing, decimal, filled, signed, truth, refusal};
 
 // How octets are shown: as they are, as hex digits, or as a string with escapes.
 pub enum Show {
@@ -133,6 +133,18 @@ pub fn decimal(out: &mut [u8], n: usize, v: u64) -> usize
     let mut text = [0u8; 20];
     let from = spell(&mut text, v);
     show_all(out, n, Show::Plain, &text[from..])
+}
+
+// A number in k digits, with zeros before it.
+pub fn filled(out: &mut [u8], n: usize, k: usize, v: u64) -> usize
+    requires { ⌜ k ≤ 20 ⌝ }
+    ensures { λ r. ⌜ Prints (now (out .entry)) n (filled k v) (now (out .exit)) r ⌝ }
+{
+    if k == 0 {
+        return n;
+    }
+    let to = filled(out, n, k - 1, v / 10);
+    octet(out, to, 48 + (v % 10) as u8)
 }
 
 // A signed number in decimal.

@@ -1,56 +1,47 @@
--- `dates::date_after` meets its contract. The invariant: the days of the years passed and those left are the days given.
--- The measure is the days left: no year is empty. Assumes nothing.
+-- `dates::date_after` meets its contract. The invariant: the day left, from the year reached on, is the day given.
+-- The measure is the years to come before 9999. Assumes nothing.
 use borrow.Author.Needs.{needs}
 use native.Mathlib.Omega.{arith}
-use mathlib.Core.Path.{_≡_, sym, ap, _∙_, subst}
-use Prim.Native.Nat.{ℕ, _+_, _≤_, _<_}
-use Rattle.dates.specs.Calendar.{yearDays, yearsDays, MonthOf}
-use Rattle.dates.proofs.Years.{years-more, year-long}
+use mathlib.Core.Path.{_≡_, refl, sym, ap, _∙_, subst}
+use Prim.Native.Nat.{ℕ, _+_, _-_, _≤_, _<_}
+use Rattle.dates.specs.Calendar.{yearDays, spanOf, dayOfYear, yearOf, dateAfter}
+use Rattle.dates.proofs.Spans.{here, on, last}
 use Rattle.dates.proofs.date_after.Statement.{statement}
 use Rattle.dates.proofs.date_after.Tie as tie
 
+abbrev size : ℕ → ℕ
+size k = yearDays (1970 + k)
+
 abbrev Inv-loop : tie.InvT-loop
-Inv-loop days years₀ left₀ years left = (years + left ≤ days) × (yearsDays years + left ≡ days)
+Inv-loop days years₀ left₀ years left = (years ≤ 8029) × (spanOf size (8029 - years) years left ≡ yearOf days)
 
 abbrev μ-loop : tie.MeasureT-loop
-μ-loop days years₀ left₀ years left = left
-
-loop-holds : tie.Need-loop-holds Inv-loop μ-loop
-unfolding yearsDays
-loop-holds c = (omega arith, omega arith)
-
-month-after-requires : tie.Need-month-after-requires Inv-loop μ-loop
-month-after-requires c κs =
-    let l = c .before .before .loop in
-    (omega (arith, l .inv .0, c .before .before .before .pre), subst (λ (k : ℕ). l .left < k) (c .before .year-days .ensures) (c .if1 .taken))
+μ-loop days years₀ left₀ years left = 8029 - years
 
 returns : tie.Need-returns Inv-loop μ-loop
+unfolding dateAfter
 returns c =
-    let l = c .before .before .before .loop in
-    let d = c .month-after .result in
-    let m = c .month-after .ensures in
-    let same : d .years ≡ l .years = m .year in
-    record {
-      passed = l .left;
-      sum = ap (λ (k : ℕ). yearsDays k + l .left) same ∙ l .inv .1;
-      within =
-          subst (λ (k : ℕ). l .left < yearDays (1970 + k)) (sym same)
-          (subst (λ (k : ℕ). l .left < k) (c .before .before .year-days .ensures) (c .before .if1 .taken));
-      month = subst (λ (k : ℕ). MonthOf k (l .left) d) (sym same) m;
-    }
-
-loop-less : tie.Need-loop-less Inv-loop μ-loop
-loop-less c = omega (arith, year-long (1970 + c .before .before .loop .years), c .before .year-days .ensures, c .if1 .left)
+    let l = c .before .before .before .before .loop in
+    c .day-of-year .ensures
+    ∙ ap (λ (s : ℕ × ℕ). dayOfYear (s .0) (s .1))
+    (sym (here size (8029 - l .years) (l .years) (l .left) (subst (λ (k : ℕ). l .left < k) (c .before .before .year-days .ensures) (c .before .if1 .taken))) ∙ l .inv .1)
 
 loop-again : tie.Need-loop-again Inv-loop μ-loop
 loop-again c =
-    let l = c .before .before .loop in
-    let long = year-long (1970 + l .years) in (
-      omega (arith, long, c .before .year-days .ensures, c .if1 .left, l .inv .0),
-      omega (arith, years-more (l .years), c .before .year-days .ensures, c .if1 .left, l .inv .1),
+    let l = c .before .before .before .loop in
+    let here : c .before .year-days .result ≡ size (l .years) = c .before .year-days .ensures in (
+      omega arith,
+      ap (λ (n : ℕ). spanOf size (8029 - (l .years + 1)) (l .years + 1) (l .left - n)) here
+          ∙ (sym (on size 8029 (l .years) (l .left) (c .before .before .loop-test .taken) (subst (λ (n : ℕ). n ≤ l .left) here (c .if1 .left))) ∙ l .inv .1),
     )
+
+returns-2 : tie.Need-returns-2 Inv-loop μ-loop
+unfolding dateAfter
+returns-2 c =
+    let l = c .before .before .loop in
+    c .day-of-year2 .ensures ∙ ap (λ (s : ℕ × ℕ). dayOfYear (s .0) (s .1)) (sym (last size 8029 (l .years) (l .left) (omega arith)) ∙ l .inv .1)
 
 pub date-after-spec : {M : Type 1} → statement M
 date-after-spec =
     tie.close
-    (tie.spec Inv-loop μ-loop loop-holds (λ c. omega (arith, c .loop .inv .0, c .before .pre)) (λ c κs. search needs) month-after-requires returns (λ c. omega (arith, c .before .before .loop .inv .0, c .before .before .before .pre)) loop-less loop-again)
+    (tie.spec Inv-loop μ-loop (λ c. (omega arith, refl)) (λ c. omega arith) (λ c κs. search needs) (λ c κs. omega arith) returns (λ c. omega arith) (λ c. omega arith) loop-again (λ c κs. omega arith) returns-2)

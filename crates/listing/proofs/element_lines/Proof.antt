@@ -14,7 +14,8 @@ use Rattle.octets.proofs.Spans.{each-octet, each-replicate}
 use Rattle.elements.specs.Steps.{leaves, holding, stepAt}
 use Rattle.elements.specs.declared.Step.{Step}
 use Rattle.elements.proofs.Going as going
-use Rattle.listing.specs.Lines.{Puts, ElementText}
+use Rattle.printing.specs.Text.{Prints}
+use Rattle.listing.specs.Lines.{elementText}
 use Rattle.listing.proofs.Passed.{Passed, passed-start, passed-refused, passed-last, passed-more, further, again}
 use Rattle.listing.proofs.element_lines.Statement.{statement}
 use Rattle.listing.proofs.element_lines.Tie as tie
@@ -115,7 +116,7 @@ module _ (line : Lined) where
   abbrev about : Told
   about = line .before .before .before
 
-  put : let l = turn about .loop in Puts (ElementText (l .pos) (told about .stepped .element)) (l .out) (l .to) (line .element-line .last .1 .1 .1 .1 .1 .1 .0) (line .element-line .result)
+  put : let l = turn about .loop in Prints (l .out) (l .to) (elementText (l .pos) (told about .stepped .element)) (line .element-line .last .1 .1 .1 .1 .1 .1 .0) (line .element-line .result)
   put = line .element-line .ensures (told about .stepped) (told about .next) (asked about) (ap (λ (x : Step). x .met) (told about .is))
 
 returns-2 : tie.Need-returns-2 Inv-loop μ-loop

@@ -1,13 +1,11 @@
 -- `listing::end_line` meets its contract. Assumes nothing.
 use borrow.Author.Needs.{needs}
-use mathlib.Core.Path.{subst}
+use mathlib.Core.Path.{ap}
 use mathlib.Core.List.{[], _∷_}
-use lib.IntN.{ℤ}
 use mir.Facts.{toZ-ofZ}
-use Rattle.printing.specs.Text.{decimal}
-use Rattle.printing.proofs.Puts.{then}
-use Rattle.dates.specs.Times.{TimeText}
-use Rattle.listing.specs.Lines.{timed, endText}
+use Rattle.printing.specs.Text.{spelt, decimal}
+use Rattle.printing.proofs.Puts.{then, says}
+use Rattle.listing.specs.Lines.{endText}
 use Rattle.listing.proofs.Words.{word-then}
 use Rattle.listing.proofs.end_line.Statement.{statement}
 use Rattle.listing.proofs.end_line.Tie as tie
@@ -21,13 +19,9 @@ returns c =
     let place = count .before .before .before .before .before in
     let start = place .before .before .before .before in
     let a = start .args in
-    let time = stamp .time .ensures in
-    record {
-      text = endText (a .at) (a .count) (time .text);
-      right = timed (subst (λ (z : ℤ). TimeText z (time .text)) (toZ-ofZ (start .fits .time)) (time .right));
-      prints = then (word-then (101 ∷ 110 ∷ 100 ∷ 32 ∷ []) (decimal (a .at)) (place .named .ensures))
-          (then (word-then (32 ∷ []) (decimal (a .count)) (count .named2 .ensures)) (then (gap .octet .ensures) (then (time .prints) (last .octet2 .ensures))));
-    }
+    says (ap (endText (a .at) (a .count)) (toZ-ofZ (start .fits .time)))
+    (then (word-then (spelt "end ") (decimal (a .at)) (place .named .ensures))
+    (then (word-then (32 ∷ []) (decimal (a .count)) (count .named2 .ensures)) (then (gap .octet .ensures) (then (stamp .time .ensures) (last .octet2 .ensures)))))
 
 pub end-line-spec : {M : Type 1} → statement M
 end-line-spec =

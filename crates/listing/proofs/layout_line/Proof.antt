@@ -5,7 +5,7 @@ use mathlib.Core.List.{[], _∷_}
 use Prim.Native.Nat.{ℕ}
 use Rattle.layouts.specs.Layout.{Layout}
 use Rattle.questions.specs.Questions.{partOf}
-use Rattle.printing.specs.Text.{decimal}
+use Rattle.printing.specs.Text.{spelt, decimal}
 use Rattle.printing.proofs.Puts.{then, says}
 use Rattle.listing.specs.Lines.{numbered, stringText}
 use Rattle.listing.proofs.Words.{word-then}
@@ -21,7 +21,7 @@ returns c =
     let head = gap .before .before .before .before in
     let a = head .before .before .before .before .before .before .args in
     λ l next e number count.
-    then (says (ap (λ (x : ℕ). numbered (108 ∷ 97 ∷ 121 ∷ 111 ∷ 117 ∷ 116 ∷ 32 ∷ []) (a .at) x) number) (head .numbered .ensures))
+    then (says (ap (λ (x : ℕ). numbered (spelt "layout ") (a .at) x) number) (head .numbered .ensures))
     (then (then (gap .octet .ensures) (says (ap stringText (name .before .type-name .ensures ∙ ap (partOf (λ (x : Layout). x .type-name)) e)) (name .string .ensures)))
     (then (says (ap (λ (x : ℕ). 32 ∷ decimal x) count) (word-then (32 ∷ []) (decimal (a .count)) (many .named .ensures))) (last .octet2 .ensures)))
 

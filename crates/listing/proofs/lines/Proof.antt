@@ -4,17 +4,17 @@ use mathlib.Core.Path.{_≡_, sym, ap, _∙_, subst}
 use mathlib.Core.List.{List, [], _++_}
 use Prim.Native.Nat.{ℕ, _≤_}
 use lib.ListN.{length}
-use lib.IntN.{ℤ}
 use mir.Syntax.{w64}
 use mir.Facts.{toZ-ofZ}
 use denote.Ref.{now}
 use Rattle.octets.specs.Reading.{ok}
 use Rattle.octets.proofs.Spans.{each-octet}
+use Rattle.kinds.specs.Kinds.{signed}
 use Rattle.headers.specs.Header.{Header, headerAt}
 use Rattle.reading.specs.Answers.{headOf}
 use Rattle.reading.specs.declared.Head.{Head}
-use Rattle.printing.proofs.Puts.{then}
-use Rattle.listing.specs.Lines.{Timed, headerText, refusalText, LinesFrom, unheaded, headed}
+use Rattle.printing.proofs.Puts.{then, says}
+use Rattle.listing.specs.Lines.{headerText, refusalText, LinesFrom, unheaded, headed}
 use Rattle.listing.proofs.Heads.{headed-as, unheaded-as, header-place}
 use Rattle.listing.proofs.lines.Statement.{statement}
 use Rattle.listing.proofs.lines.Tie as tie
@@ -58,15 +58,13 @@ returns-2 c =
     let rest = c .before .before in
     let line = rest .before .before .before .before in
     let k = line .before .before .before in
-    let first = line .header-line .ensures in
     let from = rest .element-lines .ensures in
     let (h, next, is, same) = told k in
     let exact = toZ-ofZ {w = w64} (record { sfits = line .before .struct-told .given .0 .1 }) in
     record {
-      text = first .text ++ from .text;
-      right = headed h next is (subst (λ (z : ℤ). Timed z headerText (first .text)) (exact ∙ sym (ap (λ (x : Head). x .start) same)) (first .right))
-          (subst (λ (x : Head). LinesFrom (doc k) (x .next) 0 [] (from .text)) (sym same) (from .right));
-      prints = then (first .prints) (from .prints);
+      text = headerText (signed 8 (h .start)) ++ from .text;
+      right = headed h next is (subst (λ (x : Head). LinesFrom (doc k) (x .next) 0 [] (from .text)) (sym same) (from .right));
+      prints = then (says (ap headerText (exact ∙ sym (ap (λ (x : Head). x .start) same))) (line .header-line .ensures)) (from .prints);
     }
 
 pub lines-spec : {M : Type 1} → statement M

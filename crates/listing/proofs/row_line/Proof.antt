@@ -2,7 +2,7 @@
 use borrow.Author.Needs.{needs}
 use native.Mathlib.Omega.{arith}
 use mathlib.Core.Path.{_≡_, refl, sym, ap, _∙_}
-use mathlib.Core.List.{List, [], _∷_}
+use mathlib.Core.List.{List, _∷_}
 use Prim.Native.Nat.{ℕ, _-_, _≤_}
 use lib.ListN.{length, take}
 use lib.Seq.{take-length}
@@ -13,7 +13,7 @@ use Rattle.rows.specs.Row.{Field, Row}
 use Rattle.questions.specs.Questions.{rowAsked}
 use Rattle.questions.proofs.Asked.{nth-some}
 use Rattle.questions.proofs.Line.{field-asked}
-use Rattle.printing.specs.Text.{Prints}
+use Rattle.printing.specs.Text.{Prints, spelt}
 use Rattle.printing.proofs.Puts.{then, says, nothing, images-none}
 use Rattle.listing.specs.Lines.{numbered, fieldText}
 use Rattle.listing.proofs.Words.{one-more}
@@ -60,7 +60,7 @@ returns c =
     let a = head .before .before .before .before .before .before .args in
     λ row next e number count.
     let all : l .i ≡ length (row .fields) = omega arith in
-    then (says (ap (λ (x : ℕ). numbered (114 ∷ 111 ∷ 119 ∷ 32 ∷ []) (a .at) x) number) (head .numbered .ensures))
+    then (says (ap (λ (x : ℕ). numbered (spelt "row ") (a .at) x) number) (head .numbered .ensures))
     (then (says (ap (λ (i : ℕ). images spaced (take i (row .fields))) all ∙ ap (images spaced) (take-length (row .fields))) (l .inv .2 row next e count)) (last .octet .ensures))
 
 pub row-line-spec : {M : Type 1} → statement M
