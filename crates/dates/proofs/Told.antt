@@ -14,7 +14,7 @@ use Rattle.octets.specs.Reading.{choose}
 use Rattle.printing.specs.Text.{decimal, filled}
 use Rattle.printing.proofs.Digits.{total, filled-tells, digits-tell, digits-lead}
 use Rattle.dates.specs.Calendar.{yearsDays, monthsDays, dateAfter}
-use Rattle.dates.specs.Times.{part, momentText, timeText}
+use Rattle.dates.specs.Times.{behind, momentText, timeText}
 use Rattle.dates.proofs.Dates.{right-date, small}
 
 -- The milliseconds of a date and a time of day, and those of a text, whose numbers stand at their places.
@@ -29,7 +29,7 @@ abbrev momentOf : List ℕ → ℕ
 momentOf x = instant (digitsAt x 0 4) (digitsAt x 5 2) (digitsAt x 8 2) (digitsAt x 11 2) (digitsAt x 14 2) (digitsAt x 17 2) (digitsAt x 20 3)
 
 stamped : (a b c d e f g : ℕ) → a < 10000 → b < 100 → c < 100 → d < 100 → e < 100 → f < 100 → g < 1000
-    → momentOf ((filled 4 a ++ (part 45 2 b ++ part 45 2 c)) ++ ((part 84 2 d ++ (part 58 2 e ++ part 58 2 f)) ++ (part 46 3 g ++ 90 ∷ []))) ≡ instant a b c d e f g
+    → momentOf ((filled 4 a ++ (behind 45 2 b ++ behind 45 2 c)) ++ ((behind 84 2 d ++ (behind 58 2 e ++ behind 58 2 f)) ++ (behind 46 3 g ++ 90 ∷ []))) ≡ instant a b c d e f g
 unfolding filled
 stamped a b c d e f g ha hb hc hd he hf hg =
     let pa = filled-tells 4 a ha in

@@ -19,7 +19,7 @@ monthDays y m =
     cond (eqb m 1) (cond (leap y) 29 28)
     (cond (eqb m 3) 30 (cond (eqb m 5) 30 (cond (eqb m 8) 30 (cond (eqb m 10) 30 31))))
 
--- Of spans one behind another, of which k has the given size, that in which the day x of span k lies, and which day of it that is; at most so many spans on.
+-- Spans one behind another, of which each k has its size: the span in which day x of span k lies, and which day of that it is. So many spans behind k are the last.
 unfoldable pub spanOf : (ℕ → ℕ) → ℕ → ℕ → ℕ → ℕ × ℕ
 spanOf size zero k x = (k, x)
 spanOf size (suc more) k x = choose (ltb x (size k)) (λ _. (k, x)) (λ _. spanOf size more (k + 1) (x - size k))

@@ -4,7 +4,7 @@ ghost use mathlib.Core.Path.{_≡_};
 ghost use Prim.Native.Nat.{_≤_};
 ghost use Rattle.printing.specs.Text.{Prints};
 ghost use Rattle.dates.specs.Calendar.{leap, yearDays, monthDays, dayOfYear, dateAfter};
-ghost use Rattle.dates.specs.Times.{part, dayText, clockText, momentText, timeText};
+ghost use Rattle.dates.specs.Times.{behind, dayText, clockText, momentText, timeText};
 
 // A date: years from 1970 on, months and days from 0 on.
 pub struct Date {
@@ -95,10 +95,10 @@ fn date_after(days: u64) -> Date
     day_of_year(years, left)
 }
 
-// A sign and a number in k digits.
-fn part(out: &mut [u8], n: usize, sign: u8, k: usize, v: u64) -> usize
+// A sign, and behind it a number in k digits.
+fn behind(out: &mut [u8], n: usize, sign: u8, k: usize, v: u64) -> usize
     requires { ⌜ k ≤ 20 ⌝ }
-    ensures { λ r. ⌜ Prints (now (out .entry)) n (part sign k v) (now (out .exit)) r ⌝ }
+    ensures { λ r. ⌜ Prints (now (out .entry)) n (behind sign k v) (now (out .exit)) r ⌝ }
 {
     let to = printing::octet(out, n, sign);
     printing::filled(out, to, k, v)
@@ -113,17 +113,17 @@ fn day(out: &mut [u8], n: usize, date: Date) -> usize
     let months = date.months;
     let days = date.days;
     let year = printing::filled(out, n, 4, 1970 + years);
-    let month = part(out, year, b'-', 2, months + 1);
-    part(out, month, b'-', 2, days + 1)
+    let month = behind(out, year, b'-', 2, months + 1);
+    behind(out, month, b'-', 2, days + 1)
 }
 
 // The hour, the minute and the second of a day.
 fn clock(out: &mut [u8], n: usize, seconds: u64) -> usize
     ensures { λ r. ⌜ Prints (now (out .entry)) n (clockText seconds) (now (out .exit)) r ⌝ }
 {
-    let hour = part(out, n, b'T', 2, seconds / 3600);
-    let minute = part(out, hour, b':', 2, seconds / 60 % 60);
-    part(out, minute, b':', 2, seconds % 60)
+    let hour = behind(out, n, b'T', 2, seconds / 3600);
+    let minute = behind(out, hour, b':', 2, seconds / 60 % 60);
+    behind(out, minute, b':', 2, seconds % 60)
 }
 
 // A time that has a date: the day, the time of day and three decimals.
@@ -135,7 +135,7 @@ fn moment(out: &mut [u8], n: usize, t: u64) -> usize
     let date = date_after(seconds / 86400);
     let to = day(out, n, date);
     let second = clock(out, to, seconds % 86400);
-    let last = part(out, second, b'.', 3, t % 1000);
+    let last = behind(out, second, b'.', 3, t % 1000);
     printing::octet(out, last, b'Z')
 }
 

@@ -9,7 +9,7 @@ returns c =
     let second = c .before .before in
     let minute = second .before .before .before .before in
     let hour = minute .before .before .before .before in
-    then (hour .part .ensures) (then (minute .part2 .ensures) (second .part3 .ensures))
+    then (hour .behind .ensures) (then (minute .behind2 .ensures) (second .behind3 .ensures))
 
 pub clock-spec : {M : Type 1} → statement M
 clock-spec =

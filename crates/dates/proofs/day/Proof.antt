@@ -9,7 +9,7 @@ returns c =
     let last = c .before .before in
     let month = last .before .before .before .before in
     let year = month .before .before .before .before in
-    then (year .filled .ensures) (then (month .part .ensures) (last .part2 .ensures))
+    then (year .filled .ensures) (then (month .behind .ensures) (last .behind2 .ensures))
 
 pub day-spec : {M : Type 1} → statement M
 day-spec =

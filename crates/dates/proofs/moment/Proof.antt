@@ -24,7 +24,7 @@ returns c =
     let second = decimals .before .before .before .before in
     let first = second .before .before .before .before in
     then (says (ap dayText (first .before .before .date-after .ensures)) (first .day .ensures))
-    (then (second .clock .ensures) (then (decimals .part .ensures) (last .octet .ensures)))
+    (then (second .clock .ensures) (then (decimals .behind .ensures) (last .octet .ensures)))
 
 pub moment-spec : {M : Type 1} → statement M
 moment-spec =
