@@ -1,9 +1,9 @@
 //! Milliseconds since 1970 as the listing prints them.
 
 /// The last millisecond of the year 9999.
-const LAST: i64 = 253_402_300_799_999;
-const MILLISECONDS: i64 = 1_000;
-const DAY: i64 = 86_400;
+pub const LAST: i64 = 253_402_300_799_999;
+const SECOND: i64 = 1_000;
+const SECONDS_OF_DAY: i64 = 86_400;
 
 /// The date and time with three decimals, or "@" and the number outside the
 /// years 1970 to 9999.
@@ -11,9 +11,9 @@ pub fn text(milliseconds: i64) -> String {
     if !(0..=LAST).contains(&milliseconds) {
         return format!("@{milliseconds}");
     }
-    let (seconds, decimals) = (milliseconds / MILLISECONDS, milliseconds % MILLISECONDS);
-    let (year, month, day) = date(seconds / DAY);
-    let rest = seconds % DAY;
+    let (seconds, decimals) = (milliseconds / SECOND, milliseconds % SECOND);
+    let (year, month, day) = date(seconds / SECONDS_OF_DAY);
+    let rest = seconds % SECONDS_OF_DAY;
     let (hour, minute, second) = (rest / 3600, rest / 60 % 60, rest % 60);
     format!("{year:04}-{month:02}-{day:02}T{hour:02}:{minute:02}:{second:02}.{decimals:03}Z")
 }
@@ -35,7 +35,7 @@ fn date(days: i64) -> (i64, i64, i64) {
 }
 
 /// The first of January of a year, as a day counted from 1970-01-01.
-fn new_year(year: i64) -> i64 {
+pub fn new_year(year: i64) -> i64 {
     let leap_years = |last: i64| last / 4 - last / 100 + last / 400;
     365 * (year - 1970) + leap_years(year - 1) - leap_years(1969)
 }

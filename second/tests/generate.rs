@@ -12,7 +12,7 @@ use second::generate::script::script;
 use second::image::image;
 use second::limits;
 use second::probe;
-use second::time;
+use second::time::{self, LAST};
 use second::whole::whole_check;
 
 /// How often each first word, or call or refusal with its letter, was answered.
@@ -136,7 +136,6 @@ fn good_documents_are_accepted() {
 fn times_reach_the_borders() {
     let mut random = Random::of(7, 0);
     let times: Vec<i64> = (0..20_000).map(|_| field::time(&mut random)).collect();
-    const LAST: i64 = 253_402_300_799_999;
     for border in [0, 1, -1, 999, 1000, 86_400, 86_401, LAST - 1, LAST, LAST + 1, i64::MIN, i64::MAX] {
         assert!(times.iter().filter(|time| **time == border).count() >= 20, "{border}");
     }

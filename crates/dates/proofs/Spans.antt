@@ -28,6 +28,7 @@ module _ (size : ℕ → ℕ) where
       let none : most - k ≡ 0 = omega arith in
       rw none refl
 
+  -- No span behind the last is found.
   pub few : (more k x : ℕ) → spanOf size more k x .0 ≤ k + more
   unfolding spanOf
   few zero k x = omega arith

@@ -14,22 +14,26 @@ use Rattle.octets.specs.Reading.{choose}
 use Rattle.printing.specs.Text.{decimal, filled}
 use Rattle.printing.proofs.Digits.{total, filled-tells, digits-tell, digits-lead}
 use Rattle.dates.specs.Calendar.{yearsDays, monthsDays, dateAfter}
-use Rattle.dates.specs.Times.{behind, momentText, timeText}
+use Rattle.dates.specs.Times.{momentText, timeText}
 use Rattle.dates.proofs.Dates.{right-date, small}
 
 -- The milliseconds of a date and a time of day, and those of a text, whose numbers stand at their places.
-unfoldable instant : ℕ → ℕ → ℕ → ℕ → ℕ → ℕ → ℕ → ℕ
+unfoldable pub instant : ℕ → ℕ → ℕ → ℕ → ℕ → ℕ → ℕ → ℕ
 instant year month day hour minute second ms =
     ((yearsDays (year - 1970) + (monthsDays year (month - 1) + (day - 1))) * 86400 + (hour * 3600 + (minute * 60 + second))) * 1000 + ms
 
-abbrev digitsAt : List ℕ → ℕ → ℕ → ℕ
+abbrev pub digitsAt : List ℕ → ℕ → ℕ → ℕ
 digitsAt text at k = total 0 (take k (drop at text))
 
-abbrev momentOf : List ℕ → ℕ
+abbrev pub momentOf : List ℕ → ℕ
 momentOf x = instant (digitsAt x 0 4) (digitsAt x 5 2) (digitsAt x 8 2) (digitsAt x 11 2) (digitsAt x 14 2) (digitsAt x 17 2) (digitsAt x 20 3)
 
+abbrev stamp : ℕ → ℕ → ℕ → ℕ → ℕ → ℕ → ℕ → List ℕ
+stamp a b c d e f g =
+    (filled 4 a ++ (45 ∷ (filled 2 b ++ 45 ∷ filled 2 c))) ++ ((84 ∷ (filled 2 d ++ (58 ∷ (filled 2 e ++ 58 ∷ filled 2 f)))) ++ (46 ∷ (filled 3 g ++ 90 ∷ [])))
+
 stamped : (a b c d e f g : ℕ) → a < 10000 → b < 100 → c < 100 → d < 100 → e < 100 → f < 100 → g < 1000
-    → momentOf ((filled 4 a ++ (behind 45 2 b ++ behind 45 2 c)) ++ ((behind 84 2 d ++ (behind 58 2 e ++ behind 58 2 f)) ++ (behind 46 3 g ++ 90 ∷ []))) ≡ instant a b c d e f g
+    → momentOf (stamp a b c d e f g) ≡ instant a b c d e f g
 unfolding filled
 stamped a b c d e f g ha hb hc hd he hf hg =
     let pa = filled-tells 4 a ha in
@@ -55,8 +59,8 @@ moment-told t h =
     stamped (1970 + d .years) (d .months + 1) (d .days + 1) (s / 3600) (s / 60 % 60) (s % 60) (t % 1000) (omega arith) (omega arith) (omega arith) (omega arith) (omega arith) (omega arith) (omega arith)
     ∙ rw (a, b, c, r .sum) (omega arith)
 
--- The time that a text tells.
-abbrev timeOf : List ℕ → ℤ
+-- The time that a text tells: each time is told by its own.
+abbrev pub timeOf : List ℕ → ℤ
 timeOf [] = pos 0
 timeOf (x ∷ []) = pos 0
 timeOf (x ∷ y ∷ rest) = cond (eqb x 64) (cond (eqb y 45) (negsuc (total 0 rest - 1)) (pos (total 0 (y ∷ rest)))) (pos (momentOf (x ∷ y ∷ rest)))
@@ -72,7 +76,7 @@ dated : (t : ℕ) → t ≤ 253402300799999 → timeOf (momentText t) ≡ pos t
 unfolding momentText filled
 dated t h = rw (ne-eqb (48 + (1970 + dateAfter (t / 1000 / 86400) .years) / 10 / 10 / 10 % 10) 64 (λ e. omega (arith, e))) (ap pos (moment-told t h))
 
-told : (z : ℤ) → SFits w64 z → timeOf (timeText z) ≡ z
+pub told : (z : ℤ) → SFits w64 z → timeOf (timeText z) ≡ z
 unfolding timeText
 told (pos t) f = go (leb t 253402300799999) refl
   where

@@ -33,11 +33,11 @@ borders =
     ∷ record { time = pos 946684800000; text = "2000-01-01T00:00:00.000Z" }
     ∷ record { time = pos 978307199999; text = "2000-12-31T23:59:59.999Z" }
     ∷ record { time = pos 978307200000; text = "2001-01-01T00:00:00.000Z" }
-    -- 29 February 2000 and the day behind it: a full four hundred years.
+    -- 29 February 2000 and the day behind it: of the full hundreds every fourth has a leap day.
     ∷ record { time = pos 951782400000; text = "2000-02-29T00:00:00.000Z" }
     ∷ record { time = pos 951868799999; text = "2000-02-29T23:59:59.999Z" }
     ∷ record { time = pos 951868800000; text = "2000-03-01T00:00:00.000Z" }
-    -- 28 February 2100 and the day behind it: a full hundred years, without a leap day.
+    -- 28 February 2100 and the day behind it: the other full hundreds have none.
     ∷ record { time = pos 4107456000000; text = "2100-02-28T00:00:00.000Z" }
     ∷ record { time = pos 4107542399999; text = "2100-02-28T23:59:59.999Z" }
     ∷ record { time = pos 4107542400000; text = "2100-03-01T00:00:00.000Z" }

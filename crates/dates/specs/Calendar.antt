@@ -19,22 +19,23 @@ monthDays y m =
     cond (eqb m 1) (cond (leap y) 29 28)
     (cond (eqb m 3) 30 (cond (eqb m 5) 30 (cond (eqb m 8) 30 (cond (eqb m 10) 30 31))))
 
--- Spans one behind another, of which each k has its size: the span in which day x of span k lies, and which day of that it is. So many spans behind k are the last.
+-- Spans one behind another, of which each k has its size: the span in which the day x from the start of span k on falls, and which day of it that is. At most so many spans behind k are looked at, and the last takes the rest.
 unfoldable pub spanOf : (ℕ → ℕ) → ℕ → ℕ → ℕ → ℕ × ℕ
 spanOf size zero k x = (k, x)
 spanOf size (suc more) k x = choose (ltb x (size k)) (λ _. (k, x)) (λ _. spanOf size more (k + 1) (x - size k))
 
--- The month and the day of a year's day.
+-- The year, counted from 1970 and up to 9999, in which a day falls, and which day of it.
+abbrev pub yearOf : ℕ → ℕ × ℕ
+yearOf days = spanOf (λ (k : ℕ). yearDays (1970 + k)) 8029 0 days
+
+-- The date of a year's day, with the month and the day of the month.
 abbrev pub inYear : ℕ → ℕ × ℕ → Date
 inYear years s = record { years = years; months = s .0; days = s .1 }
 
 abbrev pub dayOfYear : ℕ → ℕ → Date
 dayOfYear years day = inYear years (spanOf (monthDays (1970 + years)) 11 0 day)
 
--- The date that so many days stand before, from 1970 to 9999.
-abbrev pub yearOf : ℕ → ℕ × ℕ
-yearOf days = spanOf (λ (k : ℕ). yearDays (1970 + k)) 8029 0 days
-
+-- The date that so many days stand before.
 unfoldable pub dateAfter : ℕ → Date
 dateAfter days = dayOfYear (yearOf days .0) (yearOf days .1)
 

@@ -1,10 +1,11 @@
 // Times as text: milliseconds since 1970 as a date with three decimals, or "@" and the number outside the years 1970 to 9999.
 
 ghost use mathlib.Core.Path.{_≡_};
+ghost use mathlib.Core.List.{_∷_};
 ghost use Prim.Native.Nat.{_≤_};
-ghost use Rattle.printing.specs.Text.{Prints};
+ghost use Rattle.printing.specs.Text.{Prints, filled};
 ghost use Rattle.dates.specs.Calendar.{leap, yearDays, monthDays, dayOfYear, dateAfter};
-ghost use Rattle.dates.specs.Times.{behind, dayText, clockText, momentText, timeText};
+ghost use Rattle.dates.specs.Times.{dayText, clockText, momentText, timeText};
 
 // A date: years from 1970 on, months and days from 0 on.
 pub struct Date {
@@ -98,7 +99,7 @@ fn date_after(days: u64) -> Date
 // A sign, and behind it a number in k digits.
 fn behind(out: &mut [u8], n: usize, sign: u8, k: usize, v: u64) -> usize
     requires { ⌜ k ≤ 20 ⌝ }
-    ensures { λ r. ⌜ Prints (now (out .entry)) n (behind sign k v) (now (out .exit)) r ⌝ }
+    ensures { λ r. ⌜ Prints (now (out .entry)) n (sign ∷ filled k v) (now (out .exit)) r ⌝ }
 {
     let to = printing::octet(out, n, sign);
     printing::filled(out, to, k, v)

@@ -20,7 +20,7 @@ use Rattle.promises.specs.Specimen.{specimen, shorts}
 use Rattle.listing.specs.Lines.{LinesFrom, last, more, headed}
 use Rattle.listing.specs.Specimen.{u, d, seven, Printed}
 
--- What is read of it: a layout, a row of which so many were passed, the end.
+-- What is read of it: the layout; a row, with the count of rows behind it; the end.
 abbrev learnt : Basic → Stepped
 learnt b = record { element = item (layout (seven b)); rows = 0; book = seven b ∷ [] }
 

@@ -9,7 +9,7 @@ use lib.Dec.{ltb}
 use borrow.Author.Tests.{ltb-true}
 use Rattle.printing.specs.Text.{digits, filled}
 
--- The number that digits make behind one.
+-- The number that the digits of n and these behind them spell.
 abbrev pub total : ℕ → List ℕ → ℕ
 total n [] = n
 total n (x ∷ xs) = total (n * 10 + (x - 48)) xs

@@ -2,7 +2,7 @@
 use mathlib.Core.Path.{_≡_, refl, sym, ap, _∙_, subst}
 use mathlib.Core.List.{_∷_}
 use mathlib.Core.Bool.{true, false, false≢true}
-use Prim.Native.Nat.{ℕ, _+_}
+use Prim.Native.Nat.{_+_}
 use native.Mathlib.Omega.{arith}
 use lib.IntN.{ℤ, pos, negsuc, natAbs, _-ℤ_}
 use lib.Signed.{leZ}
@@ -12,13 +12,13 @@ use mir.Facts.{toZ-ofZ}
 use Rattle.kinds.proofs.Unsigned.{known, below-is}
 use Rattle.printing.specs.Text.{decimal, signed}
 
-spelt : (z : ℤ) → leZ (pos 0) z ≡ true → decimal (natAbs z) ≡ signed z
-spelt (pos n) t = refl
-spelt (negsuc n) t = absurd (false≢true t)
+from-0 : (z : ℤ) → leZ (pos 0) z ≡ true → decimal (natAbs z) ≡ signed z
+from-0 (pos n) t = refl
+from-0 (negsuc n) t = absurd (false≢true t)
 
 module _ (v : ℤ) (f : SFits w64 v) where
   pub above-text : leZ (pos 0) (toZ w64 (ofZ w64 v)) ≡ true → decimal (natAbs (toZ w64 (ofZ w64 v))) ≡ signed v
-  above-text t = subst (λ (z : ℤ). leZ (pos 0) z ≡ true → decimal (natAbs z) ≡ signed v) (sym (toZ-ofZ f)) (spelt v) t
+  above-text t = subst (λ (z : ℤ). leZ (pos 0) z ≡ true → decimal (natAbs z) ≡ signed v) (sym (toZ-ofZ f)) (from-0 v) t
 
   module _ (t : leZ (pos 0) (toZ w64 (ofZ w64 v)) ≡ false) where
     pub below-next : Fits w64 (natAbs (toZ w64 (ofZ w64 (negsuc 0 -ℤ toZ w64 (ofZ w64 v)))) + 1)

@@ -2,7 +2,7 @@
 
 ghost use mathlib.Core.Path.{_≡_};
 ghost use mathlib.Core.List.{[], _∷_, _++_};
-ghost use Prim.Native.Nat.{_+_, _≤_, _<_};
+ghost use Prim.Native.Nat.{_≤_, _<_};
 ghost use lib.ListN.{length, drop};
 ghost use Rattle.octets.specs.Writing.{word};
 ghost use Rattle.printing.specs.Text.{Prints, digit, pair, isPlain, shown, showing, decimal, filled, signed, truth, refusal};
@@ -135,7 +135,7 @@ pub fn decimal(out: &mut [u8], n: usize, v: u64) -> usize
     show_all(out, n, Show::Plain, &text[from..])
 }
 
-// A number in k digits, with zeros before it.
+// A number in k digits, with zeros before it; its last k if it has more. Each digit is a call, so k is small.
 pub fn filled(out: &mut [u8], n: usize, k: usize, v: u64) -> usize
     requires { ⌜ k ≤ 20 ⌝ }
     ensures { λ r. ⌜ Prints (now (out .entry)) n (filled k v) (now (out .exit)) r ⌝ }

@@ -3,6 +3,7 @@
 use super::random::Random;
 use crate::basic::{Basic, BASICS};
 use crate::meaning::Value;
+use crate::time::{new_year, LAST};
 
 pub fn string(random: &mut Random) -> Vec<u8> {
     const ODD: &[u8] = &[0, 0x0a, 0x1f, 0x20, 0x21, b'%', b'=', b'0', 0x7e, 0x7f, 0x80, 0xc3, 0xfe, 0xff];
@@ -24,7 +25,6 @@ pub fn string(random: &mut Random) -> Vec<u8> {
 
 /// A time in milliseconds, often where its text changes much from one to the next.
 pub fn time(random: &mut Random) -> i64 {
-    const LAST: i64 = 253_402_300_799_999;
     const SECOND: i64 = 1_000;
     const MINUTE: i64 = 60 * SECOND;
     const HOUR: i64 = 60 * MINUTE;
@@ -59,13 +59,9 @@ fn some_seconds(random: &mut Random) -> i64 {
     }
 }
 
-/// The 29 February of some year, or the first of March where the year has
-/// none, as the calendar's 400 years of 146,097 days have it.
+/// The 29 February of some year, or the first of March where the year has none.
 fn near_a_march(random: &mut Random) -> i64 {
-    let year = random.between(1970, 9999) as i64;
-    let before = year - 1;
-    let january = 365 * before + before / 4 - before / 100 + before / 400 - 719_162;
-    january + 59
+    new_year(random.between(1970, 9999) as i64) + 59
 }
 
 /// Numbers where 32-bit arithmetic is likely to go wrong.
