@@ -19,7 +19,7 @@ monthDays y m =
     cond (eqb m 1) (cond (leap y) 29 28)
     (cond (eqb m 3) 30 (cond (eqb m 5) 30 (cond (eqb m 8) 30 (cond (eqb m 10) 30 31))))
 
--- Spans one behind another, of which each k has its size: the span in which the day x from the start of span k on falls, and which day of it that is. At most so many spans behind k are looked at, and the last takes the rest.
+-- Spans one behind another, span k of `size k` days: the span, from k on, in which day x falls, and which day of it that is. The last of so many more takes all the rest.
 unfoldable pub spanOf : (ℕ → ℕ) → ℕ → ℕ → ℕ → ℕ × ℕ
 spanOf size zero k x = (k, x)
 spanOf size (suc more) k x = choose (ltb x (size k)) (λ _. (k, x)) (λ _. spanOf size more (k + 1) (x - size k))
