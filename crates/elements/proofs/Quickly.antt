@@ -16,9 +16,10 @@ use Rattle.layouts.proofs.Layouts.{layout-forth, layout-long}
 use Rattle.layouts.proofs.Finding.{Within, find-here, find-behind}
 use Rattle.layouts.proofs.Books.{GoodBook, image-nil, image-snoc}
 use Rattle.layouts.proofs.Growing.{Learnt, learnt, grown}
-use Rattle.plans.specs.Plan.{Planned, Keeps, Kept}
+use Rattle.plans.specs.Plan.{Made, nothing, Keeps, Kept}
+use Rattle.plans.specs.declared.Tally.{Tally}
 use Rattle.plans.specs.Rows.{Passing, Stand}
-use Rattle.plans.proofs.Keeping.{planned-none, planned-within, kept-none, kept-more}
+use Rattle.plans.proofs.Keeping.{made-none, made-within, grown-known, kept-none, kept-more}
 use Rattle.elements.specs.Element.{Stepped, elementAt}
 use Rattle.elements.specs.Steps.{isLast}
 use Rattle.elements.proofs.Went.{Went, at-layout, at-row, at-finish, went, row-step}
@@ -90,24 +91,24 @@ going-rows s short o at book pos rows g (p ∷ passed) next h =
     (subst (λ (n : ℕ). Going s at book next n) (omega arith) on, omega arith)
 
 -- A run on its way: the book of the elements passed, its layouts kept by their places, and plans of them.
-pub record OnWay (s : List ℕ) (at : ℕ) (numbers places steps : List ℕ) (known pos rows used : ℕ) : Type 0 where
+pub record OnWay (s : List ℕ) (at : ℕ) (numbers places titles steps : List ℕ) (t : Tally) (pos rows used : ℕ) : Type 0 where
   pub book : Book
   pub going : Going s at book pos rows
-  pub planned : Planned numbers steps known book
-  pub kept : Kept s numbers places known book
+  pub made : Made titles steps t book
+  pub kept : Kept s numbers places (t .known) book
   pub size : length (bookImage book) ≡ used
 
-pub way-start : (s : List ℕ) (at : ℕ) (numbers places steps : List ℕ) → at ≤ length s → length numbers ≡ 64 → length places ≡ 64 → length steps ≡ 4160
-    → OnWay s at numbers places steps 0 at 0 0
-way-start s at numbers places steps h n p l =
-    record { book = []; going = going-start s at h; planned = planned-none numbers steps n l; kept = kept-none s numbers places n p; size = ap length image-nil }
+pub way-start : (s : List ℕ) (at : ℕ) (numbers places titles steps : List ℕ) → at ≤ length s → length numbers ≡ 64 → length places ≡ 64 → length titles ≡ 64 → length steps ≡ 1216
+    → OnWay s at numbers places titles steps nothing at 0 0
+way-start s at numbers places titles steps h n p t l =
+    record { book = []; going = going-start s at h; made = made-none titles steps [] t l; kept = kept-none s numbers places n p; size = ap length image-nil }
 
-module _ (s : List ℕ) (short : length s ≤ 1048576) (o : Each Octet s) (at : ℕ) (numbers places steps : List ℕ) (known pos rows used : ℕ)
-    (w : OnWay s at numbers places steps known pos rows used) where
+module _ (s : List ℕ) (short : length s ≤ 1048576) (o : Each Octet s) (at : ℕ) (numbers places titles steps : List ℕ) (t : Tally) (pos rows used : ℕ)
+    (w : OnWay s at numbers places titles steps t pos rows used) where
   -- Behind rows that plans passed.
-  pub way-rows : (passed : List Passing) (next : ℕ) → Stand (w .book) s pos passed next → OnWay s at numbers places steps known next (rows + length passed) used
+  pub way-rows : (passed : List Passing) (next : ℕ) → Stand (w .book) s pos passed next → OnWay s at numbers places titles steps t next (rows + length passed) used
   way-rows passed next h =
-      record { book = w .book; going = going-rows s short o at (w .book) pos rows (w .going) passed next h .0; planned = w .planned; kept = w .kept; size = w .size }
+      record { book = w .book; going = going-rows s short o at (w .book) pos rows (w .going) passed next h .0; made = w .made; kept = w .kept; size = w .size }
 
   pub rows-further : (passed : List Passing) (next : ℕ) → Stand (w .book) s pos passed next → pos + length passed ≤ next
   rows-further passed next h = going-rows s short o at (w .book) pos rows (w .going) passed next h .1
@@ -117,28 +118,28 @@ module _ (s : List ℕ) (short : length s ≤ 1048576) (o : Each Octet s) (at : 
     on : Going s at (st .book) next (st .rows)
     on = going-on s short at (w .book) pos rows (w .going) st next e o more
 
-    planned-on : Planned numbers steps known (st .book)
-    planned-on = planned-within numbers steps known (w .book) (st .book) (element-keeps s o pos rows (w .book) st next e (w .going .good)) (w .planned)
+    made-on : Made titles steps t (st .book)
+    made-on = made-within titles steps t (w .book) (st .book) (element-keeps s o pos rows (w .book) st next e (w .going .good)) (w .made)
 
-    pub way-old : length (bookImage (st .book)) ≤ used → OnWay s at numbers places steps known next (st .rows) (length (bookImage (st .book)))
+    pub way-old : length (bookImage (st .book)) ≤ used → OnWay s at numbers places titles steps t next (st .rows) (length (bookImage (st .book)))
     way-old no-more =
         let same = element-old s o pos rows (w .book) st next e used (length (bookImage (st .book))) (w .size) refl no-more in
-        record { book = st .book; going = on; planned = planned-on; kept = subst (Kept s numbers places known) (sym same) (w .kept); size = refl }
+        record { book = st .book; going = on; made = made-on; kept = subst (Kept s numbers places (t .known)) (sym same) (w .kept); size = refl }
 
     module _ (n : New s o pos rows (w .book) st next e) where
-      pub room-new : known < 64
+      pub room-new : t .known < 64
       room-new = omega (arith, n .few, w .kept .count)
 
-      pub way-new : (numbers₁ places₁ steps₁ : List ℕ) → Keeps s (pos + 4) numbers steps known numbers₁ steps₁ → places₁ ≡ set places known (pos + 4)
-          → OnWay s at numbers₁ places₁ steps₁ (known + 1) next (st .rows) (length (bookImage (st .book)))
-      way-new numbers₁ places₁ steps₁ keeps placed =
-          let (numbered, plans) = keeps (n .layout) next (n .reads) in
+      pub way-new : (numbers₁ places₁ titles₁ steps₁ : List ℕ) (t₁ : Tally) → Keeps s (pos + 4) numbers titles steps t numbers₁ titles₁ steps₁ t₁ → places₁ ≡ set places (t .known) (pos + 4)
+          → OnWay s at numbers₁ places₁ titles₁ steps₁ t₁ next (st .rows) (length (bookImage (st .book)))
+      way-new numbers₁ places₁ titles₁ steps₁ t₁ keeps placed =
+          let (numbered, _, is, plans) = keeps (n .layout) next (n .reads) in
           record {
             book = st .book;
             going = on;
-            planned = plans (st .book) (found-new s o pos rows (w .book) st next e n) planned-on;
+            made = plans (st .book) (found-new s o pos rows (w .book) st next e n) made-on;
             kept =
-                rw (placed, numbered, n .is)
-                (kept-more s numbers places known (pos + 4) next (w .book) (n .layout) (w .kept) room-new (n .reads) (n .fresh));
+                rw (placed, numbered, is, grown-known t (n .layout), n .is)
+                (kept-more s numbers places (t .known) (pos + 4) next (w .book) (n .layout) (w .kept) room-new (n .reads) (n .fresh));
             size = refl;
           }

@@ -249,17 +249,27 @@ pub fn rows_from(doc: &[u8], at: usize) -> Counting
 {
     let mut numbers = [0u32; 64];
     let mut places = [0usize; 64];
-    let mut steps = [0u16; 4160];
-    let mut known: usize = 0;
+    let mut titles = [0u32; 64];
+    let mut steps = [0u16; 1216];
+    let mut tally = plans::nothing();
     let mut pos = at;
     let mut rows: usize = 0;
     let mut used: usize = 0;
     let mut first = [0u64; 1];
     loop {
-        let stretch = plans::quick_rows(doc, pos, &numbers, &steps, known, &mut first, 0, 1048576);
+        let stretch = plans::quick_rows(
+            doc,
+            pos,
+            &titles,
+            &steps,
+            tally.plans,
+            &mut first,
+            0,
+            1048576,
+        );
         pos = stretch.next;
         rows += stretch.count;
-        let looked = plans::look_up(&numbers, &places, known, number_behind(doc, pos));
+        let looked = plans::look_up(&numbers, &places, tally.known, number_behind(doc, pos));
         let one = element_over(doc, pos, rows, doc, looked, used);
         match one {
             Stepping::Refused(n, p) => {
@@ -272,16 +282,16 @@ pub fn rows_from(doc: &[u8], at: usize) -> Counting
                 }
                 if used < step.used {
                     let here = pos + 4;
-                    plans::keep(
+                    tally = plans::keep(
                         doc,
                         here,
                         here,
                         &mut numbers,
                         &mut places,
+                        &mut titles,
                         &mut steps,
-                        known,
+                        tally,
                     );
-                    known += 1;
                 }
                 pos = step.next;
                 rows = step.rows;

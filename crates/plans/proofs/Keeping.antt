@@ -1,13 +1,13 @@
 -- Plans kept: they go with every book that finds what theirs finds, one more is added behind them, a row passed by one is a row of the book, and one that its plan does not pass is refused.
 -- Layouts kept by their places: one more is added behind them too, and more octets behind theirs change nothing.
-use Prim.Native.Nat.{ℕ, _+_, _*_, _≤_, _<_}
+use Prim.Native.Nat.{ℕ, _+_, _≤_, _<_}
 use mathlib.Core.Path.{_≡_, refl, sym, ap, _∙_, subst}
 use mathlib.Core.List.{List, [], _∷_, _++_}
 use mathlib.Core.Bool.{Bool, true, false}
 use mathlib.Core.Option.{Option, some, none}
 use native.Mathlib.Omega.{arith}
 use lib.ListN.{length, getD, set, take, length-set, length-append}
-use lib.Seq.{getD-set-same, getD-set-other}
+use lib.Seq.{getD-set-same, getD-set-other, getD-take}
 use lib.Dec.{leb, ltb}
 use borrow.Author.Tests.{leb-true, leb-false, ltb-true, ltb-false}
 use Rattle.octets.specs.Reading.{ok, ends, isOk, be, document, stated, number}
@@ -20,55 +20,125 @@ use Rattle.layouts.proofs.Parts.{layout-extends}
 use Rattle.layouts.proofs.Finding.{Within, find-here, find-skip, find-nil, find-front, find-behind}
 use Rattle.rows.specs.Row.{Field, Row, fieldsIn, filled, valuesAt, named, rowAt}
 use Rattle.rows.proofs.Lengths.{values-open, values-past, values-stated, filled-ok, filled-short, row-cut}
-use Rattle.plans.specs.Plan.{planOf, Begins, Entry, Planned, Lacks, Kept}
+use Rattle.plans.specs.Plan.{planOf, planFor, Begins, Planned, Placed, Made, withPlan, without, holds, grown, nothing, Lacks, Kept}
+use Rattle.plans.specs.declared.Tally.{Tally}
 use Rattle.plans.specs.Answers.{Follows, Lasts}
 use Rattle.plans.specs.declared.Passed.{Passed}
 use Rattle.plans.specs.declared.Passed.the-variants as passed
-use Rattle.plans.proofs.Making.{begins-kept}
+use Rattle.plans.proofs.Making.{begins-kept, begins-behind}
 
 -- Before any plan.
-pub planned-none : (numbers steps : List ℕ) → length numbers ≡ 64 → length steps ≡ 4160 → Planned numbers steps 0 []
-planned-none numbers steps n s = record { few = omega arith; numbers-long = n; steps-long = s; entry = λ i h. absurd (omega arith) }
+pub made-none : (titles steps : List ℕ) (book : Book) → length titles ≡ 64 → length steps ≡ 1216 → Made titles steps nothing book
+made-none titles steps book n s =
+    record { few = omega arith; behind = omega arith; start = omega arith; end = omega arith; titles-long = n; steps-long = s; each = λ i h. absurd (omega arith) }
 
-pub planned-within : (numbers steps : List ℕ) (known : ℕ) (b c : Book) → Within b c → Planned numbers steps known b → Planned numbers steps known c
-planned-within numbers steps known b c w p =
-    record { few = p .few; numbers-long = p .numbers-long; steps-long = p .steps-long; entry = λ i h. go i (p .entry i h) }
+pub made-within : (titles steps : List ℕ) (t : Tally) (b c : Book) → Within b c → Made titles steps t b → Made titles steps t c
+made-within titles steps t b c w m =
+    record {
+      few = m .few;
+      behind = m .behind;
+      start = m .start;
+      end = m .end;
+      titles-long = m .titles-long;
+      steps-long = m .steps-long;
+      each = λ i h. go i (m .each i h);
+    }
   where
-    go : (i : ℕ) → Entry numbers steps i b → Entry numbers steps i c
-    go i e = record { layout = e .layout; found = w (getD numbers i 0) (e .layout) (e .found); short = e .short; stands = e .stands }
+    go : (i : ℕ) → Placed titles steps (t .filled) i b → Placed titles steps (t .filled) i c
+    go i p =
+        let e = p .entry in
+        record { entry = record { layout = e .layout; found = w (getD titles i 0) (e .layout) (e .found); stands = e .stands }; from = p .from; upto = p .upto }
 
--- One more.
-module _ (numbers steps more : List ℕ) (known number : ℕ) (book : Book) (l : Layout) (p : Planned numbers steps known book) (room : known < 64) where
-  pub planned-more : find (l .number) book ≡ some l → number ≡ l .number → length (planOf 0 (l .attributes)) ≤ 65 → Begins more (known * 65) (planOf 0 (l .attributes))
-      → take (known * 65) more ≡ take (known * 65) steps → length more ≡ 4160 → Planned (set numbers known number) more (known + 1) book
-  planned-more found is short stands kept long =
+-- What is made serves to pass rows.
+pub made-planned : {titles steps : List ℕ} {t : Tally} {book : Book} → Made titles steps t book → Planned titles steps (t .plans) book
+made-planned m = record { few = omega (arith, m .few, m .behind); titles-long = m .titles-long; steps-long = m .steps-long; entry = λ i h. m .each i h .entry }
+
+-- Every layout is counted, with a plan or without.
+pub grown-known : (t : Tally) (l : Layout) → grown t l .known ≡ t .known + 1
+grown-known t l = go (holds t l) refl
+  where
+    go : (b : Bool) → holds t l ≡ b → grown t l .known ≡ t .known + 1
+    go true e = rw e refl
+    go false e = rw e refl
+
+-- The plans behind a plan that was put, or for which there was no room.
+module _ (titles steps put : List ℕ) (t : Tally) (book : Book) (m : Made titles steps t book) (room : t .known < 64)
+    (kept : take (t .filled) put ≡ take (t .filled) steps) (long : length put ≡ 1216) where
+  old : (i : ℕ) → i < t .plans → Placed titles put (t .filled) i book
+  old i h =
+      let p = m .each i h in
+      let e = p .entry in
+      let here : getD put i 0 ≡ getD steps i 0 = sym (getD-take (t .filled) put i 0 (omega (arith, m .behind, m .start))) ∙ (ap (λ (xs : List ℕ). getD xs i 0) kept ∙ getD-take (t .filled) steps i 0 (omega (arith, m .behind, m .start))) in
       record {
-        few = omega arith;
-        numbers-long = length-set numbers known number ∙ p .numbers-long;
-        steps-long = long;
-        entry = λ i h. go i h (ltb i known) refl;
+        entry = record {
+          layout = e .layout;
+          found = e .found;
+          stands =
+              rw here
+              (begins-kept steps put (getD steps i 0) (t .filled) (planFor (e .layout)) (p .upto) (omega (arith, m .end, m .steps-long)) (long ∙ sym (m .steps-long)) kept (e .stands));
+        };
+        from = rw here (p .from);
+        upto = rw here (p .upto);
       }
-    where
-      same : getD (set numbers known number) known 0 ≡ l .number
-      same = getD-set-same numbers known number 0 (omega (arith, p .numbers-long)) ∙ is
 
-      last : (i : ℕ) → i ≡ known → Entry (set numbers known number) more i book
-      last i e =
-          subst (λ (k : ℕ). Entry (set numbers known number) more k book) (sym e)
-          (record { layout = l; found = ap (λ (n : ℕ). find n book) same ∙ found; short = short; stands = stands })
+  pub made-full : Made titles put (without t) book
+  made-full =
+      record { few = omega arith; behind = omega (arith, m .behind); start = m .start; end = m .end; titles-long = m .titles-long; steps-long = long; each = old }
 
-      old : (i : ℕ) → i < known → Entry numbers steps i book → Entry (set numbers known number) more i book
-      old i h e =
-          record {
+  module _ (l : Layout) (found : find (l .number) book ≡ some l) (stands : Begins put (t .filled) (planFor l)) where
+    abbrev titles₁ : List ℕ
+    titles₁ = set titles (t .plans) (l .number)
+
+    abbrev steps₁ : List ℕ
+    steps₁ = set put (t .plans) (t .filled)
+
+    abbrev filled₁ : ℕ
+    filled₁ = t .filled + length (planFor l)
+
+    last : (i : ℕ) → i ≡ t .plans → Placed titles₁ steps₁ filled₁ i book
+    last i e =
+        let title : getD titles₁ (t .plans) 0 ≡ l .number = getD-set-same titles (t .plans) (l .number) 0 (omega (arith, m .behind, m .titles-long)) in
+        let here : getD steps₁ (t .plans) 0 ≡ t .filled = getD-set-same put (t .plans) (t .filled) 0 (omega (arith, m .behind, long)) in
+        subst (λ (k : ℕ). Placed titles₁ steps₁ filled₁ k book) (sym e)
+        (record {
+          entry = record {
+            layout = l;
+            found = ap (λ (n : ℕ). find n book) title ∙ found;
+            stands = rw here (begins-behind put (t .filled) (t .plans) (t .filled) (planFor l) (omega (arith, m .behind, m .start)) stands);
+          };
+          from = rw here (m .start);
+          upto = rw here (omega arith);
+        })
+
+    before : (i : ℕ) → i < t .plans → Placed titles put (t .filled) i book → Placed titles₁ steps₁ filled₁ i book
+    before i h p =
+        let e = p .entry in
+        let here : getD steps₁ i 0 ≡ getD put i 0 = getD-set-other put (t .plans) i (t .filled) 0 (λ z. omega arith) in
+        record {
+          entry = record {
             layout = e .layout;
-            found = ap (λ (n : ℕ). find n book) (getD-set-other numbers known i number 0 (λ z. omega arith)) ∙ e .found;
-            short = e .short;
-            stands = begins-kept steps more (i * 65) (known * 65) (planOf 0 (e .layout .attributes)) (omega (arith, e .short)) (omega (arith, p .steps-long)) (long ∙ sym (p .steps-long)) kept (e .stands);
-          }
+            found = ap (λ (n : ℕ). find n book) (getD-set-other titles (t .plans) i (l .number) 0 (λ z. omega arith)) ∙ e .found;
+            stands = rw here (begins-behind put (getD put i 0) (t .plans) (t .filled) (planFor (e .layout)) (omega (arith, m .behind, p .from)) (e .stands));
+          };
+          from = rw here (p .from);
+          upto = rw here (omega (arith, p .upto));
+        }
 
-      go : (i : ℕ) → i < known + 1 → (b : Bool) → ltb i known ≡ b → Entry (set numbers known number) more i book
-      go i h true t = let m = ltb-true i known t in old i m (p .entry i m)
-      go i h false t = let m = ltb-false i known t in last i (omega arith)
+    pub made-more : Made titles₁ steps₁ (withPlan t filled₁) book
+    made-more =
+        record {
+          few = omega arith;
+          behind = omega (arith, m .behind);
+          start = omega (arith, m .start);
+          end = omega (arith, stands .inside, long);
+          titles-long = length-set titles (t .plans) (l .number) ∙ m .titles-long;
+          steps-long = length-set put (t .plans) (t .filled) ∙ long;
+          each = λ i h. go i h (ltb i (t .plans)) refl;
+        }
+      where
+        go : (i : ℕ) → i < t .plans + 1 → (b : Bool) → ltb i (t .plans) ≡ b → Placed titles₁ steps₁ filled₁ i book
+        go i h true e = let k = ltb-true i (t .plans) e in before i k (old i k)
+        go i h false e = let k = ltb-false i (t .plans) e in last i (omega arith)
 
 -- One number more that is another.
 pub lacks-more : (numbers : List ℕ) (known n : ℕ) → Lacks numbers known n → (getD numbers known 0 ≡ n → ⊥) → Lacks numbers (known + 1) n

@@ -2,11 +2,13 @@
 use Prim.Native.Nat.{ℕ, suc, _+_, _-_, _%_, _≤_, _<_}
 use mathlib.Core.Path.{_≡_, refl, sym, ap, _∙_, subst}
 use mathlib.Core.List.{List, [], _∷_, _++_, append-assoc}
+use mathlib.Core.Bool.{Bool, true, false}
 use native.Mathlib.Omega.{arith}
 use lib.ListN.{length, set, take, drop, length-set, length-append}
-use lib.Seq.{take-take, take-add, take-set-le, drop-at, length-take-le, getD-set-same}
+use lib.Seq.{take-take, take-add, take-set-le, drop-at, drop-set-lt, length-take-le, getD-set-same}
+use lib.Dec.{eqb}
 use borrow.Author.Tests.{eq-eqb, ne-eqb}
-use Rattle.octets.specs.Reading.{ok, part, run}
+use Rattle.octets.specs.Reading.{ok, part, run, choose}
 use Rattle.octets.proofs.Spans.{Spans, join, one-spans}
 use Rattle.octets.proofs.Inverse.{after, ok-value, ok-place}
 use Rattle.kinds.specs.Kinds.{formOf}
@@ -27,6 +29,12 @@ part-kept s t at n m h k l e =
 pub begins-kept : (s t : List ℕ) (at m : ℕ) (xs : List ℕ) → at + length xs ≤ m → m ≤ length s → length t ≡ length s → take m t ≡ take m s → Begins s at xs → Begins t at xs
 begins-kept s t at m xs h k l e b = record { inside = omega (arith, b .inside, l); is = part-kept s t at (length xs) m h k l e ∙ b .is }
 
+-- A store before what stands.
+pub begins-behind : (s : List ℕ) (at j x : ℕ) (xs : List ℕ) → j < at → Begins s at xs → Begins (set s j x) at xs
+unfolding part
+begins-behind s at j x xs h b =
+    record { inside = simp length-set (b .inside); is = ap (take (length xs)) (drop-set-lt at s j x h) ∙ b .is }
+
 -- A store right behind what stands.
 pub begins-set : (s : List ℕ) (at j x : ℕ) (xs : List ℕ) → Begins s at xs → j ≡ at + length xs → j < length s → Begins (set s j x) at (xs ++ x ∷ [])
 begins-set s at j x xs b e h =
@@ -36,6 +44,17 @@ begins-set s at j x xs b e h =
     let one : Spans t (length t) j (j + 1) (x ∷ []) = subst (λ (y : ℕ). Spans t (length t) j (j + 1) (y ∷ [])) (getD-set-same s j x 0 h) (one-spans j (omega arith) (omega arith)) in
     spans-begins t at (j + 1) (xs ++ x ∷ [])
     (join (begins-spans t at xs old) (subst (λ (k : ℕ). Spans t (length t) k (j + 1) (x ∷ [])) e one))
+
+-- No plan is without a step.
+plan-some : (sum : ℕ) (xs : List Attribute) → 0 < length (planOf sum xs)
+unfolding planOf
+plan-some sum [] = omega arith
+plan-some sum (a ∷ others) = go (eqb (mark (formOf (a .kind .basic)) % 4) 0) (plan-some (sum + mark (formOf (a .kind .basic))) others)
+  where
+    go : (b : Bool) → 0 < length (planOf (sum + mark (formOf (a .kind .basic))) others)
+        → 0 < length (choose b (λ _. planOf (sum + mark (formOf (a .kind .basic))) others) (λ _. (sum + mark (formOf (a .kind .basic))) ∷ planOf 0 others))
+    go true h = h
+    go false h = omega arith
 
 -- The steps made before an attribute, and that these with the others' are the plan of all.
 pub record Making (doc steps : List ℕ) (xs : List Attribute) (last from k place j sum : ℕ) : Type 0 where
@@ -87,13 +106,18 @@ module _ (doc : List ℕ) (xs : List Attribute) (last from : ℕ) where
           };
         }
 
+  -- A plan with a step that the steps do not hold.
+  pub making-full : (steps : List ℕ) (k place j sum : ℕ) → Making doc steps xs last from k place j sum → 1216 ≤ j → 1216 < from + length (planOf 0 xs)
+  making-full steps k place j sum m h =
+      omega (arith, m .here, ap length (m .split), length-append (m .made) (planOf sum (m .others)), plan-some sum (m .others))
+
   -- The last step.
   pub making-last : (steps : List ℕ) (place j sum : ℕ) → Making doc steps xs last from 0 place j sum → j < length steps
-      → (length (planOf 0 xs) ≡ j + 1 - from) × Begins (set steps j sum) from (planOf 0 xs)
+      → (j + 1 ≡ from + length (planOf 0 xs)) × Begins (set steps j sum) from (planOf 0 xs)
   unfolding run planOf
   making-last steps place j sum m h =
       let none : m .others ≡ [] = ok-value (m .reads) refl in
       let all : planOf 0 xs ≡ m .made ++ sum ∷ [] = m .split ∙ ap (λ (ys : List Attribute). m .made ++ planOf sum ys) none in (
-        ap length all ∙ (length-append (m .made) (sum ∷ []) ∙ omega (arith, m .here)),
+        omega (arith, m .here, ap length all, length-append (m .made) (sum ∷ [])),
         subst (Begins (set steps j sum) from) (sym all) (begins-set steps from j sum (m .made) (m .stands) (m .here) h),
       )

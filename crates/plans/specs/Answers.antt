@@ -3,7 +3,7 @@ use Prim.Native.Nat.{ℕ, _+_, _≤_, _<_}
 use mathlib.Core.Path.{_≡_}
 use mathlib.Core.List.{List}
 use mathlib.Core.Bool.{false}
-use lib.ListN.{getD}
+use lib.ListN.{length, getD}
 use lib.Dec.{eqb}
 use Rattle.octets.specs.Reading.{ok, ends, isOk, choose, be, Room, reach, number}
 use Rattle.kinds.specs.declared.Form.{Form}
@@ -12,10 +12,17 @@ use Rattle.layouts.specs.Layout.{Attribute}
 use Rattle.layouts.specs.Book.{Book}
 use Rattle.rows.specs.Row.{Row, valueIn, fieldsIn, valuesAt, rowAt}
 use Rattle.plans.specs.Plan.{planOf, Begins}
+use Rattle.plans.specs.declared.Put.{Put}
+use Rattle.plans.specs.declared.Put.the-variants as put
 use Rattle.plans.specs.declared.Passed.{Passed}
 use Rattle.plans.specs.declared.Passed.the-variants as passed
 use Rattle.plans.specs.declared.Quick.{Quick}
 use Rattle.plans.specs.declared.Quick.the-variants as quick
+
+-- A plan was put into the steps from an index on, or they do not hold it.
+abbrev pub Puts : List ℕ → ℕ → List ℕ → Put → Type 0
+Puts steps from plan (put.To end) = (end ≡ from + length plan) × Begins steps from plan
+Puts steps from plan put.Full = 1216 < from + length plan
 
 -- The form of the value that closes a step.
 abbrev pub closing : ℕ → Form

@@ -10,8 +10,8 @@ ghost use Rattle.layouts.specs.Layout.{Attribute, attributeAt, layoutAt};
 ghost use Rattle.layouts.specs.Book.{Book};
 ghost use Rattle.layouts.specs.Answers.{Looks};
 ghost use Rattle.rows.specs.Answers.{Slim, Attributes};
-ghost use Rattle.plans.specs.Plan.{mark, planOf, Begins, Plan, Planned, Plans, Keeps, Lacks, Kept, Shelf, Shelved};
-ghost use Rattle.plans.specs.Answers.{Closes, Follows, Lasts, Refuses, Passes};
+ghost use Rattle.plans.specs.Plan.{mark, planOf, Plan, Planned, Plans, Made, tallied, shelved, nothing, Keeps, Lacks, Kept, Shelf, Shelved};
+ghost use Rattle.plans.specs.Answers.{Puts, Closes, Follows, Lasts, Refuses, Passes};
 ghost use Rattle.plans.specs.Rows.{rowWord, Passage};
 use kinds::Form;
 use layouts::Looked;
@@ -34,6 +34,19 @@ pub struct Stretch {
     pub count: usize,
 }
 
+// So many layouts are kept; so many of them have plans, which end where so many steps are filled.
+pub struct Tally {
+    pub known: usize,
+    pub plans: usize,
+    pub filled: usize,
+}
+
+// The index behind a plan, or that the steps do not hold it.
+pub enum Put {
+    To(usize),
+    Full,
+}
+
 fn wide(x: u16) -> usize
     ensures { λ r. ⌜ (r ≡ x) × (r < 65536) ⌝ }
 {
@@ -53,16 +66,16 @@ fn mark_of(form: Form) -> u16
     }
 }
 
-// Puts the plan of so many attributes, which stand at a place of a document, into the steps from an index on.
+// Puts the plan of so many attributes, which stand at a place of a document, into the steps from an index on, if they hold it.
 fn put_plan<'d, 'p>(
     doc: &'d [u8],
     first: usize,
     count: u32,
-    steps: &'p mut [u16; 4160],
+    steps: &'p mut [u16; 1216],
     from: usize,
-)
-    requires { ⌜ (length (now doc) ≤ 1048576) × (count ≤ 64) × (from + 65 ≤ 4160) × (length (now steps) ≡ 4160) × Attributes (now doc) count first ⌝ }
-    ensures { λ _. ⌜ ((xs : List Attribute) (last : ℕ) → run (attributeAt (now (doc .entry))) count first ≡ ok xs last → (length (planOf 0 xs) ≤ 65) × Begins (now (steps .exit)) from (planOf 0 xs)) × (take from (now (steps .exit)) ≡ take from (now (steps .entry))) × (length (now (steps .exit)) ≡ 4160) ⌝ }
+) -> Put
+    requires { ⌜ (length (now doc) ≤ 1048576) × (count ≤ 64) × (from ≤ 1216) × (length (now steps) ≡ 1216) × Attributes (now doc) count first ⌝ }
+    ensures { λ r. ⌜ ((xs : List Attribute) (last : ℕ) → run (attributeAt (now (doc .entry))) count first ≡ ok xs last → Puts (now (steps .exit)) from (planOf 0 xs) r) × (take from (now (steps .exit)) ≡ take from (now (steps .entry))) × (length (now (steps .exit)) ≡ 1216) ⌝ }
 {
     let mut place = first;
     let mut j = from;
@@ -77,12 +90,19 @@ fn put_plan<'d, 'p>(
         if more % 4 == 0 {
             sum += more;
         } else {
+            if 1216 <= j {
+                return Put::Full;
+            }
             steps[j] = sum + more;
             j += 1;
             sum = 0;
         }
     }
+    if 1216 <= j {
+        return Put::Full;
+    }
     steps[j] = sum;
+    Put::To(j + 1)
 }
 
 // The place behind the value that closes a step.
@@ -114,7 +134,7 @@ fn follow<'d, 'p>(
     doc: &'d [u8],
     at: usize,
     end: usize,
-    steps: &'p [u16; 4160],
+    steps: &'p [u16; 1216],
     from: usize,
 ) -> Passed
     requires { ⌜ (at ≤ end) × (end ≤ length (now doc)) × (length (now doc) ≤ 1048576) × Plan (now steps) from ⌝ }
@@ -188,7 +208,7 @@ pub fn look_up<'n, 'p>(
 }
 
 // The place behind a row's values, from its length on.
-fn values_to<'d, 'p>(doc: &'d [u8], at: usize, steps: &'p [u16; 4160], from: usize) -> Passed
+fn values_to<'d, 'p>(doc: &'d [u8], at: usize, steps: &'p [u16; 1216], from: usize) -> Passed
     requires { ⌜ (at + 4 ≤ length (now doc)) × (length (now doc) ≤ 1048576) × Plan (now steps) from ⌝ }
     ensures { λ r. ⌜ Lasts (now (doc .entry)) at (now (steps .entry)) from r ⌝ }
 {
@@ -216,13 +236,13 @@ fn values_to<'d, 'p>(doc: &'d [u8], at: usize, steps: &'p [u16; 4160], from: usi
 fn quick_row<'d, 'n, 'p>(
     doc: &'d [u8],
     at: usize,
-    numbers: &'n [u32; 64],
-    steps: &'p [u16; 4160],
-    known: usize,
+    titles: &'n [u32; 64],
+    steps: &'p [u16; 1216],
+    plans: usize,
     last: usize,
 ) -> Quick
-    requires { ⌜ (at ≤ length (now doc)) × (length (now doc) ≤ 1048576) × Plans (now numbers) (now steps) known ⌝ }
-    ensures { λ r. ⌜ ((book : Book) → Planned (now (numbers .entry)) (now (steps .entry)) known book → Passes (now (doc .entry)) at book (now (numbers .entry)) known r) ⌝ }
+    requires { ⌜ (at ≤ length (now doc)) × (length (now doc) ≤ 1048576) × Plans (now titles) (now steps) plans ⌝ }
+    ensures { λ r. ⌜ ((book : Book) → Planned (now (titles .entry)) (now (steps .entry)) plans book → Passes (now (doc .entry)) at book (now (titles .entry)) plans r) ⌝ }
 {
     if doc.len() < at + 12 {
         return Quick::Unsure;
@@ -230,11 +250,11 @@ fn quick_row<'d, 'n, 'p>(
     if octets::u32_at(doc, at) != 2 {
         return Quick::Unsure;
     }
-    let i = index_of(numbers, known, last, octets::u32_at(doc, at + 4));
-    if known <= i {
+    let i = index_of(titles, plans, last, octets::u32_at(doc, at + 4));
+    if plans <= i {
         return Quick::Unsure;
     }
-    let passed = values_to(doc, at + 8, steps, i * 65);
+    let passed = values_to(doc, at + 8, steps, wide(steps[i]));
     match passed {
         Passed::Unsure => Quick::Unsure,
         Passed::To(next) => Quick::Row(next, i),
@@ -265,21 +285,21 @@ fn put_word(words: &mut [u64], n: usize, word: u64)
 pub fn quick_rows<'d, 'n, 'p, 'w>(
     doc: &'d [u8],
     at: usize,
-    numbers: &'n [u32; 64],
-    steps: &'p [u16; 4160],
-    known: usize,
+    titles: &'n [u32; 64],
+    steps: &'p [u16; 1216],
+    plans: usize,
     words: &'w mut [u64],
     from: usize,
     to: usize,
 ) -> Stretch
-    requires { ⌜ (at ≤ length (now doc)) × (length (now doc) ≤ 1048576) × (from ≤ to) × Plans (now numbers) (now steps) known ⌝ }
-    ensures { λ r. ⌜ (r .next ≤ length (now (doc .entry))) × (r .count ≤ to) × ((book : Book) → Planned (now (numbers .entry)) (now (steps .entry)) known book → Passage (now (doc .entry)) at book from (now (words .entry)) (now (words .exit)) r × (r .count < to → Refuses (now (doc .entry)) (r .next) book (now (numbers .entry)) known)) ⌝ }
+    requires { ⌜ (at ≤ length (now doc)) × (length (now doc) ≤ 1048576) × (from ≤ to) × Plans (now titles) (now steps) plans ⌝ }
+    ensures { λ r. ⌜ (r .next ≤ length (now (doc .entry))) × (r .count ≤ to) × ((book : Book) → Planned (now (titles .entry)) (now (steps .entry)) plans book → Passage (now (doc .entry)) at book from (now (words .entry)) (now (words .exit)) r × (r .count < to → Refuses (now (doc .entry)) (r .next) book (now (titles .entry)) plans)) ⌝ }
 {
     let mut pos = at;
     let mut n = from;
     let mut last: usize = 0;
     while n < to {
-        let quick = quick_row(doc, pos, numbers, steps, known, last);
+        let quick = quick_row(doc, pos, titles, steps, plans, last);
         match quick {
             Quick::Unsure => {
                 return Stretch {
@@ -289,7 +309,7 @@ pub fn quick_rows<'d, 'n, 'p, 'w>(
             }
             Quick::Row(next, i) => {
                 let stated = octets::u32_at(doc, pos + 8) < 0xffff_ffff;
-                put_word(words, n, row_word(numbers[i], stated, next));
+                put_word(words, n, row_word(titles[i], stated, next));
                 n += 1;
                 pos = next;
                 last = i;
@@ -302,42 +322,74 @@ pub fn quick_rows<'d, 'n, 'p, 'w>(
     }
 }
 
-// Keeps one more layout, which stands at a place of a document: its number, where it is to be looked for, and its plan.
-pub fn keep<'d, 'n, 'l, 'p>(
+// Before any layout is kept: plans are put behind the steps that say where they stand.
+pub fn nothing() -> Tally
+    ensures { λ r. ⌜ r ≡ nothing ⌝ }
+{
+    Tally {
+        known: 0,
+        plans: 0,
+        filled: 64,
+    }
+}
+
+// Keeps one more layout, which stands at a place of a document: its number, where it is to be looked for, and its plan if the steps hold it.
+pub fn keep<'d, 'n, 'l, 't, 'p>(
     doc: &'d [u8],
     at: usize,
     place: usize,
     numbers: &'n mut [u32; 64],
     places: &'l mut [usize; 64],
-    steps: &'p mut [u16; 4160],
-    known: usize,
-)
-    requires { ⌜ (length (now doc) ≤ 1048576) × (isOk (layoutAt (now doc) at) ≡ true) × (length (now steps) ≡ 4160) × (known < 64) ⌝ }
-    ensures { λ _. ⌜ Keeps (now (doc .entry)) at (now (numbers .entry)) (now (steps .entry)) known (now (numbers .exit)) (now (steps .exit)) × (now (places .exit) ≡ set (now (places .entry)) known place) ⌝ }
+    titles: &'t mut [u32; 64],
+    steps: &'p mut [u16; 1216],
+    tally: Tally,
+) -> Tally
+    requires { ⌜ (length (now doc) ≤ 1048576) × (isOk (layoutAt (now doc) at) ≡ true) × (length (now steps) ≡ 1216) × (tally .plans ≤ tally .known) × (tally .known < 64) × (64 ≤ tally .filled) × (tally .filled ≤ 1216) ⌝ }
+    ensures { λ r. ⌜ Keeps (now (doc .entry)) at (now (numbers .entry)) (now (titles .entry)) (now (steps .entry)) tally (now (numbers .exit)) (now (titles .exit)) (now (steps .exit)) r × (now (places .exit) ≡ set (now (places .entry)) (tally .known) place) ⌝ }
 {
+    let known = tally.known;
+    let plans = tally.plans;
+    let filled = tally.filled;
+    let number = layouts::layout_number(doc, at);
     let counted = layouts::attributes_at(doc, at);
     let count = octets::u32_at(doc, counted);
-    numbers[known] = layouts::layout_number(doc, at);
+    numbers[known] = number;
     places[known] = place;
-    put_plan(doc, counted + 4, count, steps, known * 65);
+    let put = put_plan(doc, counted + 4, count, steps, filled);
+    match put {
+        Put::Full => Tally {
+            known: known + 1,
+            plans,
+            filled,
+        },
+        Put::To(end) => {
+            titles[plans] = number;
+            steps[plans] = filled as u16;
+            Tally {
+                known: known + 1,
+                plans: plans + 1,
+                filled: end,
+            }
+        }
+    }
 }
 
-// Keeps all layouts that octets hold by their places there, and makes their plans; how many there are.
-pub fn index<'s, 'n, 'l, 'p>(
+// Keeps all layouts that octets hold by their places there, and makes plans of them as far as the steps hold these.
+pub fn index<'s, 'n, 'l, 't, 'p>(
     s: &'s [u8],
     numbers: &'n mut [u32; 64],
     places: &'l mut [usize; 64],
-    steps: &'p mut [u16; 4160],
-) -> usize
-    requires { ⌜ (length (now s) ≤ 1048576) × (length (now numbers) ≡ 64) × (length (now places) ≡ 64) × (length (now steps) ≡ 4160) × Shelved (now s) ⌝ }
-    ensures { λ r. ⌜ ((book : Book) → Shelf (now (s .entry)) book → Kept (now (s .entry)) (now (numbers .exit)) (now (places .exit)) r book × Planned (now (numbers .exit)) (now (steps .exit)) r book) ⌝ }
+    titles: &'t mut [u32; 64],
+    steps: &'p mut [u16; 1216],
+) -> Tally
+    requires { ⌜ (length (now s) ≤ 1048576) × (length (now numbers) ≡ 64) × (length (now places) ≡ 64) × (length (now titles) ≡ 64) × (length (now steps) ≡ 1216) × Shelved (now s) ⌝ }
+    ensures { λ r. ⌜ ((book : Book) → Shelf (now (s .entry)) book → Kept (now (s .entry)) (now (numbers .exit)) (now (places .exit)) (r .known) book × Made (now (titles .exit)) (now (steps .exit)) r book × (r ≡ tallied nothing book) × (now (titles .exit) ≡ shelved (now (titles .entry)) nothing book)) ⌝ }
 {
     let mut pos = 0;
-    let mut known: usize = 0;
+    let mut tally = nothing();
     while pos < s.len() {
-        keep(s, pos, pos, numbers, places, steps, known);
-        known += 1;
+        tally = keep(s, pos, pos, numbers, places, titles, steps, tally);
         pos = layouts::layout_skip(s, pos);
     }
-    known
+    tally
 }

@@ -14,7 +14,8 @@ use Rattle.layouts.proofs.Books.{Lent, image-snoc}
 use Rattle.layouts.proofs.Layouts.{layout-back, layout-forth}
 use Rattle.layouts.proofs.Parts.{layout-number}
 use Rattle.layouts.proofs.Walks.{lent-book, book-image}
-use Rattle.plans.specs.Plan.{Planned, Kept}
+use Rattle.plans.specs.Plan.{Made, Kept}
+use Rattle.plans.specs.declared.Tally.{Tally}
 use Rattle.plans.proofs.Keeping.{kept-extends, kept-more}
 use Rattle.elements.specs.Element.{Stepped, elementAt}
 use Rattle.elements.specs.Steps.{holding}
@@ -23,22 +24,22 @@ use Rattle.elements.proofs.Quickly.{New}
 use Rattle.runs.specs.Answers.{Carried}
 use Rattle.runs.proofs.Steps.{Taken, held}
 
-module _ (entry : List ℕ) (used : ℕ) (o : Each Octet entry) (is : IsBook entry used) (numbers places steps : List ℕ) (known : ℕ) (c : Carried entry used numbers places steps known) where
+module _ (entry : List ℕ) (used : ℕ) (o : Each Octet entry) (is : IsBook entry used) (numbers places titles steps : List ℕ) (tally : Tally) (c : Carried entry used numbers places titles steps tally) where
   abbrev book : Book
   book = bookIn entry used
 
   lent : Lent entry used book
   lent = lent-book entry used o is
 
-  pub room-new : length book < 64 → known < 64
+  pub room-new : length book < 64 → tally .known < 64
   room-new h = omega (arith, c .kept .count)
 
   -- A book that did not grow.
-  pub carried-same : (exit : List ℕ) (filled : ℕ) (more : Book) → more ≡ book → exit ≡ holding more entry → filled ≡ length (bookImage more) → Carried exit filled numbers places steps known
+  pub carried-same : (exit : List ℕ) (filled : ℕ) (more : Book) → more ≡ book → exit ≡ holding more entry → filled ≡ length (bookImage more) → Carried exit filled numbers places titles steps tally
   carried-same exit filled more same left fills =
       let octets : exit ≡ entry = left ∙ (ap (λ (b : Book). holding b entry) same ∙ holding-same entry used o is) in
       let count : filled ≡ used = fills ∙ (ap (λ (b : Book). length (bookImage b)) same ∙ lent .size) in
-      subst (λ (xs : List ℕ). Carried xs filled numbers places steps known) (sym octets) (subst (λ (n : ℕ). Carried entry n numbers places steps known) (sym count) c)
+      subst (λ (xs : List ℕ). Carried xs filled numbers places titles steps tally) (sym octets) (subst (λ (n : ℕ). Carried entry n numbers places titles steps tally) (sym count) c)
 
   -- A book that grew by a layout.
   module _ (s : List ℕ) (so : Each Octet s) (at rows : ℕ) (st : Stepped) (next : ℕ) (e : elementAt s at rows book ≡ ok st next) (n : New s so at rows book st next e)
@@ -62,15 +63,15 @@ module _ (entry : List ℕ) (used : ℕ) (o : Each Octet entry) (is : IsBook ent
         (subst (λ (xs : List ℕ). layoutAt (front ++ xs) (length front) ≡ ok (n .layout) (length front + length (layoutImage (n .layout)))) (append-nil (layoutImage (n .layout)))
         (layout-back (n .layout) front [] good))
 
-    pub carried-new : (exit : List ℕ) (filled : ℕ) → exit ≡ holding (st .book) entry → filled ≡ length (bookImage (st .book)) → (numbers₁ places₁ steps₁ : List ℕ)
-        → Planned numbers₁ steps₁ (known + 1) (st .book) → numbers₁ ≡ set numbers known (n .layout .number) → places₁ ≡ set places known used
-        → Carried exit filled numbers₁ places₁ steps₁ (known + 1)
-    carried-new exit filled left fills numbers₁ places₁ steps₁ planned numbered placed =
-        let kept : Kept (front ++ layoutImage (n .layout)) (set numbers known (n .layout .number)) (set places known used) (known + 1) (book ++ n .layout ∷ []) =
-        kept-more (front ++ layoutImage (n .layout)) numbers places known used (used + length (layoutImage (n .layout))) book (n .layout)
-        (kept-extends front (layoutImage (n .layout)) numbers places known book (each-take Octet used entry o) (c .kept)) (room-new (n .few)) reads (n .fresh) in
+    pub carried-new : (exit : List ℕ) (filled : ℕ) → exit ≡ holding (st .book) entry → filled ≡ length (bookImage (st .book)) → (numbers₁ places₁ titles₁ steps₁ : List ℕ) (tally₁ : Tally)
+        → Made titles₁ steps₁ tally₁ (st .book) → numbers₁ ≡ set numbers (tally .known) (n .layout .number) → places₁ ≡ set places (tally .known) used → tally₁ .known ≡ tally .known + 1
+        → Carried exit filled numbers₁ places₁ titles₁ steps₁ tally₁
+    carried-new exit filled left fills numbers₁ places₁ titles₁ steps₁ tally₁ made numbered placed counted =
+        let kept : Kept (front ++ layoutImage (n .layout)) (set numbers (tally .known) (n .layout .number)) (set places (tally .known) used) (tally .known + 1) (book ++ n .layout ∷ []) =
+        kept-more (front ++ layoutImage (n .layout)) numbers places (tally .known) used (used + length (layoutImage (n .layout))) book (n .layout)
+        (kept-extends front (layoutImage (n .layout)) numbers places (tally .known) book (each-take Octet used entry o) (c .kept)) (room-new (n .few)) reads (n .fresh) in
         rw (left, fills, numbered, placed)
         (record {
-          kept = rw (grown, t .book, n .is) kept;
-          planned = rw (t .book) (rw (← numbered) planned);
+          kept = rw (counted, grown, t .book, n .is) kept;
+          made = rw (t .book) made;
         })

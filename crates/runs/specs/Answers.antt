@@ -6,7 +6,8 @@ use mathlib.Core.Bool.{Bool, true, false}
 use lib.ListN.{length, take}
 use Rattle.octets.specs.Reading.{Read, ok, no}
 use Rattle.layouts.specs.Book.{bookImage, bookIn}
-use Rattle.plans.specs.Plan.{Planned, Kept}
+use Rattle.plans.specs.Plan.{Made, Kept}
+use Rattle.plans.specs.declared.Tally.{Tally}
 use Rattle.plans.specs.Rows.{laid}
 use Rattle.elements.specs.Element.{Item, item, Stepped}
 use Rattle.elements.specs.Steps.{holding, stepAt}
@@ -19,12 +20,12 @@ use Rattle.runs.specs.declared.Running.{Running}
 use Rattle.runs.specs.declared.Running.the-variants as running
 
 -- What a run carries with the used octets of a book: its layouts by their numbers and by their places there, and their plans.
-pub record Carried (octets : List ℕ) (used : ℕ) (numbers places steps : List ℕ) (known : ℕ) : Type 0 where
-  pub kept : Kept (take used octets) numbers places known (bookIn octets used)
-  pub planned : Planned numbers steps known (bookIn octets used)
+pub record Carried (octets : List ℕ) (used : ℕ) (numbers places titles steps : List ℕ) (t : Tally) : Type 0 where
+  pub kept : Kept (take used octets) numbers places (t .known) (bookIn octets used)
+  pub made : Made titles steps t (bookIn octets used)
 
 -- An item that the step at a place reads, with what is known of it behind the step.
-pub record Goes (s : List ℕ) (at rows : ℕ) (entry : List ℕ) (used : ℕ) (exit numbers places steps : List ℕ) (g : Gone) : Type 0 where
+pub record Goes (s : List ℕ) (at rows : ℕ) (entry : List ℕ) (used : ℕ) (exit numbers places titles steps : List ℕ) (g : Gone) : Type 0 where
   pub stepped : Stepped
   pub which : Item
   pub reads : stepAt s at rows entry used ≡ ok stepped (g .next)
@@ -33,7 +34,7 @@ pub record Goes (s : List ℕ) (at rows : ℕ) (entry : List ℕ) (used : ℕ) (
   pub counts : g .rows ≡ stepped .rows
   pub fills : g .used ≡ length (bookImage (stepped .book))
   pub left : exit ≡ holding (stepped .book) entry
-  pub carried : Carried exit (g .used) numbers places steps (g .known)
+  pub carried : Carried exit (g .used) numbers places titles steps (g .tally)
 
 -- Whether a step reads an item.
 abbrev pub isItem : Read Stepped → Bool
@@ -47,10 +48,10 @@ pub record Ends (s : List ℕ) (at rows : ℕ) (entry : List ℕ) (used : ℕ) :
   pub no-item : isItem (stepAt s at rows entry used) ≡ false
 
 -- One turn of a run: the item of the step; or the end or the step's refusal, and then all is as it was.
-abbrev pub Turns : List ℕ → ℕ → ℕ → List ℕ → ℕ → List ℕ → List ℕ → List ℕ → List ℕ → Turn → Type 0
-Turns s at rows entry used exit numbers places steps (turn.Item g) = Goes s at rows entry used exit numbers places steps g
-Turns s at rows entry used exit numbers places steps turn.End = Ends s at rows entry used × (exit ≡ entry)
-Turns s at rows entry used exit numbers places steps (turn.Refused n p) = (stepAt s at rows entry used ≡ no n p) × (exit ≡ entry)
+abbrev pub Turns : List ℕ → ℕ → ℕ → List ℕ → ℕ → List ℕ → List ℕ → List ℕ → List ℕ → List ℕ → Turn → Type 0
+Turns s at rows entry used exit numbers places titles steps (turn.Item g) = Goes s at rows entry used exit numbers places titles steps g
+Turns s at rows entry used exit numbers places titles steps turn.End = Ends s at rows entry used × (exit ≡ entry)
+Turns s at rows entry used exit numbers places titles steps (turn.Refused n p) = (stepAt s at rows entry used ≡ no n p) × (exit ≡ entry)
 
 -- How many items were passed, and where the run stands then.
 abbrev pub wentOf : Passed → Went

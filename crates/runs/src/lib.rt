@@ -8,14 +8,15 @@ ghost use Rattle.runs.specs.Runs.{layoutWord, runAsked, reachOf};
 ghost use Rattle.runs.specs.Answers.{Carried, Turns, Ran, runTells, bookLeft, wordsLeft};
 use elements::Met;
 use elements::Stepping;
+use plans::Tally;
 
-// One step of a run: its item's word, the next place, the rows passed, the octets of the book that are used, and how many layouts it has.
+// One step of a run: its item's word, the next place, the rows passed, the octets of the book that are used, and the tally of its layouts.
 pub struct Gone {
     pub word: u64,
     pub next: usize,
     pub rows: usize,
     pub used: usize,
-    pub known: usize,
+    pub tally: Tally,
 }
 
 // What stands at a place: an item, the end, or what the step there refuses.
@@ -47,7 +48,7 @@ fn layout_word(number: u32, next: usize) -> u64
 }
 
 // The item at a place by the exact reader; a layout that the book grows by is kept by its place there, and gets a plan.
-fn exact_item<'d, 'b, 'n, 'l, 'p>(
+fn exact_item<'d, 'b, 'n, 'l, 't, 'p>(
     doc: &'d [u8],
     at: usize,
     rows: usize,
@@ -55,13 +56,19 @@ fn exact_item<'d, 'b, 'n, 'l, 'p>(
     used: usize,
     numbers: &'n mut [u32; 64],
     places: &'l mut [usize; 64],
-    steps: &'p mut [u16; 4160],
-    known: usize,
+    titles: &'t mut [u32; 64],
+    steps: &'p mut [u16; 1216],
+    tally: Tally,
 ) -> Turn
-    requires { ⌜ (at ≤ length (now doc)) × (length (now doc) ≤ 1048576) × (rows ≤ 1048576) × IsBook (now book) used × Carried (now book) used (now numbers) (now places) (now steps) known ⌝ }
-    ensures { λ r. ⌜ Turns (now (doc .entry)) at rows (now (book .entry)) used (now (book .exit)) (now (numbers .exit)) (now (places .exit)) (now (steps .exit)) r ⌝ }
+    requires { ⌜ (at ≤ length (now doc)) × (length (now doc) ≤ 1048576) × (rows ≤ 1048576) × IsBook (now book) used × Carried (now book) used (now numbers) (now places) (now titles) (now steps) tally ⌝ }
+    ensures { λ r. ⌜ Turns (now (doc .entry)) at rows (now (book .entry)) used (now (book .exit)) (now (numbers .exit)) (now (places .exit)) (now (titles .exit)) (now (steps .exit)) r ⌝ }
 {
-    let looked = plans::look_up(numbers, places, known, elements::number_behind(doc, at));
+    let looked = plans::look_up(
+        numbers,
+        places,
+        tally.known,
+        elements::number_behind(doc, at),
+    );
     let one = elements::element_by(doc, at, rows, book, used, looked);
     match one {
         Stepping::Refused(n, p) => Turn::Refused(n, p),
@@ -74,13 +81,22 @@ fn exact_item<'d, 'b, 'n, 'l, 'p>(
                 Met::Layout(number, count) => {
                     let word = layout_word(number, next);
                     if used < filled {
-                        plans::keep(doc, at + 4, used, numbers, places, steps, known);
+                        let more = plans::keep(
+                            doc,
+                            at + 4,
+                            used,
+                            numbers,
+                            places,
+                            titles,
+                            steps,
+                            tally,
+                        );
                         return Turn::Item(Gone {
                             word,
                             next,
                             rows: step.rows,
                             used: filled,
-                            known: known + 1,
+                            tally: more,
                         });
                     }
                     Turn::Item(Gone {
@@ -88,7 +104,7 @@ fn exact_item<'d, 'b, 'n, 'l, 'p>(
                         next,
                         rows: step.rows,
                         used: filled,
-                        known,
+                        tally,
                     })
                 }
                 Met::Row(number, stated, count) => Turn::Item(Gone {
@@ -96,7 +112,7 @@ fn exact_item<'d, 'b, 'n, 'l, 'p>(
                     next,
                     rows: step.rows,
                     used: filled,
-                    known,
+                    tally,
                 }),
             }
         }
@@ -104,7 +120,7 @@ fn exact_item<'d, 'b, 'n, 'l, 'p>(
 }
 
 // The item at a place by the exact reader, unless the rows passed are too many for a step.
-fn next_item<'d, 'b, 'n, 'l, 'p>(
+fn next_item<'d, 'b, 'n, 'l, 't, 'p>(
     doc: &'d [u8],
     at: usize,
     rows: usize,
@@ -112,16 +128,28 @@ fn next_item<'d, 'b, 'n, 'l, 'p>(
     used: usize,
     numbers: &'n mut [u32; 64],
     places: &'l mut [usize; 64],
-    steps: &'p mut [u16; 4160],
-    known: usize,
+    titles: &'t mut [u32; 64],
+    steps: &'p mut [u16; 1216],
+    tally: Tally,
 ) -> Turn
-    requires { ⌜ (at ≤ length (now doc)) × (length (now doc) ≤ 1048576) × IsBook (now book) used × Carried (now book) used (now numbers) (now places) (now steps) known ⌝ }
-    ensures { λ r. ⌜ Turns (now (doc .entry)) at rows (now (book .entry)) used (now (book .exit)) (now (numbers .exit)) (now (places .exit)) (now (steps .exit)) r ⌝ }
+    requires { ⌜ (at ≤ length (now doc)) × (length (now doc) ≤ 1048576) × IsBook (now book) used × Carried (now book) used (now numbers) (now places) (now titles) (now steps) tally ⌝ }
+    ensures { λ r. ⌜ Turns (now (doc .entry)) at rows (now (book .entry)) used (now (book .exit)) (now (numbers .exit)) (now (places .exit)) (now (titles .exit)) (now (steps .exit)) r ⌝ }
 {
     if 1048576 < rows {
         return Turn::Refused(17, 0);
     }
-    exact_item(doc, at, rows, book, used, numbers, places, steps, known)
+    exact_item(
+        doc,
+        at,
+        rows,
+        book,
+        used,
+        numbers,
+        places,
+        titles,
+        steps,
+        tally,
+    )
 }
 
 // The index up to which rows may follow one another behind so many items and so many rows: no step is told more than 1,048,576 rows.
@@ -153,15 +181,22 @@ fn items<'d, 'b, 'w>(
 {
     let mut numbers = [0u32; 64];
     let mut places = [0usize; 64];
-    let mut steps = [0u16; 4160];
-    let mut known = plans::index(&book[..used], &mut numbers, &mut places, &mut steps);
+    let mut titles = [0u32; 64];
+    let mut steps = [0u16; 1216];
+    let mut tally = plans::index(
+        &book[..used],
+        &mut numbers,
+        &mut places,
+        &mut titles,
+        &mut steps,
+    );
     let mut pos = at;
     let mut passed = rows;
     let mut filled = used;
     let mut n: usize = 0;
     while n < 4096 {
         let to = reach(n, passed);
-        let stretch = plans::quick_rows(doc, pos, &numbers, &steps, known, words, n, to);
+        let stretch = plans::quick_rows(doc, pos, &titles, &steps, tally.plans, words, n, to);
         pos = stretch.next;
         passed += stretch.count - n;
         n = stretch.count;
@@ -174,8 +209,9 @@ fn items<'d, 'b, 'w>(
                 filled,
                 &mut numbers,
                 &mut places,
+                &mut titles,
                 &mut steps,
-                known,
+                tally,
             );
             match turn {
                 Turn::Refused(number, place) => {
@@ -203,7 +239,7 @@ fn items<'d, 'b, 'w>(
                     pos = gone.next;
                     passed = gone.rows;
                     filled = gone.used;
-                    known = gone.known;
+                    tally = gone.tally;
                 }
             }
         }

@@ -14,6 +14,8 @@ use Rattle.octets.proofs.Spans.{each-octet}
 use Rattle.layouts.specs.Book.{Book}
 use Rattle.layouts.proofs.Lends.{stood}
 use Rattle.plans.specs.Rows.{Passage}
+use Rattle.plans.specs.declared.Tally.{Tally}
+use Rattle.plans.proofs.Keeping.{made-planned}
 use Rattle.elements.specs.Element.{elementAt}
 use Rattle.elements.specs.Steps.{isLast}
 use Rattle.elements.specs.Answers.{tells}
@@ -25,17 +27,19 @@ use Rattle.elements.proofs.rows_from.Statement.{statement}
 use Rattle.elements.proofs.rows_from.Tie as tie
 
 abbrev Inv-loop : tie.InvT-loop
-Inv-loop doc at numbers₀ places₀ steps₀ known₀ pos₀ rows₀ used₀ first₀ numbers places steps known pos rows used first =
-    OnWay doc at numbers places steps known pos rows used × (length first ≡ 1)
+Inv-loop doc at numbers₀ places₀ titles₀ steps₀ tally₀ pos₀ rows₀ used₀ first₀ numbers places titles steps tally pos rows used first =
+    OnWay doc at numbers places titles steps tally pos rows used × (length first ≡ 1)
 
 abbrev μ-loop : tie.MeasureT-loop
-μ-loop doc at numbers₀ places₀ steps₀ known₀ pos₀ rows₀ used₀ first₀ numbers places steps known pos rows used first = length doc - pos
+μ-loop doc at numbers₀ places₀ titles₀ steps₀ tally₀ pos₀ rows₀ used₀ first₀ numbers places titles steps tally pos rows used first = length doc - pos
 
 loop-holds : tie.Need-loop-holds Inv-loop μ-loop
 loop-holds c =
-    let a = c .before .args in (
-      way-start (now (a .doc)) (a .at) (replicate 64 0) (replicate 64 0) (replicate 4160 0) (c .before .pre .0) (length-replicate {A = ℕ} 64 0) (length-replicate {A = ℕ} 64 0)
-          (length-replicate {A = ℕ} 4160 0),
+    let s = c .before .before in
+    let a = s .args in (
+      subst (λ (t : Tally). OnWay (now (a .doc)) (a .at) (replicate 64 0) (replicate 64 0) (replicate 64 0) (replicate 1216 0) t (a .at) 0 0) (sym (c .nothing .ensures))
+          (way-start (now (a .doc)) (a .at) (replicate 64 0) (replicate 64 0) (replicate 64 0) (replicate 1216 0) (s .pre .0) (length-replicate {A = ℕ} 64 0) (length-replicate {A = ℕ} 64 0)
+          (length-replicate {A = ℕ} 64 0) (length-replicate {A = ℕ} 1216 0)),
       length-replicate {A = ℕ} 1 0,
     )
 
@@ -44,7 +48,7 @@ abbrev Turn : Type 0
 Turn = tie.At-loop Inv-loop μ-loop
 
 abbrev Start : Turn → tie.Start Inv-loop μ-loop
-Start t = t .before .before
+Start t = t .before .before .before
 
 slice-aggregate-quick-rows : tie.Need-slice-aggregate-quick-rows Inv-loop μ-loop
 slice-aggregate-quick-rows c = sym (c .before .before .before .loop .inv .1)
@@ -53,7 +57,7 @@ quick-rows-requires : tie.Need-quick-rows-requires Inv-loop μ-loop
 quick-rows-requires c κs =
     let t = c .before .before .before in
     let w = t .loop .inv .0 in
-    (w .going .inside, Start t .pre .1, omega arith, record { book = w .book; planned = w .planned })
+    (w .going .inside, Start t .pre .1, omega arith, record { book = w .book; planned = made-planned (w .made) })
 
 -- Behind the rows that plans passed.
 abbrev Strode : Type 0
@@ -75,11 +79,14 @@ module _ (q : Strode) where
   abbrev places : List ℕ
   places = Turned q .loop .places
 
+  abbrev titles : List ℕ
+  titles = Turned q .loop .titles
+
   abbrev steps : List ℕ
   steps = Turned q .loop .steps
 
-  abbrev known : ℕ
-  known = Turned q .loop .known
+  abbrev tally : Tally
+  tally = Turned q .loop .tally
 
   abbrev pos : ℕ
   pos = q .quick-rows .result .next
@@ -94,23 +101,23 @@ module _ (q : Strode) where
   short = Start (Turned q) .pre .1
 
   octets : Each Octet doc
-  octets = each-octet doc (Turned q .before .shared-slice-known .given)
+  octets = each-octet doc (Turned q .before .before .shared-slice-known .given)
 
   passage : Passage doc (Turned q .loop .pos) (Turned q .loop .inv .0 .book) 0 (Turned q .loop .first) (q .quick-rows .last .1 .1 .1 .1 .1 .0) (q .quick-rows .result)
-  passage = q .quick-rows .ensures .2 (Turned q .loop .inv .0 .book) (Turned q .loop .inv .0 .planned) .0
+  passage = q .quick-rows .ensures .2 (Turned q .loop .inv .0 .book) (made-planned (Turned q .loop .inv .0 .made)) .0
 
   count : length (passage .rows) ≡ q .quick-rows .result .count
   count = omega (arith, passage .count)
 
-  way : OnWay doc at numbers places steps known pos rows used
+  way : OnWay doc at numbers places titles steps tally pos rows used
   way =
-      subst (λ (n : ℕ). OnWay doc at numbers places steps known pos (Turned q .loop .rows + n) used) count
-      (way-rows doc short octets at numbers places steps known (Turned q .loop .pos) (Turned q .loop .rows) used (Turned q .loop .inv .0) (passage .rows) pos (passage .stand))
+      subst (λ (n : ℕ). OnWay doc at numbers places titles steps tally pos (Turned q .loop .rows + n) used) count
+      (way-rows doc short octets at numbers places titles steps tally (Turned q .loop .pos) (Turned q .loop .rows) used (Turned q .loop .inv .0) (passage .rows) pos (passage .stand))
 
   further-on : Turned q .loop .pos + q .quick-rows .result .count ≤ pos
   further-on =
       subst (λ (n : ℕ). Turned q .loop .pos + n ≤ pos) count
-      (rows-further doc short octets at numbers places steps known (Turned q .loop .pos) (Turned q .loop .rows) used (Turned q .loop .inv .0) (passage .rows) pos (passage .stand))
+      (rows-further doc short octets at numbers places titles steps tally (Turned q .loop .pos) (Turned q .loop .rows) used (Turned q .loop .inv .0) (passage .rows) pos (passage .stand))
 
   abbrev book : Book
   book = way .book
@@ -126,7 +133,7 @@ add-rows : tie.Need-add-rows Inv-loop μ-loop
 add-rows c = omega (arith, few-rows (c .before .before))
 
 look-up-requires : tie.Need-look-up-requires Inv-loop μ-loop
-look-up-requires c κs = let q = c .before .before .before .before .before in way q .planned .few
+look-up-requires c κs = let q = c .before .before .before .before .before in way q .made .few
 
 element-over-requires : tie.Need-element-over-requires Inv-loop μ-loop
 element-over-requires c κs =
@@ -213,29 +220,30 @@ new m h =
     let x = told-of m in
     element-new (doc t) (octets t) (pos t) (rows t) (book t) (x .stepped) (x .next) (x .reads) (used t) (step-of m .used) (way t .size) (told-used x) h
 
-has-room : (m : More) → used (Of (By m)) < step-of m .used → known (Of (By m)) < 64
+has-room : (m : More) → used (Of (By m)) < step-of m .used → tally (Of (By m)) .known < 64
 has-room m h =
     let t = Of (By m) in
     let x = told-of m in
-    room-new (doc t) (short t) (octets t) (at t) (numbers t) (places t) (steps t) (known t) (pos t) (rows t) (used t) (way t) (x .stepped) (x .next) (x .reads) (not-last m) (new m h)
+    room-new (doc t) (short t) (octets t) (at t) (numbers t) (places t) (titles t) (steps t) (tally t) (pos t) (rows t) (used t) (way t) (x .stepped) (x .next) (x .reads) (not-last m) (new m h)
 
 keep-requires : tie.Need-keep-requires Inv-loop μ-loop
 keep-requires c κs =
-    let m = c .before .before .before .before .before in
+    let m = c .before .before .before .before .before .before in
     let t = Of (By m) in
-    let h = c .before .before .before .if2 .taken in
-    (short t, ap isOk (new m h .reads), way t .planned .steps-long, has-room m h)
+    let h = c .before .before .before .before .if2 .taken in
+    let made = way t .made in
+    (short t, ap isOk (new m h .reads), made .steps-long, made .behind, has-room m h, made .start, made .end)
 
 loop-again : tie.Need-loop-again Inv-loop μ-loop
 loop-again c =
-    let m = c .before .before .before .before .before .before in
-    let h = c .before .before .before .before .if2 .taken in
+    let m = c .before .before .before .before .before .before .before in
+    let h = c .before .before .before .before .before .if2 .taken in
     let t = Of (By m) in
     let x = told-of m in
     let k = c .keep in (
-      subst (λ (s : Step). OnWay (doc t) (at t) (k .last .1 .1 .1 .0) (k .last .1 .1 .1 .1 .0) (k .last .1 .1 .1 .1 .1 .0) (known t + 1) (s .next) (s .rows) (s .used)) (x .is)
-          (way-new (doc t) (short t) (octets t) (at t) (numbers t) (places t) (steps t) (known t) (pos t) (rows t) (used t) (way t) (x .stepped) (x .next) (x .reads) (not-last m) (new m h)
-          (k .last .1 .1 .1 .0) (k .last .1 .1 .1 .1 .0) (k .last .1 .1 .1 .1 .1 .0) (k .ensures .0) (k .ensures .1)),
+      subst (λ (s : Step). OnWay (doc t) (at t) (k .last .1 .1 .1 .0) (k .last .1 .1 .1 .1 .0) (k .last .1 .1 .1 .1 .1 .0) (k .last .1 .1 .1 .1 .1 .1 .0) (k .result) (s .next) (s .rows) (s .used)) (x .is)
+          (way-new (doc t) (short t) (octets t) (at t) (numbers t) (places t) (titles t) (steps t) (tally t) (pos t) (rows t) (used t) (way t) (x .stepped) (x .next) (x .reads) (not-last m) (new m h)
+          (k .last .1 .1 .1 .0) (k .last .1 .1 .1 .1 .0) (k .last .1 .1 .1 .1 .1 .0) (k .last .1 .1 .1 .1 .1 .1 .0) (k .result) (k .ensures .0) (k .ensures .1)),
       words-long t,
     )
 
@@ -244,8 +252,8 @@ loop-again-2 c =
     let m = c .before .before in
     let t = Of (By m) in
     let x = told-of m in (
-      subst (λ (s : Step). OnWay (doc t) (at t) (numbers t) (places t) (steps t) (known t) (s .next) (s .rows) (s .used)) (x .is)
-          (way-old (doc t) (short t) (octets t) (at t) (numbers t) (places t) (steps t) (known t) (pos t) (rows t) (used t) (way t) (x .stepped) (x .next) (x .reads) (not-last m)
+      subst (λ (s : Step). OnWay (doc t) (at t) (numbers t) (places t) (titles t) (steps t) (tally t) (s .next) (s .rows) (s .used)) (x .is)
+          (way-old (doc t) (short t) (octets t) (at t) (numbers t) (places t) (titles t) (steps t) (tally t) (pos t) (rows t) (used t) (way t) (x .stepped) (x .next) (x .reads) (not-last m)
           (subst (λ (n : ℕ). n ≤ used t) (sym (told-used x)) (c .if2 .left))),
       words-long t,
     )
@@ -253,11 +261,8 @@ loop-again-2 c =
 add-here : tie.Need-add-here Inv-loop μ-loop
 add-here c = let m = c .before .before in let w = further m in omega (arith, short (Of (By m)))
 
-add-known : tie.Need-add-known Inv-loop μ-loop
-add-known c = let m = c .before .before .before .before .before .before in let h = has-room m (c .before .before .before .before .if2 .taken) in omega arith
-
 loop-less : tie.Need-loop-less Inv-loop μ-loop
-loop-less c = let m = c .before .before .before .before .before .before in let w = further m in omega (arith, further-on (Of (By m)))
+loop-less c = let m = c .before .before .before .before .before .before .before in let w = further m in omega (arith, further-on (Of (By m)))
 
 loop-less-2 : tie.Need-loop-less-2 Inv-loop μ-loop
 loop-less-2 c = let m = c .before .before in let w = further m in omega (arith, further-on (Of (By m)))
@@ -265,4 +270,4 @@ loop-less-2 c = let m = c .before .before in let w = further m in omega (arith, 
 pub rows-from-spec : {M : Type 1} → statement M
 rows-from-spec =
     tie.close
-    (tie.spec Inv-loop μ-loop loop-holds slice-aggregate-quick-rows quick-rows-requires add-rows (λ c κs. search needs) look-up-requires element-over-requires (λ c. search needs) returns (λ c. search needs) (λ c κs. search needs) returns-2 add-here keep-requires add-known loop-less loop-again loop-less-2 loop-again-2)
+    (tie.spec Inv-loop μ-loop (λ c κs. search needs) loop-holds slice-aggregate-quick-rows quick-rows-requires add-rows (λ c κs. search needs) look-up-requires element-over-requires (λ c. search needs) returns (λ c. search needs) (λ c κs. search needs) returns-2 add-here keep-requires loop-less loop-again loop-less-2 loop-again-2)

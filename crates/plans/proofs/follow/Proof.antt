@@ -20,7 +20,7 @@ Inv-loop doc at end steps from pos₀ j₀ pos j =
     (at ≤ pos) × (pos ≤ end) × ((xs : List Attribute) → Begins steps from (planOf 0 xs) → Onward doc steps end xs at pos j)
 
 abbrev μ-loop : tie.MeasureT-loop
-μ-loop doc at end steps from pos₀ j₀ pos j = 4160 - j
+μ-loop doc at end steps from pos₀ j₀ pos j = 1216 - j
 
 loop-holds : tie.Need-loop-holds Inv-loop μ-loop
 loop-holds c =
@@ -34,7 +34,7 @@ Turn = tie.At-loop Inv-loop μ-loop
 abbrev Start : Turn → tie.Start Inv-loop μ-loop
 Start t = t .before .before
 
-room : (t : Turn) → t .loop .j < 4160
+room : (t : Turn) → t .loop .j < 1216
 room t =
     let a = Start t .args in
     let p = Start t .pre .3 in

@@ -1,15 +1,21 @@
--- `plans::keep` meets its contract: the plan of the layout's attributes is put behind the others, which stay. Assumes nothing.
+-- `plans::keep` meets its contract: the plan of the layout's attributes is put behind the others, which stay, where there is room for it. Assumes nothing.
 use borrow.Author.Needs.{needs}
 use native.Mathlib.Omega.{arith}
 use Prim.Native.Nat.{ℕ, _+_}
 use denote.Ref.{now}
 use mathlib.Core.Path.{_≡_, refl, sym, ap, subst}
-use lib.ListN.{set}
+use mathlib.Core.List.{List}
+use mathlib.Core.Bool.{true, false}
+use borrow.Author.Tests.{le-leb, lt-leb}
+use lib.ListN.{length, set}
 use Rattle.octets.specs.Reading.{ok, run}
 use Rattle.octets.proofs.Ends.{value-is}
 use Rattle.layouts.specs.Layout.{Layout, attributeAt, layoutAt}
 use Rattle.layouts.proofs.Parts.{layout-fields}
-use Rattle.plans.proofs.Keeping.{planned-more}
+use Rattle.plans.specs.Plan.{planFor, withPlan, holds, Made}
+use Rattle.plans.specs.Answers.{Puts}
+use Rattle.plans.specs.declared.Put.{Put}
+use Rattle.plans.proofs.Keeping.{made-more, made-full}
 use Rattle.plans.proofs.keep.Statement.{statement}
 use Rattle.plans.proofs.keep.Tie as tie
 
@@ -18,7 +24,7 @@ abbrev Counted : Type 0
 Counted = tie.After-u32-at
 
 abbrev Start : Counted → tie.Start
-Start u = u .before .before .before
+Start u = u .before .before .before .before
 
 attributes : (u : Counted) (l : Layout) (end : ℕ) → layoutAt (now (Start u .args .doc)) (Start u .args .at) ≡ ok l end
     → run (attributeAt (now (Start u .args .doc))) (u .u32-at .result) (u .before .attributes-at .result + 4) ≡ ok (l .attributes) end
@@ -28,24 +34,60 @@ attributes u l end e =
 
 put-plan-requires : tie.Need-put-plan-requires
 put-plan-requires c κs =
-    let u = c .before .before in
+    let u = c .before in
     let s = Start u in
     let (l, end, e) = value-is (layoutAt (now (s .args .doc)) (s .args .at)) (s .pre .1) in
     let few = layout-fields (now (s .args .doc)) (s .args .at) (u .before .attributes-at .result) (u .before .attributes-at .ensures .0) e .few in
-    (s .pre .0, omega (arith, few, u .u32-at .ensures), omega (arith, s .pre .3), s .pre .2, record { list = l .attributes; end = end; reads = attributes u l end e })
+    (s .pre .0, omega (arith, few, u .u32-at .ensures), s .pre .6, s .pre .2, record { list = l .attributes; end = end; reads = attributes u l end e })
+
+-- What was put.
+abbrev Tried : Type 0
+Tried = tie.After-put-plan
+
+abbrev Of : Tried → Counted
+Of v = v .before .before
+
+abbrev steps₁ : Tried → List ℕ
+steps₁ v = v .put-plan .last .1 .1 .1 .0
+
+puts : (v : Tried) (x : Put) → v .put-plan .result ≡ x → (l : Layout) (end : ℕ) → layoutAt (now (Start (Of v) .args .doc)) (Start (Of v) .args .at) ≡ ok l end
+    → Puts (steps₁ v) (Start (Of v) .args .tally .filled) (planFor l) x
+puts v x q l end e =
+    subst (Puts (steps₁ v) (Start (Of v) .args .tally .filled) (planFor l)) q (v .put-plan .ensures .0 (l .attributes) end (attributes (Of v) l end e))
+
+numbered : (u : Counted) (l : Layout) (end : ℕ) → layoutAt (now (Start u .args .doc)) (Start u .args .at) ≡ ok l end → u .before .before .layout-number .result ≡ l .number
+numbered u l end e = u .before .before .layout-number .ensures l end e
 
 returns : tie.Need-returns
 returns c =
-    let n = c .before .before in
-    let u = n .before in
-    let a = Start u .args in
-    let v = c .put-plan .ensures in (
+    let v = c .before .before in
+    let a = Start (Of v) .args in (
+      λ l end e. let full : holds (a .tally) l ≡ false = lt-leb _ 1216 (puts v _ (c .enum-told .given .1) l end e) in (
+        ap (set (now (a .numbers)) (a .tally .known)) (numbered (Of v) l end e),
+        rw full refl,
+        rw full refl,
+        λ book found m. made-full (now (a .titles)) (now (a .steps)) (steps₁ v) (a .tally) book m (Start (Of v) .pre .4) (v .put-plan .ensures .1) (v .put-plan .ensures .2),
+      ),
+      refl,
+    )
+
+returns-2 : tie.Need-returns-2
+returns-2 c =
+    let v = c .before .before .before in
+    let a = Start (Of v) .args in
+    let t = a .tally in (
       λ l end e.
-          let plan = v .0 (l .attributes) end (attributes u l end e) in (
-            ap (set (now (a .numbers)) (a .known)) (n .layout-number .ensures l end e),
-            λ book found p.
-                planned-more (now (a .numbers)) (now (a .steps)) (c .put-plan .last .1 .1 .1 .0) (a .known) (n .layout-number .result) book l p (Start u .pre .3) found
-                (n .layout-number .ensures l end e) (plan .0) (plan .1) (v .1) (v .2),
+          let (ends, stands) = puts v _ (c .before .put .given .1) l end e in
+          let named = numbered (Of v) l end e in
+          let held : holds t l ≡ true = le-leb (t .filled + length (planFor l)) 1216 (omega (arith, stands .inside, v .put-plan .ensures .2)) in
+          let steps₂ = set (steps₁ v) (t .plans) (t .filled) in (
+            ap (set (now (a .numbers)) (t .known)) named,
+            rw held (ap (set (now (a .titles)) (t .plans)) named),
+            rw held (ap (withPlan t) ends),
+            λ book found m.
+                subst (λ (n : ℕ). Made (set (now (a .titles)) (t .plans) n) steps₂ (withPlan t (c .before .put .given .0 .0)) book) (sym named)
+                (subst (λ (n : ℕ). Made (set (now (a .titles)) (t .plans) (l .number)) steps₂ (withPlan t n) book) (sym ends)
+                (made-more (now (a .titles)) (now (a .steps)) (steps₁ v) t book m (Start (Of v) .pre .4) (v .put-plan .ensures .1) (v .put-plan .ensures .2) l found stands)),
           ),
       refl,
     )
@@ -53,4 +95,6 @@ returns c =
 pub keep-spec : {M : Type 1} → statement M
 keep-spec =
     tie.close
-    (tie.spec (λ c κs. search needs) (λ c κs. search needs) (λ c κs. search needs) (λ c. search needs) (λ c. search needs) (λ c. search needs) (λ c. search needs) (λ c. search needs) (λ c. search needs) put-plan-requires returns)
+    (tie.spec (λ c κs. search needs) (λ c κs. search needs) (λ c κs. search needs) (λ c. search needs) (λ c. search needs) (λ c. search needs) (λ c. search needs) (λ c. search needs) put-plan-requires
+    (λ c. search needs) (λ c. search needs) (λ c. search needs) (λ c. search needs) (λ c. search needs) (λ c. search needs) (λ c. search needs) (λ c. search needs) (λ c. search needs) (λ c. search needs)
+    returns returns-2)

@@ -1,7 +1,7 @@
 -- `plans::put_plan` meets its contract. The invariant: the steps that stand, with those of the attributes that are left, are the plan.
 -- The measure is the attributes to come. Assumes nothing.
 use native.Mathlib.Omega.{arith}
-use Prim.Native.Nat.{ℕ, suc, _+_, _-_, _*_, _%_, _≤_, _<_}
+use Prim.Native.Nat.{ℕ, suc, _+_, _-_, _*_, _%_, _≤_}
 use denote.Ref.{now}
 use mathlib.Core.Path.{_≡_, refl, sym, ap, _∙_, subst}
 use mathlib.Core.List.{List}
@@ -15,13 +15,13 @@ use Rattle.layouts.specs.Layout.{Attribute, attributeAt}
 use Rattle.layouts.proofs.Parts.{Described, attribute-fields, attribute-named}
 use Rattle.rows.proofs.Values.{attribute-kind}
 use Rattle.plans.specs.Plan.{mark}
-use Rattle.plans.proofs.Making.{Making, making-start, Next, making-next, making-last}
+use Rattle.plans.proofs.Making.{Making, making-start, Next, making-next, making-full, making-last}
 use Rattle.plans.proofs.put_plan.Statement.{statement}
 use Rattle.plans.proofs.put_plan.Tie as tie
 
 abbrev Inv-loop : tie.InvT-loop
 Inv-loop doc first count steps₀ from place₀ j₀ sum₀ i₀ steps place j sum i =
-    (i ≤ count) × (j ≤ from + i) × (from ≤ j) × (sum ≤ i * 32) × (length steps ≡ 4160) × (take from steps ≡ take from steps₀)
+    (i ≤ count) × (j ≤ 1216) × (from ≤ j) × (sum ≤ i * 32) × (length steps ≡ 1216) × (take from steps ≡ take from steps₀)
     × ((xs : List Attribute) (last : ℕ) → run (attributeAt doc) count first ≡ ok xs last → Making doc steps xs last from (count - i) place j sum)
 
 abbrev μ-loop : tie.MeasureT-loop
@@ -32,7 +32,7 @@ loop-holds c =
     let a = c .before .args in
     let p = c .before .pre in (
       omega arith,
-      omega arith,
+      p .2,
       omega arith,
       omega arith,
       p .3,
@@ -85,12 +85,11 @@ is-mark s a next e = sym (s .mark-of .ensures .0 ∙ ap mark (s .before .form-he
 is-place : (s : Marked) (a : Attribute) (next : ℕ) → attributeAt (Doc (Of s)) (Of s .before .loop .place) ≡ ok a next → next ≡ Kind s + 4
 is-place s a next e = described s a next e .place
 
-bounds : (s : Marked) → (Of s .before .loop .sum + s .mark-of .result ≤ 2080) × (Of s .before .loop .j < 4160)
-bounds s =
+sum-small : (s : Marked) → Of s .before .loop .sum + s .mark-of .result ≤ 2080
+sum-small s =
     let t = Of s in
     let l = t .before .loop .inv in
-    let p = Start t .pre in
-    (omega (arith, l .0, l .3, p .1, s .mark-of .ensures .1, t .loop-test .taken), omega (arith, l .0, l .1, p .1, p .2, t .loop-test .taken))
+    omega (arith, l .0, l .3, Start t .pre .1, s .mark-of .ensures .1, t .loop-test .taken)
 
 loop-again : tie.Need-loop-again Inv-loop μ-loop
 loop-again c =
@@ -98,7 +97,7 @@ loop-again c =
     let t = Of s in
     let l = t .before .loop .inv in (
       omega (arith, t .loop-test .taken),
-      omega (arith, l .1),
+      l .1,
       l .2,
       omega (arith, l .3, s .mark-of .ensures .1),
       l .4,
@@ -111,13 +110,24 @@ loop-again c =
           (is-place s (n .attribute) (n .next) (n .reads)) (n .on (ap (λ (x : ℕ). x % 4) q ∙ c .if1 .taken))),
     )
 
+-- The steps do not hold the one that the attribute here closes.
+returns : tie.Need-returns Inv-loop μ-loop
+returns c =
+    let t = Of (c .before .before) in
+    let l = t .before .loop in (
+      λ xs last e.
+          making-full (Doc t) xs last (Start t .args .from) (l .steps) (suc (More t)) (l .place) (l .j) (l .sum) (next-of t xs last e .0) (c .if2 .taken),
+      l .inv .5,
+      l .inv .4,
+    )
+
 loop-again-2 : tie.Need-loop-again-2 Inv-loop μ-loop
 loop-again-2 c =
-    let s = c .before in
+    let s = c .before .before in
     let t = Of s in
     let l = t .before .loop .inv in (
       omega (arith, t .loop-test .taken),
-      omega (arith, l .1),
+      omega (arith, c .if2 .left),
       omega (arith, l .2),
       omega arith,
       simp length-set (l .4),
@@ -127,26 +137,36 @@ loop-again-2 c =
           let q = is-mark s (n .attribute) (n .next) (n .reads) in
           subst (λ (x : ℕ). Making (Doc t) (set (t .before .loop .steps) (t .before .loop .j) (t .before .loop .sum + x)) xs last (Start t .args .from) (More t) (Kind s + 4) (t .before .loop .j + 1) 0) q
           (subst (λ (p : ℕ). Making (Doc t) (set (t .before .loop .steps) (t .before .loop .j) (t .before .loop .sum + mark (formOf (n .attribute .kind .basic)))) xs last (Start t .args .from) (More t) p (t .before .loop .j + 1) 0)
-          (is-place s (n .attribute) (n .next) (n .reads)) (n .close (λ z. c .if1 .left (sym (ap (λ (x : ℕ). x % 4) q) ∙ z)) (omega (arith, bounds s .1, l .4)))),
+          (is-place s (n .attribute) (n .next) (n .reads)) (n .close (λ z. c .before .if1 .left (sym (ap (λ (x : ℕ). x % 4) q) ∙ z)) (omega (arith, c .if2 .left, l .4)))),
     )
 
 -- Behind the last attribute.
-last-room : (c : tie.After-loop Inv-loop μ-loop) → c .before .loop .j < 4160
-last-room c =
-    let l = c .before .loop .inv in
-    let p = c .before .before .before .pre in
-    omega (arith, l .0, l .1, p .1, p .2)
+abbrev Left : Type 0
+Left = tie.After-loop Inv-loop μ-loop
 
-returns : tie.Need-returns Inv-loop μ-loop
-returns c =
+made-all : (c : Left) (xs : List Attribute) (last : ℕ) → run (attributeAt (now (c .before .before .before .args .doc))) (c .before .before .before .args .count) (c .before .before .before .args .first) ≡ ok xs last
+    → Making (now (c .before .before .before .args .doc)) (c .before .loop .steps) xs last (c .before .before .before .args .from) 0 (c .before .loop .place) (c .before .loop .j) (c .before .loop .sum)
+made-all c xs last e =
     let l = c .before .loop in
-    let s = c .before .before .before in
-    let a = s .args in (
-      λ xs last e.
-          let m = making-last (now (a .doc)) xs last (a .from) (l .steps) (l .place) (l .j) (l .sum)
-          (subst (λ (k : ℕ). Making (now (a .doc)) (l .steps) xs last (a .from) k (l .place) (l .j) (l .sum)) (none-left (a .count) (l .i) (c .loop-test .left)) (l .inv .6 xs last e))
-          (omega (arith, last-room c, l .inv .4)) in
-          (omega (arith, m .0, l .inv .0, l .inv .1, s .pre .1), m .1),
+    let a = c .before .before .before .args in
+    subst (λ (k : ℕ). Making (now (a .doc)) (l .steps) xs last (a .from) k (l .place) (l .j) (l .sum)) (none-left (a .count) (l .i) (c .loop-test .left)) (l .inv .6 xs last e)
+
+returns-2 : tie.Need-returns-2 Inv-loop μ-loop
+returns-2 c =
+    let x = c .before in
+    let l = x .before .loop in
+    let a = x .before .before .before .args in (
+      λ xs last e. making-full (now (a .doc)) xs last (a .from) (l .steps) 0 (l .place) (l .j) (l .sum) (made-all x xs last e) (c .if3 .taken),
+      l .inv .5,
+      l .inv .4,
+    )
+
+returns-3 : tie.Need-returns-3 Inv-loop μ-loop
+returns-3 c =
+    let x = c .before in
+    let l = x .before .loop in
+    let a = x .before .before .before .args in (
+      λ xs last e. making-last (now (a .doc)) xs last (a .from) (l .steps) (l .place) (l .j) (l .sum) (made-all x xs last e) (omega (arith, c .if3 .left, l .inv .4)),
       take-set-le (a .from) (l .steps) (l .j) (l .sum) (l .inv .2) ∙ l .inv .5,
       simp length-set (l .inv .4),
     )
@@ -157,6 +177,7 @@ put-plan-spec =
     (tie.spec Inv-loop μ-loop loop-holds (λ c κs. (Start c .pre .0, attribute-named (Doc c) (c .before .loop .place) (accepted c)))
     (λ c κs. attribute-kind (Doc (c .before)) (c .before .before .loop .place) (c .name-end .result) (c .name-end .ensures .0) (accepted (c .before))) (λ c κs. c .form-here .ensures .1)
     (λ c. omega (arith, c .before .before .name-end .ensures .2, Start (Of c) .pre .0)) (λ c. let t = Of c in omega (arith, t .loop-test .taken))
-    (λ c. let b = bounds (c .before) in omega arith) (λ c. let t = Of (c .before) in omega (arith, t .loop-test .taken)) loop-again
-    (λ c. let b = bounds (c .before) in omega arith) (λ c. let b = bounds (c .before) in omega arith) (λ c. bounds (c .before) .1) (λ c. let b = bounds (c .before) in omega arith)
-    (λ c. let t = Of (c .before) in omega (arith, t .loop-test .taken)) loop-again-2 (λ c. let b = last-room c in omega arith) last-room returns)
+    (λ c. omega (arith, sum-small (c .before))) (λ c. let t = Of (c .before) in omega (arith, t .loop-test .taken)) loop-again returns
+    (λ c. omega (arith, sum-small (c .before .before))) (λ c. omega (arith, c .if2 .left)) (λ c. omega (arith, c .if2 .left)) (λ c. omega (arith, c .if2 .left))
+    (λ c. let t = Of (c .before .before) in omega (arith, t .loop-test .taken)) loop-again-2 returns-2 (λ c. omega (arith, c .if3 .left)) (λ c. omega (arith, c .if3 .left))
+    (λ c. omega (arith, c .if3 .left)) returns-3)

@@ -22,12 +22,12 @@ use Rattle.plans.proofs.quick_rows.Statement.{statement}
 use Rattle.plans.proofs.quick_rows.Tie as tie
 
 abbrev Inv-loop : tie.InvT-loop
-Inv-loop doc at numbers steps known words₀ from to pos₀ n₀ last₀ words pos n last =
+Inv-loop doc at titles steps plans words₀ from to pos₀ n₀ last₀ words pos n last =
     (pos ≤ length doc) × (n ≤ to) × (length words ≡ length words₀)
-    × ((book : Book) → Planned numbers steps known book → Passage doc at book from words₀ words (record { next = pos; count = n }))
+    × ((book : Book) → Planned titles steps plans book → Passage doc at book from words₀ words (record { next = pos; count = n }))
 
 abbrev μ-loop : tie.MeasureT-loop
-μ-loop doc at numbers steps known words₀ from to pos₀ n₀ last₀ words pos n last = to - n
+μ-loop doc at titles steps plans words₀ from to pos₀ n₀ last₀ words pos n last = to - n
 
 loop-holds : tie.Need-loop-holds Inv-loop μ-loop
 loop-holds c =
@@ -58,8 +58,8 @@ module _ (q : Tried) where
   abbrev doc : List ℕ
   doc = now (Start (Of q) .args .doc)
 
-  abbrev numbers : List ℕ
-  numbers = now (Start (Of q) .args .numbers)
+  abbrev titles : List ℕ
+  titles = now (Start (Of q) .args .titles)
 
   abbrev pos : ℕ
   pos = Of q .loop .pos
@@ -67,9 +67,9 @@ module _ (q : Tried) where
   octets : Each Octet doc
   octets = each-octet doc (Of q .before .before .shared-slice-known .given)
 
-  passes : (x : Quick) → q .quick-row .result ≡ x → (book : Book) → Planned numbers (now (Start (Of q) .args .steps)) (Start (Of q) .args .known) book
-      → Passes doc pos book numbers (Start (Of q) .args .known) x
-  passes x e book p = subst (Passes doc pos book numbers (Start (Of q) .args .known)) e (q .quick-row .ensures book p)
+  passes : (x : Quick) → q .quick-row .result ≡ x → (book : Book) → Planned titles (now (Start (Of q) .args .steps)) (Start (Of q) .args .plans) book
+      → Passes doc pos book titles (Start (Of q) .args .plans) x
+  passes x e book p = subst (Passes doc pos book titles (Start (Of q) .args .plans)) e (q .quick-row .ensures book p)
 
 -- Where it stands, by any book that the plans are of.
 abbrev Row : Type 0
@@ -84,8 +84,8 @@ Next r = r .before .quick .given .0 .0
 abbrev I : Row → ℕ
 I r = r .before .quick .given .0 .1 .0
 
-here : (r : Row) (book : Book) → Planned (numbers (By r)) (now (Start (Of (By r)) .args .steps)) (Start (Of (By r)) .args .known) book
-    → Passes (doc (By r)) (pos (By r)) book (numbers (By r)) (Start (Of (By r)) .args .known) (quick.Row (Next r) (I r))
+here : (r : Row) (book : Book) → Planned (titles (By r)) (now (Start (Of (By r)) .args .steps)) (Start (Of (By r)) .args .plans) book
+    → Passes (doc (By r)) (pos (By r)) book (titles (By r)) (Start (Of (By r)) .args .plans) (quick.Row (Next r) (I r))
 here r = passes (By r) (quick.Row (Next r) (I r)) (r .before .quick .given .1)
 
 bounds : (r : Row) → (pos (By r) + 12 ≤ length (doc (By r))) × (Next r ≤ length (doc (By r))) × (I r < 64)

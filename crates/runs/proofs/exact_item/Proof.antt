@@ -1,7 +1,7 @@
 -- `runs::exact_item` meets its contract: what the exact reader answers, taken apart by what was met. Assumes nothing.
 use borrow.Author.Needs.{needs}
 use native.Mathlib.Omega.{arith}
-use Prim.Native.Nat.{ℕ, _+_, _≤_, _<_}
+use Prim.Native.Nat.{ℕ, _≤_, _<_}
 use denote.Ref.{now}
 use mathlib.Core.Path.{_≡_, refl, sym, ap, _∙_}
 use mathlib.Core.List.{List}
@@ -13,8 +13,9 @@ use Rattle.octets.proofs.Spans.{each-octet}
 use Rattle.layouts.specs.Book.{Book, bookImage, bookIn}
 use Rattle.layouts.proofs.Books.{Lent}
 use Rattle.layouts.proofs.Walks.{lent-book}
-use Rattle.plans.specs.Plan.{Planned}
-use Rattle.plans.proofs.Keeping.{planned-within}
+use Rattle.plans.specs.Plan.{Made}
+use Rattle.plans.specs.declared.Tally.{Tally}
+use Rattle.plans.proofs.Keeping.{made-within, grown-known}
 use Rattle.elements.specs.Element.{Element, layout, row, elementAt}
 use Rattle.elements.specs.Steps.{leaves, holding, stepAt}
 use Rattle.elements.specs.declared.Step.{Step}
@@ -73,7 +74,7 @@ module _ (v : Answered) where
   step = step-is doc rows entry used at (Start v .pre .1) (Start v .pre .3) (Start v .pre .2)
 
 look-up-requires : tie.Need-look-up-requires
-look-up-requires c κs = c .before .before .before .before .before .pre .4 .planned .few
+look-up-requires c κs = c .before .before .before .before .before .pre .4 .made .few
 
 element-by-requires : tie.Need-element-by-requires
 element-by-requires c κs =
@@ -115,15 +116,15 @@ module _ (v : Answered) (x : Step) (t : Reads v x) where
   small : x .next < 1073741824
   small = omega (arith, gone .near, Start v .pre .1)
 
-  kept : Planned (now (Start v .args .numbers)) (now (Start v .args .steps)) (Start v .args .known) (t .stepped .book)
+  kept : Made (now (Start v .args .titles)) (now (Start v .args .steps)) (Start v .args .tally) (t .stepped .book)
   kept =
-      planned-within (now (Start v .args .numbers)) (now (Start v .args .steps)) (Start v .args .known) (bookIn (entry v) (used v)) (t .stepped .book)
-      (element-keeps (doc v) (octets v) (at v) (rows v) (bookIn (entry v) (used v)) (t .stepped) (t .next) (t .reads) (lent-here v .good)) (Start v .pre .4 .planned)
+      made-within (now (Start v .args .titles)) (now (Start v .args .steps)) (Start v .args .tally) (bookIn (entry v) (used v)) (t .stepped .book)
+      (element-keeps (doc v) (octets v) (at v) (rows v) (bookIn (entry v) (used v)) (t .stepped) (t .next) (t .reads) (lent-here v .good)) (Start v .pre .4 .made)
 
   -- What is carried on over a book that did not grow.
-  carried : x .used ≤ used v → Carried (exit v) (x .used) (now (Start v .args .numbers)) (now (Start v .args .places)) (now (Start v .args .steps)) (Start v .args .known)
+  carried : x .used ≤ used v → Carried (exit v) (x .used) (now (Start v .args .numbers)) (now (Start v .args .places)) (now (Start v .args .titles)) (now (Start v .args .steps)) (Start v .args .tally)
   carried no-more =
-      carried-same (entry v) (used v) (lent v) (Start v .pre .3) (now (Start v .args .numbers)) (now (Start v .args .places)) (now (Start v .args .steps)) (Start v .args .known) (Start v .pre .4)
+      carried-same (entry v) (used v) (lent v) (Start v .pre .3) (now (Start v .args .numbers)) (now (Start v .args .places)) (now (Start v .args .titles)) (now (Start v .args .steps)) (Start v .args .tally) (Start v .pre .4)
       (exit v) (x .used) (t .stepped .book)
       (element-old (doc v) (octets v) (at v) (rows v) (bookIn (entry v) (used v)) (t .stepped) (t .next) (t .reads) (used v) (x .used) (lent-here v .size) (told-used t) no-more) left fills
 
@@ -171,10 +172,10 @@ module _ (w : Layed) where
   here = reads by told-step (one .one2 .given .1)
 
   -- An item that goes, whatever is carried on.
-  goes : (numbers places steps₁ : List ℕ) (known : ℕ) → Carried (exit by) (told-step .used) numbers places steps₁ known
-      → Goes (doc by) (at by) (rows by) (entry by) (used by) (exit by) numbers places steps₁
-      (record { word = w .layout-word .result; next = told-step .next; rows = told-step .rows; used = told-step .used; known = known })
-  goes numbers places steps₁ known c =
+  goes : (numbers places titles steps₁ : List ℕ) (tally : Tally) → Carried (exit by) (told-step .used) numbers places titles steps₁ tally
+      → Goes (doc by) (at by) (rows by) (entry by) (used by) (exit by) numbers places titles steps₁
+      (record { word = w .layout-word .result; next = told-step .next; rows = told-step .rows; used = told-step .used; tally = tally })
+  goes numbers places titles steps₁ tally c =
       let (l, is, number) = met-layout (here .stepped .element) _ _ (ap (λ (y : Step). y .met) (here .is) ∙ w .before .before .met2 .given .1) in
       record {
         stepped = here .stepped;
@@ -194,9 +195,9 @@ module _ (w : Layed) where
       element-new (doc by) (octets by) (at by) (rows by) (bookIn (entry by) (used by)) (here .stepped) (here .next) (here .reads) (used by) (told-step .used)
       (lent-here by .size) (told-used here) h
 
-  room : used by < told-step .used → Start by .args .known < 64
+  room : used by < told-step .used → Start by .args .tally .known < 64
   room h =
-      room-new (entry by) (used by) (lent by) (Start by .pre .3) (now (Start by .args .numbers)) (now (Start by .args .places)) (now (Start by .args .steps)) (Start by .args .known) (Start by .pre .4)
+      room-new (entry by) (used by) (lent by) (Start by .pre .3) (now (Start by .args .numbers)) (now (Start by .args .places)) (now (Start by .args .titles)) (now (Start by .args .steps)) (Start by .args .tally) (Start by .pre .4)
       (new h .few)
 
 add-keep : tie.Need-add-keep
@@ -204,37 +205,36 @@ add-keep c = let w = c .before in omega (arith, Start (by w) .pre .0, Start (by 
 
 keep-requires : tie.Need-keep-requires
 keep-requires c κs =
-    let w = c .before .before .before .before in
-    let h = c .before .before .before .if1 .taken in
-    (Start (by w) .pre .1, ap isOk (new w h .reads), Start (by w) .pre .4 .planned .steps-long, room w h)
-
-add-t35 : tie.Need-add-t35
-add-t35 c = let w = c .before .before .before .before .before in let h = room w (c .before .before .before .before .if1 .taken) in omega arith
+    let w = c .before .before .before .before .before in
+    let h = c .before .before .before .before .if1 .taken in
+    let made = Start (by w) .pre .4 .made in
+    (Start (by w) .pre .1, ap isOk (new w h .reads), made .steps-long, made .behind, room w h, made .start, made .end)
 
 returns : tie.Need-returns
 returns c =
-    let w = c .before .before .before .before .before in
-    let h = c .before .before .before .before .if1 .taken in
+    let w = c .before .before .before .before .before .before in
+    let h = c .before .before .before .before .before .if1 .taken in
     let v = by w in
     let x = told-step w in
     let t = here w in
     let n = new w h in
     let a = Start v .args in
     let k = c .keep in
-    let (numbered, plans) = k .ensures .0 (n .layout) (t .next) (n .reads) in
-    let planned = plans (t .stepped .book)
+    let (numbered, _, is, plans) = k .ensures .0 (n .layout) (t .next) (n .reads) in
+    let made = plans (t .stepped .book)
     (found-new (doc v) (octets v) (at v) (rows v) (bookIn (entry v) (used v)) (t .stepped) (t .next) (t .reads) n) (kept v x t) in
-    goes w (k .last .1 .1 .1 .0) (k .last .1 .1 .1 .1 .0) (k .last .1 .1 .1 .1 .1 .0) (a .known + 1)
-    (carried-new (entry v) (used v) (lent v) (Start v .pre .3) (now (a .numbers)) (now (a .places)) (now (a .steps)) (a .known) (Start v .pre .4)
+    goes w (k .last .1 .1 .1 .0) (k .last .1 .1 .1 .1 .0) (k .last .1 .1 .1 .1 .1 .0) (k .last .1 .1 .1 .1 .1 .1 .0) (k .result)
+    (carried-new (entry v) (used v) (lent v) (Start v .pre .3) (now (a .numbers)) (now (a .places)) (now (a .titles)) (now (a .steps)) (a .tally) (Start v .pre .4)
     (doc v) (octets v) (at v) (rows v) (t .stepped) (t .next) (t .reads) n (x .next) (gone v x t) (exit v) (x .used) (left v x t) (fills v x t)
-    (k .last .1 .1 .1 .0) (k .last .1 .1 .1 .1 .0) (k .last .1 .1 .1 .1 .1 .0) planned numbered (k .ensures .1))
+    (k .last .1 .1 .1 .0) (k .last .1 .1 .1 .1 .0) (k .last .1 .1 .1 .1 .1 .0) (k .last .1 .1 .1 .1 .1 .1 .0) (k .result) made numbered (k .ensures .1)
+    (ap (λ (y : Tally). y .known) is ∙ grown-known (a .tally) (n .layout)))
 
 returns-4 : tie.Need-returns-4
 returns-4 c =
     let w = c .before in
     let v = by w in
     let a = Start v .args in
-    goes w (now (a .numbers)) (now (a .places)) (now (a .steps)) (a .known)
+    goes w (now (a .numbers)) (now (a .places)) (now (a .titles)) (now (a .steps)) (a .tally)
     (carried v (told-step w) (here w) (c .if1 .left))
 
 -- The row's arm.
@@ -267,4 +267,4 @@ returns-5 c =
 pub exact-item-spec : {M : Type 1} → statement M
 exact-item-spec =
     tie.close
-    (tie.spec (λ c κs. search needs) look-up-requires element-by-requires (λ c. search needs) (λ c. search needs) (λ c. search needs) (λ c. search needs) layout-word-requires add-keep keep-requires add-t35 (λ c. search needs) returns (λ c. search needs) row-word-requires (λ c. search needs) returns-2 (λ c. search needs) returns-3 (λ c. search needs) returns-4 (λ c. search needs) returns-5)
+    (tie.spec (λ c κs. search needs) look-up-requires element-by-requires (λ c. search needs) (λ c. search needs) (λ c. search needs) (λ c. search needs) layout-word-requires add-keep keep-requires (λ c. search needs) returns (λ c. search needs) row-word-requires (λ c. search needs) returns-2 (λ c. search needs) returns-3 (λ c. search needs) returns-4 (λ c. search needs) returns-5)

@@ -13,6 +13,7 @@ use Rattle.layouts.specs.Book.{IsBook, bookIn}
 use Rattle.layouts.proofs.Books.{Lent}
 use Rattle.layouts.proofs.Walks.{lent-book, book-image}
 use Rattle.plans.specs.Plan.{Shelf}
+use Rattle.plans.proofs.Keeping.{made-planned}
 use Rattle.plans.specs.Rows.{laid, wordsOf, Passage}
 use Rattle.runs.specs.Runs.{stopped, runFrom, runAsked}
 use Rattle.runs.specs.Answers.{Carried, Turns, isItem, wentOf, runTells, bookLeft, wordsLeft}
@@ -28,12 +29,12 @@ use Rattle.runs.proofs.items.Statement.{statement}
 use Rattle.runs.proofs.items.Tie as tie
 
 abbrev Inv-loop : tie.InvT-loop
-Inv-loop doc at rows book₀ used words₀ numbers₀ places₀ steps₀ known₀ pos₀ passed₀ filled₀ n₀ book words numbers places steps known pos passed filled n =
+Inv-loop doc at rows book₀ used words₀ numbers₀ places₀ titles₀ steps₀ tally₀ pos₀ passed₀ filled₀ n₀ book words numbers places titles steps tally pos passed filled n =
     OnWay doc at rows book₀ used words₀ words book pos passed filled n × (pos ≤ length doc) × Each Octet book × IsBook book filled
-    × Carried book filled numbers places steps known × (length book ≡ length book₀) × (passed ≤ 1048577)
+    × Carried book filled numbers places titles steps tally × (length book ≡ length book₀) × (passed ≤ 1048577)
 
 abbrev μ-loop : tie.MeasureT-loop
-μ-loop doc at rows book₀ used words₀ numbers₀ places₀ steps₀ known₀ pos₀ passed₀ filled₀ n₀ book words numbers places steps known pos passed filled n = 4096 - n
+μ-loop doc at rows book₀ used words₀ numbers₀ places₀ titles₀ steps₀ tally₀ pos₀ passed₀ filled₀ n₀ book words numbers places titles steps tally pos passed filled n = 4096 - n
 
 -- The arguments by names, where the octets of both slices are known.
 abbrev Known : Type 0
@@ -63,20 +64,20 @@ slice-aggregate-index c = sym (used-length (c .before))
 
 index-requires : tie.Need-index-requires Inv-loop μ-loop
 index-requires c κs =
-    let k = c .before .before .before .before in
-    (omega (arith, used-length k, held k .most), length-replicate {A = ℕ} 64 0, length-replicate {A = ℕ} 64 0, length-replicate {A = ℕ} 4160 0, record { book = _; shelf = shelf k })
+    let k = c .before .before .before .before .before in
+    (omega (arith, used-length k, held k .most), length-replicate {A = ℕ} 64 0, length-replicate {A = ℕ} 64 0, length-replicate {A = ℕ} 64 0, length-replicate {A = ℕ} 1216 0, record { book = _; shelf = shelf k })
 
 loop-holds : tie.Need-loop-holds Inv-loop μ-loop
 loop-holds c =
-    let k = c .before .before .before .before .before in
+    let k = c .before .before .before .before .before .before in
     let start = k .before .before in
     let a = start .args in
-    let (kept, planned) = c .index .ensures (bookIn (now (a .book)) (a .used)) (shelf k) in (
+    let (kept, made, _, _) = c .index .ensures (bookIn (now (a .book)) (a .used)) (shelf k) in (
       started (now (a .doc)) (a .at) (a .rows) (now (a .book)) (a .used) (now (a .words)),
       start .pre .0,
       each-octet (now (a .book)) (k .slice-known .given),
       start .pre .3,
-      record { kept = kept; planned = planned },
+      record { kept = kept; made = made },
       refl,
       omega (arith, start .pre .2),
     )
@@ -86,7 +87,7 @@ abbrev Turn : Type 0
 Turn = tie.At-loop Inv-loop μ-loop
 
 abbrev Before : Turn → Known
-Before t = t .before .before .before .before .before .before
+Before t = t .before .before .before .before .before .before .before
 
 abbrev Start : Turn → tie.Start Inv-loop μ-loop
 Start t = Before t .before .before
@@ -94,7 +95,7 @@ Start t = Before t .before .before
 quick-rows-requires : tie.Need-quick-rows-requires Inv-loop μ-loop
 quick-rows-requires c κs =
     let t = c .before .before .before .before .before in
-    (t .loop .inv .1, Start t .pre .1, omega (arith, c .before .before .before .reach .ensures, t .loop .inv .0 .few), record { book = bookIn (t .loop .book) (t .loop .filled); planned = t .loop .inv .4 .planned })
+    (t .loop .inv .1, Start t .pre .1, omega (arith, c .before .before .before .reach .ensures, t .loop .inv .0 .few), record { book = bookIn (t .loop .book) (t .loop .filled); planned = made-planned (t .loop .inv .4 .made) })
 
 -- Behind the rows that plans passed.
 abbrev Strode : Type 0
@@ -144,7 +145,7 @@ module _ (q : Strode) where
   octets = each-octet doc (Before (Turned q) .before .shared-slice-known .given)
 
   passage : Passage doc (Turned q .loop .pos) (bookIn book filled) (Turned q .loop .n) (Turned q .loop .words) words (q .quick-rows .result)
-  passage = q .quick-rows .ensures .2 (bookIn book filled) (Turned q .loop .inv .4 .planned) .0
+  passage = q .quick-rows .ensures .2 (bookIn book filled) (made-planned (Turned q .loop .inv .4 .made)) .0
 
   count : Turned q .loop .n + length (passage .rows) ≡ n
   count = sym (passage .count)
@@ -186,22 +187,22 @@ abbrev Answered : Type 0
 Answered = tie.After-next-item Inv-loop μ-loop
 
 abbrev Of : Answered → Strode
-Of v = v .before .before .before .before .before .before .before
+Of v = v .before .before .before .before .before .before .before .before
 
 turns : (v : Answered) (x : kind.Turn) → v .next-item .result ≡ x
-    → Turns (doc (Of v)) (pos (Of v)) (passed (Of v)) (book (Of v)) (filled (Of v)) (v .next-item .last .1 .1 .1 .0) (v .next-item .last .1 .1 .1 .1 .1 .0) (v .next-item .last .1 .1 .1 .1 .1 .1 .0) (v .next-item .last .1 .1 .1 .1 .1 .1 .1 .0) x
+    → Turns (doc (Of v)) (pos (Of v)) (passed (Of v)) (book (Of v)) (filled (Of v)) (v .next-item .last .1 .1 .1 .0) (v .next-item .last .1 .1 .1 .1 .1 .0) (v .next-item .last .1 .1 .1 .1 .1 .1 .0) (v .next-item .last .1 .1 .1 .1 .1 .1 .1 .0) (v .next-item .last .1 .1 .1 .1 .1 .1 .1 .1 .0) x
 turns v x e =
-    subst (Turns (doc (Of v)) (pos (Of v)) (passed (Of v)) (book (Of v)) (filled (Of v)) (v .next-item .last .1 .1 .1 .0) (v .next-item .last .1 .1 .1 .1 .1 .0) (v .next-item .last .1 .1 .1 .1 .1 .1 .0) (v .next-item .last .1 .1 .1 .1 .1 .1 .1 .0)) e
+    subst (Turns (doc (Of v)) (pos (Of v)) (passed (Of v)) (book (Of v)) (filled (Of v)) (v .next-item .last .1 .1 .1 .0) (v .next-item .last .1 .1 .1 .1 .1 .0) (v .next-item .last .1 .1 .1 .1 .1 .1 .0) (v .next-item .last .1 .1 .1 .1 .1 .1 .1 .0) (v .next-item .last .1 .1 .1 .1 .1 .1 .1 .1 .0)) e
     (v .next-item .ensures)
 
 next-item-requires : tie.Need-next-item-requires Inv-loop μ-loop
 next-item-requires c κs =
-    let q = c .before .before .before .before .before .before in
+    let q = c .before .before .before .before .before .before .before in
     (q .quick-rows .ensures .0, Start (Turned q) .pre .1, Turned q .loop .inv .3, Turned q .loop .inv .4)
 
 -- The step there is refused.
 module _ (v : Answered) (number place : ℕ) (e : v .next-item .result ≡ turn.Refused number place) where
-  refused : Turns (doc (Of v)) (pos (Of v)) (passed (Of v)) (book (Of v)) (filled (Of v)) (v .next-item .last .1 .1 .1 .0) (v .next-item .last .1 .1 .1 .1 .1 .0) (v .next-item .last .1 .1 .1 .1 .1 .1 .0) (v .next-item .last .1 .1 .1 .1 .1 .1 .1 .0) (turn.Refused number place)
+  refused : Turns (doc (Of v)) (pos (Of v)) (passed (Of v)) (book (Of v)) (filled (Of v)) (v .next-item .last .1 .1 .1 .0) (v .next-item .last .1 .1 .1 .1 .1 .0) (v .next-item .last .1 .1 .1 .1 .1 .1 .0) (v .next-item .last .1 .1 .1 .1 .1 .1 .1 .0) (v .next-item .last .1 .1 .1 .1 .1 .1 .1 .1 .0) (turn.Refused number place)
   refused = turns v (turn.Refused number place) e
 
   halted : runFrom (4096 - n (Of v)) (doc (Of v)) (pos (Of v)) (passed (Of v)) (book (Of v)) (filled (Of v)) ≡ stopped (pos (Of v)) (passed (Of v)) (book (Of v)) (filled (Of v))
@@ -253,16 +254,16 @@ said P w x r u h = rw (w, x, r, u) h
 
 loop-again : tie.Need-loop-again Inv-loop μ-loop
 loop-again c =
-    let v = c .before .before .before .before .before in
+    let v = c .before .before .before .before .before .before in
     let q = Of v in
-    let gone = c .before .turn2 .given .0 .0 in
-    let g = turns v (turn.Item gone) (c .before .turn2 .given .1) in
+    let gone = c .before .before .turn2 .given .0 .0 in
+    let g = turns v (turn.Item gone) (c .before .before .turn2 .given .1) in
     let step = taken (doc q) (pos q) (passed q) (book q) (filled q) (g .stepped) (gone .next) (octets q) (Turned q .loop .inv .2) (g .reads) in (
       said (λ (word : ℕ) (exit : List ℕ) (rows₁ used₁ : ℕ). OnWay (doc q) (at q) (rows q) (entry q) (used q) (lent q) (set (words q) (n q) word) exit (gone .next) rows₁ used₁ (n q + 1))
           (g .told) (g .left) (g .counts) (g .fills)
-          (goes (doc q) (at q) (rows q) (entry q) (used q) (lent q) (way q) (g .stepped) (g .which) (gone .next) (v .before .before .before .before .before .if1 .taken) (g .reads) (g .is)),
+          (goes (doc q) (at q) (rows q) (entry q) (used q) (lent q) (way q) (g .stepped) (g .which) (gone .next) (v .before .before .before .before .before .before .if1 .taken) (g .reads) (g .is)),
       step .near,
-      each-octet (v .next-item .last .1 .1 .1 .0) (c .before .before .before .slice-known2 .given),
+      each-octet (v .next-item .last .1 .1 .1 .0) (c .before .before .before .before .slice-known2 .given),
       said (λ (word : ℕ) (exit : List ℕ) (rows used : ℕ). IsBook exit used) (g .told) (g .left) (g .counts) (g .fills) (step .is),
       g .carried,
       v .next-item .kept .1 .1 .1 .0 ∙ Turned q .loop .inv .5,
@@ -283,7 +284,7 @@ add-passed : tie.Need-add-passed Inv-loop μ-loop
 add-passed c = omega (arith, few-passed (c .before))
 
 loop-less : tie.Need-loop-less Inv-loop μ-loop
-loop-less c = let q = Of (c .before .before .before .before .before) in omega (arith, count q)
+loop-less c = let q = Of (c .before .before .before .before .before .before) in omega (arith, count q)
 
 loop-less-2 : tie.Need-loop-less-2 Inv-loop μ-loop
 loop-less-2 c = let q = c .before .before in omega (arith, c .if1 .left, q .before .before .before .before .before .loop-test .taken)
