@@ -14,7 +14,7 @@
  * - `out`: eight words of 64 bits, aligned as uint64_t is.
  * No pointer may be null, not even with a length of 0, and what is lent for writing overlaps nothing else that is lent.
  *
- * ipdr_whole and ipdr_run use some 10,000 octets of stack, the other two less than 1,000.
+ * No call uses more of the stack than the IPDR_*_STACK below, whatever it is given.
  *
  * To check a document:
  *
@@ -72,6 +72,14 @@ extern "C" {
 #define IPDR_BOOK_MOST 64          /* layouts in a book */
 #define IPDR_ROWS_MOST 1048576     /* rows passed that a step may be told */
 #define IPDR_RUN_MOST 4096         /* layouts and rows that one run passes */
+
+/* Octets of stack that a call uses at most, from its return address on: measured by tests/c/calls.c over every refusal
+ * and the largest layouts, books, rows and runs, and held by the gate. They include the C library's memset, the one
+ * function that the archive calls; a library that is bound at its first call, without -z now, adds to that call. */
+#define IPDR_HEADER_STACK 160
+#define IPDR_STEP_STACK 640
+#define IPDR_RUN_STACK 4000
+#define IPDR_WHOLE_STACK 4000
 
 /* Refusal numbers, each with the place that comes with it. The first fault in reading order is the one given. */
 enum ipdr_refusal {

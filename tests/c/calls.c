@@ -1,7 +1,8 @@
 /* Calls each entry point for C on the specimen, on changed specimens and on documents at the limits, and compares the
- * answer and everything lent: on acceptance with what is due, on a refusal with what it was before.
+ * answer and everything lent: on acceptance with what is due, on a refusal with what it was before. Every call is made
+ * on a painted stack, and at the end what each entry point used of it is held to the figure in ipdr.h.
  * A line for each check; the last line is `N passed, M failed`. */
-#include "ipdr.h"
+#include "painted.h"
 
 #include <stdio.h>
 #include <string.h>
@@ -96,6 +97,28 @@ static void put_layout(uint32_t number, size_t name)
     put_number(0);
 }
 
+/* A layout of so many attributes without names, of one type. */
+static void put_wide_layout(uint32_t number, uint32_t attributes, uint32_t type)
+{
+    put_number(1);
+    put_number(number);
+    put_number(0);
+    put_number(attributes);
+    for (uint32_t i = 0; i < attributes; i++) {
+        put_number(0);
+        put_number(type);
+    }
+}
+
+/* A row of zeros, its length unstated. */
+static void put_zero_row(uint32_t number, size_t octets)
+{
+    put_number(2);
+    put_number(number);
+    put_number(0xffffffff);
+    put_zeros(octets);
+}
+
 /* The specimen with four octets changed to those of a number. */
 static void change(size_t place, uint32_t number)
 {
@@ -149,49 +172,42 @@ static void header_accepts(const char *what, uint64_t start, uint64_t namespaces
 {
     lend_words();
     uint64_t words[WORDS] = {start, namespaces, services, next, out[4], out[5], out[6], out[7]};
-    check(what, ipdr_header(made.at, made.len, out) == 0 && words_are(words));
+    check(what, painted_header(made.at, made.len, out) == 0 && words_are(words));
 }
 
 static void header_refuses(const char *what, uint32_t number, uint32_t place)
 {
     lend_words();
-    check(what, is_refusal(ipdr_header(made.at, made.len, out), number, place) && words_are(out_before));
+    check(what, is_refusal(painted_header(made.at, made.len, out), number, place) && words_are(out_before));
 }
 
 static void whole_accepts(const char *what, uint64_t rows)
 {
     uint64_t lent = UINT64_C(0xfedcba9876543210);
-    check(what, ipdr_whole(made.at, made.len, &lent) == 0 && lent == rows);
+    check(what, painted_whole(made.at, made.len, &lent) == 0 && lent == rows);
 }
 
 static void whole_refuses(const char *what, uint32_t number, uint32_t place)
 {
     const uint64_t before = UINT64_C(0xfedcba9876543210);
     uint64_t lent = before;
-    check(what, is_refusal(ipdr_whole(made.at, made.len, &lent), number, place) && lent == before);
+    check(what, is_refusal(painted_whole(made.at, made.len, &lent), number, place) && lent == before);
 }
 
 /* A step that puts no layout into the book. */
 static void step_accepts(const char *what, uint32_t at, uint32_t rows, uint32_t used, const uint64_t words[WORDS])
 {
     lend_words();
-    check(what, ipdr_step(made.at, made.len, at, rows, book, book_len, used, out) == 0 && words_are(words) && book_is_as_lent());
+    check(what, painted_step(made.at, made.len, at, rows, book, book_len, used, out) == 0 && words_are(words) && book_is_as_lent());
 }
 
 /* A step that puts the document's octets from a place on behind the used ones of the book. */
 static void step_learns(const char *what, uint32_t at, uint32_t used, size_t from, size_t count, const uint64_t words[WORDS])
 {
     lend_words();
-    int accepted = ipdr_step(made.at, made.len, at, 0, book, book_len, used, out) == 0;
+    int accepted = painted_step(made.at, made.len, at, 0, book, book_len, used, out) == 0;
     memcpy(book_before + used, made.at + from, count);
     check(what, accepted && words_are(words) && book_is_as_lent());
-}
-
-static void step_refuses(const char *what, uint32_t at, uint32_t rows, uint32_t used, uint32_t number, uint32_t place)
-{
-    lend_words();
-    uint64_t answer = ipdr_step(made.at, made.len, at, rows, book, book_len, used, out);
-    check(what, is_refusal(answer, number, place) && words_are(out_before) && book_is_as_lent());
 }
 
 /* The items of a run, as many words as lent and a few that no call may touch. */
@@ -227,9 +243,9 @@ static void run_is_steps(const char *what, uint32_t at, uint32_t rows, uint32_t 
     lend_words();
     lend_items();
     memcpy(stepped, book, sizeof book);
-    int good = ipdr_run(made.at, made.len, at, rows, book, book_len, used, items, out) == 0;
+    int good = painted_run(made.at, made.len, at, rows, book, book_len, used, items, out) == 0;
     while (good && n < count) {
-        good = ipdr_step(made.at, made.len, at, rows, stepped, book_len, used, words) == 0 && item_is_step(items[n], words);
+        good = painted_step(made.at, made.len, at, rows, stepped, book_len, used, words) == 0 && item_is_step(items[n], words);
         at = (uint32_t)words[IPDR_STEP_NEXT];
         rows = (uint32_t)words[IPDR_STEP_ROWS];
         used = (uint32_t)words[IPDR_STEP_USED];
@@ -238,19 +254,19 @@ static void run_is_steps(const char *what, uint32_t at, uint32_t rows, uint32_t 
     const uint64_t due[WORDS] = {count, at, rows, used, 0, 0, 0, 0};
     good = good && words_are(due) && items_are_as_lent_from(count) && memcmp(book, stepped, sizeof book) == 0;
     if (good && count < IPDR_RUN_MOST)
-        good = ipdr_step(made.at, made.len, at, rows, stepped, book_len, used, words) != 0 ? count > 0 : words[IPDR_STEP_KIND] == IPDR_END;
+        good = painted_step(made.at, made.len, at, rows, stepped, book_len, used, words) != 0 ? count > 0 : words[IPDR_STEP_KIND] == IPDR_END;
     check(what, good);
 }
 
-/* A run is refused as the step at its place is, and changes nothing. */
-static void run_refuses(const char *what, uint32_t at, uint32_t rows, uint32_t used, uint32_t number, uint32_t place)
+/* A step is refused, and a run from its place alike; neither changes anything. */
+static void step_refuses(const char *what, uint32_t at, uint32_t rows, uint32_t used, uint32_t number, uint32_t place)
 {
     lend_words();
     lend_items();
-    uint64_t answer = ipdr_run(made.at, made.len, at, rows, book, book_len, used, items, out);
-    int nothing_changed = words_are(out_before) && items_are_as_lent_from(0) && book_is_as_lent();
-    uint64_t step = ipdr_step(made.at, made.len, at, rows, book, book_len, used, out);
-    check(what, is_refusal(answer, number, place) && nothing_changed && answer == step);
+    uint64_t step = painted_step(made.at, made.len, at, rows, book, book_len, used, out);
+    int stepped = is_refusal(step, number, place) && words_are(out_before) && book_is_as_lent();
+    uint64_t run = painted_run(made.at, made.len, at, rows, book, book_len, used, items, out);
+    check(what, stepped && run == step && words_are(out_before) && items_are_as_lent_from(0) && book_is_as_lent());
 }
 
 static void lend_empty_book(void)
@@ -567,31 +583,17 @@ static void try_runs(void)
     run_is_steps("a run at its end", END_AT, 2, LAYOUT_SIZE, 0);
     run_is_steps("a run that reaches the most rows", FIRST_ROW, IPDR_ROWS_MOST, LAYOUT_SIZE, 1);
     lend_specimen_book();
-    run_refuses("a run inside an element: 7 there", FIRST_ROW + 1, 0, LAYOUT_SIZE, IPDR_KIND, FIRST_ROW + 1);
-    run_refuses("a run at the document's end: 1 there", SPECIMEN_SIZE, 2, LAYOUT_SIZE, IPDR_CUT_SHORT, SPECIMEN_SIZE);
-    run_refuses("a run past it: 1 there", SPECIMEN_SIZE + 1, 2, LAYOUT_SIZE, IPDR_CUT_SHORT, SPECIMEN_SIZE + 1);
-    run_refuses("a run at the last place of all: 1 there", UINT32_MAX, 2, LAYOUT_SIZE, IPDR_CUT_SHORT, UINT32_MAX);
-    run_refuses("a run at the end, told one row: 15 at 125", END_AT, 1, LAYOUT_SIZE, IPDR_END_COUNT, 125);
-    run_refuses("a run told too many rows: 17", FIRST_ROW, IPDR_ROWS_MOST + 1, LAYOUT_SIZE, IPDR_LENT, 0);
-    run_refuses("a run over a cut book: 17", FIRST_ROW, 0, LAYOUT_SIZE - 1, IPDR_LENT, 0);
-    run_refuses("17 comes before the place of a run", UINT32_MAX, UINT32_MAX, 1, IPDR_LENT, 0);
-    book_len = IPDR_BOOK_SIZE - 1;
-    run_refuses("a run over a short book: 17", FIRST_ROW, 0, LAYOUT_SIZE, IPDR_LENT, 0);
-    book_len = IPDR_BOOK_SIZE;
-    change(95, 6);
-    run_refuses("a run at a row of length 6: 13 at 95", FIRST_ROW, 0, LAYOUT_SIZE, IPDR_ROW_LENGTH, 95);
+    step_refuses("inside an element: 7 there", FIRST_ROW + 1, 0, LAYOUT_SIZE, IPDR_KIND, FIRST_ROW + 1);
     change_octet(64, 'B');
-    run_refuses("a run at a layout of a known number with another name: 10 at 56", HEADER_END, 0, LAYOUT_SIZE, IPDR_DIFFERS, LAYOUT_NUMBER);
-    begin(SPECIMEN_SIZE - 1);
-    run_refuses("a run at an end that is cut short: 1 at 129", END_AT, 2, LAYOUT_SIZE, IPDR_CUT_SHORT, 129);
+    step_refuses("a layout of a known number with another name: 10 at 56", HEADER_END, 0, LAYOUT_SIZE, IPDR_DIFFERS, LAYOUT_NUMBER);
 
     begin(SPECIMEN_SIZE);
     lend_empty_book();
-    run_refuses("a run at a row of no layout: 12 at 91", FIRST_ROW, 0, 0, IPDR_NO_LAYOUT, 91);
+    step_refuses("a row of no layout: 12 at 91", FIRST_ROW, 0, 0, IPDR_NO_LAYOUT, 91);
     change(SECOND_ROW + 4, 8);
     run_is_steps("a run that meets a row of no layout", HEADER_END, 0, 0, 2);
     lend_specimen_book();
-    run_refuses("the run behind it: 12 at 108", SECOND_ROW, 1, LAYOUT_SIZE, IPDR_NO_LAYOUT, 108);
+    step_refuses("behind that run: 12 at 108", SECOND_ROW, 1, LAYOUT_SIZE, IPDR_NO_LAYOUT, 108);
     begin(SECOND_ROW - 1);
     lend_empty_book();
     run_is_steps("a run that is cut short", HEADER_END, 0, 0, 1);
@@ -607,11 +609,69 @@ static void try_runs(void)
     lend_empty_book();
     run_is_steps("a full run", HEADER_END, 0, 0, IPDR_RUN_MOST);
     run_is_steps("the run behind it", (uint32_t)out[IPDR_RUN_NEXT], (uint32_t)out[IPDR_RUN_ROWS], (uint32_t)out[IPDR_RUN_USED], 5002 - IPDR_RUN_MOST);
+}
 
-    begin(SPECIMEN_SIZE);
-    put_zeros(IPDR_DOCUMENT_MOST + 1 - SPECIMEN_SIZE);
+/* Layouts and rows as large as they come: a layout of 64 attributes of each type, then a book of 64 layouts of 62
+ * strings, more than are read by plans, each with two rows, the last of them cut short. */
+static void try_large(void)
+{
+    for (uint32_t type = 0x21; type <= 0x2d; type++) {
+        static const uint8_t widths[] = {4, 4, 8, 8, 4, 8, 4, 4, 1, 1, 1, 2, 2};
+        char what[40];
+        snprintf(what, sizeof what, "64 attributes of type %x", type);
+        begin(HEADER_END);
+        put_wide_layout(type, 64, type);
+        put_zero_row(type, 64 * widths[type - 0x21]);
+        put_zero_row(type, 64 * widths[type - 0x21]);
+        put_end(2);
+        whole_accepts(what, 2);
+        lend_empty_book();
+        run_is_steps(what, HEADER_END, 0, 0, 3);
+    }
+
+    begin(HEADER_END);
+    for (uint32_t n = 0; n < IPDR_BOOK_MOST; n++)
+        put_wide_layout(n, 62, 0x28);
+    uint32_t rows_at = (uint32_t)made.len;
+    for (uint32_t n = 0; n < 2 * IPDR_BOOK_MOST; n++)
+        put_zero_row(n % IPDR_BOOK_MOST, 62 * 4);
+    uint32_t end_at = (uint32_t)made.len;
+    put_end(2 * IPDR_BOOK_MOST);
+    whole_accepts("a full book of 62 strings each", 2 * IPDR_BOOK_MOST);
     lend_empty_book();
-    run_refuses("a run over a document of 1,048,577 octets: 2", HEADER_END, 0, 0, IPDR_TOO_LONG, 0);
+    run_is_steps("a run over them", HEADER_END, 0, 0, 3 * IPDR_BOOK_MOST);
+    uint32_t used = (uint32_t)out[IPDR_RUN_USED];
+    check("a full book uses 508 octets for each layout", used == 508 * IPDR_BOOK_MOST);
+    run_is_steps("a run over its rows", rows_at, 0, used, 2 * IPDR_BOOK_MOST);
+    memcpy(book_before, book, sizeof book);
+    made.len = end_at - 1;
+    uint32_t cut = end_at - 4;
+    whole_refuses("the last row cut short: 1 at its last value", IPDR_CUT_SHORT, cut);
+    step_refuses("the last row cut short: 1 at its last value", end_at - 12 - 62 * 4, 0, used, IPDR_CUT_SHORT, cut);
+}
+
+/* What calls have used of their stacks. */
+static void try_stacks(void)
+{
+    static const struct {
+        const char *name;
+        enum painted which;
+        size_t stated;
+    } calls[] = {
+        {"ipdr_header", PAINTED_HEADER, IPDR_HEADER_STACK},
+        {"ipdr_step", PAINTED_STEP, IPDR_STEP_STACK},
+        {"ipdr_run", PAINTED_RUN, IPDR_RUN_STACK},
+        {"ipdr_whole", PAINTED_WHOLE, IPDR_WHOLE_STACK},
+    };
+    painted_deep();
+    check("a function that writes 1,000 octets deep is measured so", painted_most(PAINTED_DEEP) == PAINTED_DEPTH);
+    check("no call's answer depends on what stood on its stack", painted_apart == 0);
+    for (size_t i = 0; i < sizeof calls / sizeof calls[0]; i++) {
+        char what[80];
+        size_t most = painted_most(calls[i].which);
+        snprintf(what, sizeof what, "stack of %s: %zu octets, %zu are stated", calls[i].name, most, calls[i].stated);
+        check(what, 0 < most && most <= calls[i].stated);
+    }
 }
 
 int main(void)
@@ -625,6 +685,8 @@ int main(void)
     try_lent();
     try_limits();
     try_runs();
+    try_large();
+    try_stacks();
     printf("%d passed, %d failed\n", passed, failed);
     return failed != 0;
 }
