@@ -1,6 +1,6 @@
 """Documents to compare readers on: the measured ones, border cases, and damaged ones, all made from a seed."""
 from documents import (ALL_TYPES, BOOLEAN, END_SIZE, KIND_LAYOUT, MOST_ATTRIBUTES, MOST_DOCUMENT, MOST_LAYOUTS, MOST_LISTED,
-                       SHAPES, Image, Layout, Random, document, many, measured, put_end, put_header, put_layout)
+                       SHAPES, Image, Layout, Random, document, many, measured, put_end, put_header, put_layout, texts)
 
 RECORDER = 4  # the place of the recorder's length
 
@@ -19,7 +19,7 @@ def bases():
     """What is damaged: short documents, so that damage meets headers and layouts as often as rows."""
     small = {"short": 600, "wide": 1500, "strings": 1200}
     images = {shape: SHAPES[shape](size) for shape, size in small.items()}
-    return {**images, "mixed": mixed(900), "many": many(36_000)}
+    return {**images, "mixed": mixed(900), "many": many(36_000), "texts": texts(60_000)}
 
 
 def number_at(octets, place):

@@ -203,15 +203,25 @@ def many(size, seed=4, count=MOST_LAYOUTS):
     return document(layouts[:count], size, seed, 8)
 
 
-def few(size):
-    """A sixteenth of those layouts."""
-    return many(size, count=MOST_LAYOUTS // 16)
+@functools.cache
+def texts(size, seed=6, count=MOST_LAYOUTS):
+    """As many layouts of 62 strings, or the first of them, used in turn: more than our checks have plans for."""
+    layouts = [Layout(1000 + i, b"", [(b"", STRING)] * 62) for i in range(MOST_LAYOUTS)]
+    return document(layouts[:count], size, seed, 8)
+
+
+def few(shape):
+    """The shape with a sixteenth of its layouts."""
+    return lambda size: shape(size, count=MOST_LAYOUTS // 16)
 
 
 SHAPES = {"short": short, "wide": wide, "strings": strings, "many": many}
 
+# What is counted only where it is named.
+NAMED = {**SHAPES, "texts": texts}
+
 # What stands for a shape in a sixteenth of a document: the same shape, with a sixteenth of its layouts where it has many.
-SIXTEENTHS = {**SHAPES, "many": few}
+SIXTEENTHS = {**NAMED, "many": few(many), "texts": few(texts)}
 
 SMALL = MOST_DOCUMENT // 16
 
@@ -229,8 +239,8 @@ def measured(shapes=SHAPES):
     """
     yield from small(shapes)
     for shape in shapes:
-        yield shape, "large", bytes(SHAPES[shape](MOST_DOCUMENT).octets)
-        yield shape, "large bare", bytes(SHAPES[shape](0).octets)
+        yield shape, "large", bytes(NAMED[shape](MOST_DOCUMENT).octets)
+        yield shape, "large bare", bytes(NAMED[shape](0).octets)
         yield shape, "small bare", bytes(SIXTEENTHS[shape](0).octets)
     if "many" in shapes:
         yield "many", "crowded", bytes(many(SMALL).octets)

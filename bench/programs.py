@@ -31,8 +31,8 @@ NATIVE = platform.machine() == "x86_64"
 # it uses stores, each of which is an instruction.
 PLAIN_STORES = dict(os.environ, GLIBC_TUNABLES="glibc.cpu.x86_rep_stosb_threshold=1073741824")
 
-# The emulator writes a line for each instruction that it executes.
-LINE_EACH = dict(os.environ, QEMU_ONE_INSN_PER_TB="1", QEMU_LOG="nochain,exec")
+# The emulator writes a line for each instruction that it executes, and for each turn of a repeating one.
+LINE_EACH = dict(PLAIN_STORES, QEMU_ONE_INSN_PER_TB="1", QEMU_LOG="nochain,exec")
 
 
 def ours_is_there():

@@ -102,11 +102,11 @@ def print_all(shapes):
 def main():
     words = argparse.ArgumentParser(prog="bench/run")
     words.add_argument("--small", action="store_true", help="documents of 64 KiB alone")
-    words.add_argument("document", nargs="*", help=f"of {', '.join(documents.SHAPES)}; all if none is named")
+    words.add_argument("document", nargs="*", help=f"of {', '.join(documents.NAMED)}; the first four if none is named")
     given = words.parse_args()
-    unknown = set(given.document) - set(documents.SHAPES)
+    unknown = set(given.document) - set(documents.NAMED)
     if unknown:
-        words.error(f"no document {', '.join(sorted(unknown))}; there are {', '.join(documents.SHAPES)}")
+        words.error(f"no document {', '.join(sorted(unknown))}; there are {', '.join(documents.NAMED)}")
     (print_small if given.small else print_all)(given.document or list(documents.SHAPES))
 
 
