@@ -64,26 +64,38 @@ grown-known t l = go (holds t l) refl
 -- The plans behind a plan that was put, or for which there was no room.
 module _ (titles steps put : List ℕ) (t : Tally) (book : Book) (m : Made titles steps t book) (room : t .known < 64)
     (kept : take (t .filled) put ≡ take (t .filled) steps) (long : length put ≡ 1216) where
-  old : (i : ℕ) → i < t .plans → Placed titles put (t .filled) i book
-  old i h =
+  -- What was placed stays, where its title and the step that says its place do, and the steps behind the first 64.
+  stays : (titles₁ steps₁ : List ℕ) (filled₁ : ℕ) → t .filled ≤ filled₁ → (i : ℕ) → i < t .plans → getD titles₁ i 0 ≡ getD titles i 0 → getD steps₁ i 0 ≡ getD put i 0
+      → ((at : ℕ) (xs : List ℕ) → 64 ≤ at → Begins put at xs → Begins steps₁ at xs) → Placed titles₁ steps₁ filled₁ i book
+  stays titles₁ steps₁ filled₁ more i h title place on =
       let p = m .each i h in
       let e = p .entry in
-      let here : getD put i 0 ≡ getD steps i 0 = sym (getD-take (t .filled) put i 0 (omega (arith, m .behind, m .start))) ∙ (ap (λ (xs : List ℕ). getD xs i 0) kept ∙ getD-take (t .filled) steps i 0 (omega (arith, m .behind, m .start))) in
+      let low : i < t .filled = omega (arith, m .behind, m .start) in
+      let here : getD steps₁ i 0 ≡ getD steps i 0 = place ∙ (sym (getD-take (t .filled) put i 0 low) ∙ (ap (λ (xs : List ℕ). getD xs i 0) kept ∙ getD-take (t .filled) steps i 0 low)) in
       record {
         entry = record {
           layout = e .layout;
-          found = e .found;
+          found = ap (λ (n : ℕ). find n book) title ∙ e .found;
           stands =
               rw here
-              (begins-kept steps put (getD steps i 0) (t .filled) (planFor (e .layout)) (p .upto) (omega (arith, m .end, m .steps-long)) (long ∙ sym (m .steps-long)) kept (e .stands));
+              (on (getD steps i 0) (planFor (e .layout)) (p .from)
+              (begins-kept steps put (getD steps i 0) (t .filled) (planFor (e .layout)) (p .upto) (omega (arith, m .end, m .steps-long)) (long ∙ sym (m .steps-long)) kept (e .stands)));
         };
         from = rw here (p .from);
-        upto = rw here (p .upto);
+        upto = rw here (omega (arith, p .upto));
       }
 
   pub made-full : Made titles put (without t) book
   made-full =
-      record { few = omega arith; behind = omega (arith, m .behind); start = m .start; end = m .end; titles-long = m .titles-long; steps-long = long; each = old }
+      record {
+        few = omega arith;
+        behind = omega (arith, m .behind);
+        start = m .start;
+        end = m .end;
+        titles-long = m .titles-long;
+        steps-long = long;
+        each = λ i h. stays titles put (t .filled) (omega arith) i h refl refl (λ at xs _ b. b);
+      }
 
   module _ (l : Layout) (found : find (l .number) book ≡ some l) (stands : Begins put (t .filled) (planFor l)) where
     abbrev titles₁ : List ℕ
@@ -110,19 +122,10 @@ module _ (titles steps put : List ℕ) (t : Tally) (book : Book) (m : Made title
           upto = rw here (omega arith);
         })
 
-    before : (i : ℕ) → i < t .plans → Placed titles put (t .filled) i book → Placed titles₁ steps₁ filled₁ i book
-    before i h p =
-        let e = p .entry in
-        let here : getD steps₁ i 0 ≡ getD put i 0 = getD-set-other put (t .plans) i (t .filled) 0 (λ z. omega arith) in
-        record {
-          entry = record {
-            layout = e .layout;
-            found = ap (λ (n : ℕ). find n book) (getD-set-other titles (t .plans) i (l .number) 0 (λ z. omega arith)) ∙ e .found;
-            stands = rw here (begins-behind put (getD put i 0) (t .plans) (t .filled) (planFor (e .layout)) (omega (arith, m .behind, p .from)) (e .stands));
-          };
-          from = rw here (p .from);
-          upto = rw here (omega (arith, p .upto));
-        }
+    before : (i : ℕ) → i < t .plans → Placed titles₁ steps₁ filled₁ i book
+    before i h =
+        stays titles₁ steps₁ filled₁ (omega arith) i h (getD-set-other titles (t .plans) i (l .number) 0 (λ z. omega arith)) (getD-set-other put (t .plans) i (t .filled) 0 (λ z. omega arith))
+        (λ at xs from. begins-behind put at (t .plans) (t .filled) xs (omega (arith, m .behind)))
 
     pub made-more : Made titles₁ steps₁ (withPlan t filled₁) book
     made-more =
@@ -137,7 +140,7 @@ module _ (titles steps put : List ℕ) (t : Tally) (book : Book) (m : Made title
         }
       where
         go : (i : ℕ) → i < t .plans + 1 → (b : Bool) → ltb i (t .plans) ≡ b → Placed titles₁ steps₁ filled₁ i book
-        go i h true e = let k = ltb-true i (t .plans) e in before i k (old i k)
+        go i h true e = before i (ltb-true i (t .plans) e)
         go i h false e = let k = ltb-false i (t .plans) e in last i (omega arith)
 
 -- One number more that is another.

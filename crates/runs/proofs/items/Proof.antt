@@ -189,11 +189,14 @@ Answered = tie.After-next-item Inv-loop μ-loop
 abbrev Of : Answered → Strode
 Of v = v .before .before .before .before .before .before .before .before
 
-turns : (v : Answered) (x : kind.Turn) → v .next-item .result ≡ x
-    → Turns (doc (Of v)) (pos (Of v)) (passed (Of v)) (book (Of v)) (filled (Of v)) (v .next-item .last .1 .1 .1 .0) (v .next-item .last .1 .1 .1 .1 .1 .0) (v .next-item .last .1 .1 .1 .1 .1 .1 .0) (v .next-item .last .1 .1 .1 .1 .1 .1 .1 .0) (v .next-item .last .1 .1 .1 .1 .1 .1 .1 .1 .0) x
-turns v x e =
-    subst (Turns (doc (Of v)) (pos (Of v)) (passed (Of v)) (book (Of v)) (filled (Of v)) (v .next-item .last .1 .1 .1 .0) (v .next-item .last .1 .1 .1 .1 .1 .0) (v .next-item .last .1 .1 .1 .1 .1 .1 .0) (v .next-item .last .1 .1 .1 .1 .1 .1 .1 .0) (v .next-item .last .1 .1 .1 .1 .1 .1 .1 .1 .0)) e
-    (v .next-item .ensures)
+-- What a turn there says, with all that was lent to it.
+abbrev Says : Answered → kind.Turn → Type 0
+Says v =
+    Turns (doc (Of v)) (pos (Of v)) (passed (Of v)) (book (Of v)) (filled (Of v)) (v .next-item .last .1 .1 .1 .0) (v .next-item .last .1 .1 .1 .1 .1 .0) (v .next-item .last .1 .1 .1 .1 .1 .1 .0)
+    (v .next-item .last .1 .1 .1 .1 .1 .1 .1 .0) (v .next-item .last .1 .1 .1 .1 .1 .1 .1 .1 .0)
+
+turns : (v : Answered) (x : kind.Turn) → v .next-item .result ≡ x → Says v x
+turns v x e = subst (Says v) e (v .next-item .ensures)
 
 next-item-requires : tie.Need-next-item-requires Inv-loop μ-loop
 next-item-requires c κs =
@@ -202,7 +205,7 @@ next-item-requires c κs =
 
 -- The step there is refused.
 module _ (v : Answered) (number place : ℕ) (e : v .next-item .result ≡ turn.Refused number place) where
-  refused : Turns (doc (Of v)) (pos (Of v)) (passed (Of v)) (book (Of v)) (filled (Of v)) (v .next-item .last .1 .1 .1 .0) (v .next-item .last .1 .1 .1 .1 .1 .0) (v .next-item .last .1 .1 .1 .1 .1 .1 .0) (v .next-item .last .1 .1 .1 .1 .1 .1 .1 .0) (v .next-item .last .1 .1 .1 .1 .1 .1 .1 .1 .0) (turn.Refused number place)
+  refused : Says v (turn.Refused number place)
   refused = turns v (turn.Refused number place) e
 
   halted : runFrom (4096 - n (Of v)) (doc (Of v)) (pos (Of v)) (passed (Of v)) (book (Of v)) (filled (Of v)) ≡ stopped (pos (Of v)) (passed (Of v)) (book (Of v)) (filled (Of v))
