@@ -1,6 +1,6 @@
 """Documents to compare readers on: the measured ones, border cases, and damaged ones, all made from a seed."""
 from documents import (ALL_TYPES, BOOLEAN, END_SIZE, KIND_LAYOUT, MOST_ATTRIBUTES, MOST_DOCUMENT, MOST_LAYOUTS, MOST_LISTED,
-                       SHAPES, Image, Layout, Random, document, many, measured, put_end, put_header, put_layout, texts)
+                       NAMED, SHAPES, STRING, Image, Layout, Random, document, many, measured, put_end, put_header, put_layout, texts)
 
 RECORDER = 4  # the place of the recorder's length
 
@@ -15,11 +15,17 @@ def mixed(size, seed=5):
     return document(layouts, size, seed, 12)
 
 
+def crowded(size, strings, seed=7):
+    """18 layouts whose plans leave 18 steps, one that does not fit, one of so many strings, and two short ones."""
+    kinds = [[STRING] * 62] * 19 + [[STRING] * strings, [0x22, 0x2D, 0x2A], [BOOLEAN] * 3]
+    return document([Layout(i, b"", [(b"", kind) for kind in types]) for i, types in enumerate(kinds)], size, seed, 4)
+
+
 def bases():
     """What is damaged: short documents, so that damage meets headers and layouts as often as rows."""
     small = {"short": 600, "wide": 1500, "strings": 1200}
     images = {shape: SHAPES[shape](size) for shape, size in small.items()}
-    return {**images, "mixed": mixed(900), "many": many(36_000), "texts": texts(60_000)}
+    return {**images, "mixed": mixed(900), "many": many(36_000), "texts": texts(60_000), "crowded": crowded(20_000, 16)}
 
 
 def number_at(octets, place):
@@ -200,13 +206,15 @@ def border_cases():
     yield "another version", with_number(bare, 0, 3)
     yield "an id of another length", with_number(bare, len(bare) - END_SIZE - 24, 15)
     yield "a header not followed by its mark", with_number(bare, len(bare) - END_SIZE - 4, 0)
+    for strings in range(15, 19):
+        yield f"a plan of {strings} strings more", bytes(crowded(30_000, strings).octets)
     yield "a book too full", book_over()
     yield "a layout again, shorter", shorter_again()
 
 
 def all_cases(count, seed):
     """A name and the octets of every document to compare on."""
-    for shape, size, octets in measured():
+    for shape, size, octets in measured(NAMED):
         yield f"{shape} {size}", octets
     yield from border_cases()
     yield from damaged(count, seed)

@@ -203,16 +203,15 @@ def many(size, seed=4, count=MOST_LAYOUTS):
     return document(layouts[:count], size, seed, 8)
 
 
+def few(size):
+    """A sixteenth of those layouts."""
+    return many(size, count=MOST_LAYOUTS // 16)
+
+
 @functools.cache
-def texts(size, seed=6, count=MOST_LAYOUTS):
-    """As many layouts of 62 strings, or the first of them, used in turn: more than our checks have plans for."""
-    layouts = [Layout(1000 + i, b"", [(b"", STRING)] * 62) for i in range(MOST_LAYOUTS)]
-    return document(layouts[:count], size, seed, 8)
-
-
-def few(shape):
-    """The shape with a sixteenth of its layouts."""
-    return lambda size: shape(size, count=MOST_LAYOUTS // 16)
+def texts(size, seed=6):
+    """As many layouts of 62 strings, used in turn: more than our checks have plans for."""
+    return document([Layout(1000 + i, b"", [(b"", STRING)] * 62) for i in range(MOST_LAYOUTS)], size, seed, 8)
 
 
 SHAPES = {"short": short, "wide": wide, "strings": strings, "many": many}
@@ -221,7 +220,7 @@ SHAPES = {"short": short, "wide": wide, "strings": strings, "many": many}
 NAMED = {**SHAPES, "texts": texts}
 
 # What stands for a shape in a sixteenth of a document: the same shape, with a sixteenth of its layouts where it has many.
-SIXTEENTHS = {**NAMED, "many": few(many), "texts": few(texts)}
+SIXTEENTHS = {**NAMED, "many": few}
 
 SMALL = MOST_DOCUMENT // 16
 

@@ -14,7 +14,7 @@
  * - `out`: eight words of 64 bits, aligned as uint64_t is.
  * No pointer may be null, not even with a length of 0, and what is lent for writing overlaps nothing else that is lent.
  *
- * No call uses more of the stack than the IPDR_*_STACK below, whatever it is given.
+ * A call uses at most the IPDR_*_STACK octets of stack below; link with -Wl,-z,now for them to hold of the first call too.
  *
  * To check a document:
  *
@@ -73,9 +73,10 @@ extern "C" {
 #define IPDR_ROWS_MOST 1048576     /* rows passed that a step may be told */
 #define IPDR_RUN_MOST 4096         /* layouts and rows that one run passes */
 
-/* Octets of stack that a call uses at most, from its return address on: measured by tests/c/calls.c over every refusal
- * and the largest layouts, books, rows and runs, and held by the gate. They include the C library's memset, the one
- * function that the archive calls; a library that is bound at its first call, without -z now, adds to that call. */
+/* Octets of stack that a call uses at most, from its return address on: measured by tests/c/calls.c over every refusal,
+ * full books, layouts and rows of 64 values and full runs, and held by the gate. They include the C library's memset,
+ * the one function that the archive calls. If the library is bound at its first call, without -z now, that call uses
+ * some 3,400 octets more, which the loader takes; what a signal handler uses comes on top as well. */
 #define IPDR_HEADER_STACK 160
 #define IPDR_STEP_STACK 640
 #define IPDR_RUN_STACK 4000

@@ -378,6 +378,10 @@ static void try_header_refusals(void)
     }
     change(4, 0xffffffff);
     header_and_whole_refuse("recorder of FFFFFFFF octets: 1 at 4", IPDR_CUT_SHORT, 4);
+    change(16, 0xffffffff);
+    header_and_whole_refuse("default namespace of FFFFFFFF octets: 1 at 16", IPDR_CUT_SHORT, 16);
+    change(20, 16);
+    header_and_whole_refuse("16 namespaces, the second of FFFFFFFF octets: 1 at 48", IPDR_CUT_SHORT, 48);
     change(20, 17);
     header_and_whole_refuse("17 namespaces: 4 at 20", IPDR_COUNT, 20);
     change(24, 17);
@@ -553,6 +557,14 @@ static void try_limits(void)
     put_layout(IPDR_BOOK_MOST, 0);
     put_end(0);
     whole_refuses("65 layouts: 11 at the last one's number", IPDR_BOOK_FULL, at + 4);
+    lend_empty_book();
+    for (uint32_t n = 0; n < IPDR_BOOK_MOST; n++)
+        memcpy(book + n * 12, made.at + HEADER_END + n * 16 + 4, 12);
+    memcpy(book_before, book, sizeof book);
+    step_refuses("the 65th layout: 11 at its number", at, 0, IPDR_BOOK_MOST * 12, IPDR_BOOK_FULL, at + 4);
+    memcpy(book + IPDR_BOOK_MOST * 12, made.at + at + 4, 12);
+    memcpy(book_before, book, sizeof book);
+    step_refuses("a book of 65 layouts: 17", at, 0, (IPDR_BOOK_MOST + 1) * 12, IPDR_LENT, 0);
 
     /* Two layouts that fill the book, then the second with a name of one octet more. */
     for (size_t more = 0; more < 2; more++) {
@@ -650,7 +662,51 @@ static void try_large(void)
     step_refuses("the last row cut short: 1 at its last value", end_at - 12 - 62 * 4, 0, used, IPDR_CUT_SHORT, cut);
 }
 
+/* Rows under layouts that have plans and layouts that have none, each once unstated and once stated: 18 layouts of 62
+ * strings, whose plans take 1,134 of 1,152 steps; one more that does not fit; one of so many strings, which fits; and one
+ * of numbers and one of booleans, of one and four steps. */
+static void try_plans(uint32_t strings)
+{
+    static const uint8_t bits[3] = {1, 0, 1};
+    char what[60];
+    begin(HEADER_END);
+    for (uint32_t n = 0; n < 19; n++)
+        put_wide_layout(n, 62, 0x28);
+    put_wide_layout(19, strings, 0x28);
+    put_wide_layout(20, 3, 0x22);
+    put_wide_layout(21, 3, 0x29);
+    uint32_t last_row = 0;
+    for (uint32_t stated = 0; stated < 2; stated++)
+        for (uint32_t n = 0; n < 22; n++) {
+            uint32_t size = n < 19 ? 62 * 4 : n == 19 ? strings * 4 : n == 20 ? 12 : 3;
+            last_row = (uint32_t)made.len;
+            put_number(2);
+            put_number(n);
+            put_number(stated ? size : 0xffffffff);
+            if (n == 21)
+                put(bits, 3);
+            else
+                put_zeros(size);
+        }
+    put_end(44);
+    snprintf(what, sizeof what, "layouts with plans and without, one of %u strings", strings);
+    whole_accepts(what, 44);
+    lend_empty_book();
+    run_is_steps(what, HEADER_END, 0, 0, 22 + 44);
+    uint32_t used = (uint32_t)out[IPDR_RUN_USED];
+    memcpy(book_before, book, sizeof book);
+    made.at[last_row + 14] = 2;
+    whole_refuses("a boolean of 2 in the last row: 14 there", IPDR_BOOLEAN, last_row + 14);
+    step_refuses("a boolean of 2 in the last row: 14 there", last_row, 0, used, IPDR_BOOLEAN, last_row + 14);
+    made.at[last_row + 14] = 1;
+    made.at[last_row + 11] = 4;
+    whole_refuses("a length of one more in the last row: 13 there", IPDR_ROW_LENGTH, last_row + 8);
+    step_refuses("a length of one more in the last row: 13 there", last_row, 0, used, IPDR_ROW_LENGTH, last_row + 8);
+}
+
 /* What calls have used of their stacks. */
+_Static_assert(IPDR_HEADER_STACK <= 1024 && IPDR_STEP_STACK <= 1024, "calls that keep no plans fit 1,024 octets");
+_Static_assert(IPDR_RUN_STACK <= 4096 && IPDR_WHOLE_STACK <= 4096, "calls that keep plans fit 4,096 octets");
 static void try_stacks(void)
 {
     static const struct {
@@ -686,6 +742,8 @@ int main(void)
     try_limits();
     try_runs();
     try_large();
+    for (uint32_t strings = 15; strings <= 18; strings++)
+        try_plans(strings);
     try_stacks();
     printf("%d passed, %d failed\n", passed, failed);
     return failed != 0;

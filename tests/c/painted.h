@@ -1,6 +1,6 @@
-/* The calls of ipdr.h, each on a stack of its own that was painted before: what calls have used of it shows. Every call
- * is made twice with the same octets lent, on two stacks of different paint, so that an octet which was written differs
- * from the paint of one of them, whatever was written. */
+/* The calls of ipdr.h, each on a stack of its own that is painted before every call: what calls have used of it shows.
+ * Every call is made twice with the same octets lent, on two stacks whose paint differs at every octet, so that an octet
+ * which was written differs from the paint of one of them, and an answer that depends on what stood there shows too. */
 #ifndef PAINTED_H
 #define PAINTED_H
 

@@ -20,7 +20,7 @@ use Rattle.layouts.proofs.Parts.{layout-extends}
 use Rattle.layouts.proofs.Finding.{Within, find-here, find-skip, find-nil, find-front, find-behind}
 use Rattle.rows.specs.Row.{Field, Row, fieldsIn, filled, valuesAt, named, rowAt}
 use Rattle.rows.proofs.Lengths.{values-open, values-past, values-stated, filled-ok, filled-short, row-cut}
-use Rattle.plans.specs.Plan.{planOf, planFor, Begins, Planned, Placed, Made, withPlan, without, holds, grown, nothing, Lacks, Kept}
+use Rattle.plans.specs.Plan.{planOf, planFor, Begins, Planned, Placed, Made, withPlan, without, holds, grown, titled, tallied, shelved, nothing, Lacks, Kept}
 use Rattle.plans.specs.declared.Tally.{Tally}
 use Rattle.plans.specs.Answers.{Follows, Lasts}
 use Rattle.plans.specs.declared.Passed.{Passed}
@@ -60,6 +60,15 @@ grown-known t l = go (holds t l) refl
     go : (b : Bool) → holds t l ≡ b → grown t l .known ≡ t .known + 1
     go true e = rw e refl
     go false e = rw e refl
+
+-- One layout more behind a book.
+pub tallied-more : (t : Tally) (b : Book) (l : Layout) → tallied t (b ++ l ∷ []) ≡ grown (tallied t b) l
+tallied-more t [] l = refl
+tallied-more t (k ∷ b) l = tallied-more (grown t k) b l
+
+pub shelved-more : (titles : List ℕ) (t : Tally) (b : Book) (l : Layout) → shelved titles t (b ++ l ∷ []) ≡ titled (shelved titles t b) (tallied t b) l
+shelved-more titles t [] l = refl
+shelved-more titles t (k ∷ b) l = shelved-more (titled titles t k) (grown t k) b l
 
 -- The plans behind a plan that was put, or for which there was no room.
 module _ (titles steps put : List ℕ) (t : Tally) (book : Book) (m : Made titles steps t book) (room : t .known < 64)

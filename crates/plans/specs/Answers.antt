@@ -47,13 +47,13 @@ abbrev pub Lasts : List ℕ → ℕ → List ℕ → ℕ → Passed → Type 0
 Lasts s at steps from (passed.To p) = (xs : List Attribute) → Begins steps from (planOf 0 xs) → ends (valuesAt xs s at (be 4 s at)) ≡ ok p p
 Lasts s at steps from passed.Unsure = (xs : List Attribute) → Begins steps from (planOf 0 xs) → isOk (valuesAt xs s at (be 4 s at)) ≡ false
 
--- Where a row stands at a place, behind its kind, and its layout's number has an index, it is refused.
+-- Where a row stands at a place, behind its kind, and its layout has a plan, it is refused.
 abbrev pub Refuses : List ℕ → ℕ → Book → List ℕ → ℕ → Type 0
-Refuses s at book numbers known =
-    (i : ℕ) → i < known → getD numbers i 0 ≡ be 4 s (at + 4) → number 4 s at ≡ ok 2 (at + 4) → isOk (rowAt book s (at + 4)) ≡ false
+Refuses s at book titles plans =
+    (i : ℕ) → i < plans → getD titles i 0 ≡ be 4 s (at + 4) → number 4 s at ≡ ok 2 (at + 4) → isOk (rowAt book s (at + 4)) ≡ false
 
--- A row of a book stands at a place, behind its kind, and ends at another; its layout's number has an index.
+-- A row of a book stands at a place, behind its kind, and ends at another; its layout has a plan.
 abbrev pub Passes : List ℕ → ℕ → Book → List ℕ → ℕ → Quick → Type 0
-Passes s at book numbers known (quick.Row next i) =
-    (i < known) × (getD numbers i 0 ≡ be 4 s (at + 4)) × (number 4 s at ≡ ok 2 (at + 4)) × ((row : Row) × (rowAt book s (at + 4) ≡ ok row next))
-Passes s at book numbers known quick.Unsure = Refuses s at book numbers known
+Passes s at book titles plans (quick.Row next i) =
+    (i < plans) × (getD titles i 0 ≡ be 4 s (at + 4)) × (number 4 s at ≡ ok 2 (at + 4)) × ((row : Row) × (rowAt book s (at + 4) ≡ ok row next))
+Passes s at book titles plans quick.Unsure = Refuses s at book titles plans

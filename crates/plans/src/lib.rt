@@ -1,4 +1,5 @@
-// Plans: each layout's values as steps made once, so that a row is passed without its layout's octets. What no plan passes is left to the exact readers, for its refusal.
+// Plans: a layout's values as steps made once, so that a row is passed without its layout's octets. There is room for 1,152 steps in all, behind 64 that say where each plan stands.
+// What no plan passes is left to the exact readers: rows of layouts without one, and every refusal.
 
 ghost use mathlib.Core.Path.{_≡_};
 ghost use mathlib.Core.List.{List};
@@ -34,7 +35,7 @@ pub struct Stretch {
     pub count: usize,
 }
 
-// So many layouts are kept; so many of them have plans, which end where so many steps are filled.
+// How many layouts are kept, how many of them have plans, and the index behind the last plan.
 pub struct Tally {
     pub known: usize,
     pub plans: usize,

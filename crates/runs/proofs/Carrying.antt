@@ -3,7 +3,7 @@ use Prim.Native.Nat.{ℕ, _+_, _<_}
 use mathlib.Core.Path.{_≡_, sym, ap, _∙_, subst}
 use mathlib.Core.List.{List, [], _∷_, _++_, append-nil}
 use native.Mathlib.Omega.{arith}
-use lib.ListN.{length, take, set}
+use lib.ListN.{length, take, set, replicate}
 use lib.Seq.{length-take-le}
 use Rattle.octets.specs.Reading.{ok}
 use Rattle.octets.specs.Writing.{Each, Octet}
@@ -14,9 +14,9 @@ use Rattle.layouts.proofs.Books.{Lent, image-snoc}
 use Rattle.layouts.proofs.Layouts.{layout-back, layout-forth}
 use Rattle.layouts.proofs.Parts.{layout-number}
 use Rattle.layouts.proofs.Walks.{lent-book, book-image}
-use Rattle.plans.specs.Plan.{Made, Kept}
+use Rattle.plans.specs.Plan.{Made, grown, titled, tallied, shelved, nothing, Kept}
 use Rattle.plans.specs.declared.Tally.{Tally}
-use Rattle.plans.proofs.Keeping.{kept-extends, kept-more}
+use Rattle.plans.proofs.Keeping.{grown-known, tallied-more, shelved-more, kept-extends, kept-more}
 use Rattle.elements.specs.Element.{Stepped, elementAt}
 use Rattle.elements.specs.Steps.{holding}
 use Rattle.elements.proofs.Told.{holding-same}
@@ -51,8 +51,8 @@ module _ (entry : List ℕ) (used : ℕ) (o : Each Octet entry) (is : IsBook ent
     front-long = length-take-le used entry (omega (arith, lent .room, lent .most))
 
     -- The used octets behind it.
-    grown : take (length (bookImage (st .book))) (holding (st .book) entry) ≡ front ++ layoutImage (n .layout)
-    grown =
+    grown-book : take (length (bookImage (st .book))) (holding (st .book) entry) ≡ front ++ layoutImage (n .layout)
+    grown-book =
         sym (book-image (holding (st .book) entry) (length (bookImage (st .book))) (st .book) (held (st .book) entry (t .good) (t .room)) .is)
         ∙ (ap bookImage (n .is) ∙ (image-snoc book (n .layout) ∙ ap (λ (xs : List ℕ). xs ++ layoutImage (n .layout)) (lent .image)))
 
@@ -64,14 +64,22 @@ module _ (entry : List ℕ) (used : ℕ) (o : Each Octet entry) (is : IsBook ent
         (layout-back (n .layout) front [] good))
 
     pub carried-new : (exit : List ℕ) (filled : ℕ) → exit ≡ holding (st .book) entry → filled ≡ length (bookImage (st .book)) → (numbers₁ places₁ titles₁ steps₁ : List ℕ) (tally₁ : Tally)
-        → Made titles₁ steps₁ tally₁ (st .book) → numbers₁ ≡ set numbers (tally .known) (n .layout .number) → places₁ ≡ set places (tally .known) used → tally₁ .known ≡ tally .known + 1
-        → Carried exit filled numbers₁ places₁ titles₁ steps₁ tally₁
-    carried-new exit filled left fills numbers₁ places₁ titles₁ steps₁ tally₁ made numbered placed counted =
+        → Made titles₁ steps₁ tally₁ (st .book) → numbers₁ ≡ set numbers (tally .known) (n .layout .number) → places₁ ≡ set places (tally .known) used
+        → titles₁ ≡ titled titles tally (n .layout) → tally₁ ≡ grown tally (n .layout) → Carried exit filled numbers₁ places₁ titles₁ steps₁ tally₁
+    carried-new exit filled left fills numbers₁ places₁ titles₁ steps₁ tally₁ made numbered placed named counted =
         let kept : Kept (front ++ layoutImage (n .layout)) (set numbers (tally .known) (n .layout .number)) (set places (tally .known) used) (tally .known + 1) (book ++ n .layout ∷ []) =
         kept-more (front ++ layoutImage (n .layout)) numbers places (tally .known) used (used + length (layoutImage (n .layout))) book (n .layout)
         (kept-extends front (layoutImage (n .layout)) numbers places (tally .known) book (each-take Octet used entry o) (c .kept)) (room-new (n .few)) reads (n .fresh) in
+        let total : tally₁ ≡ tallied nothing (book ++ n .layout ∷ []) =
+        counted ∙ (ap (λ (x : Tally). grown x (n .layout)) (c .counted) ∙ sym (tallied-more nothing book (n .layout))) in
+        let titles-all : titles₁ ≡ shelved (replicate 64 0) nothing (book ++ n .layout ∷ []) =
+        named ∙ (ap (λ (xs : List ℕ). titled xs tally (n .layout)) (c .entitled)
+        ∙ (ap (λ (x : Tally). titled (shelved (replicate 64 0) nothing book) x (n .layout)) (c .counted) ∙ sym (shelved-more (replicate 64 0) nothing book (n .layout)))) in
+        let known : tally₁ .known ≡ tally .known + 1 = ap (λ (x : Tally). x .known) counted ∙ grown-known tally (n .layout) in
         rw (left, fills, numbered, placed)
         (record {
-          kept = rw (counted, grown, t .book, n .is) kept;
+          kept = rw (known, grown-book, t .book, n .is) kept;
           made = rw (t .book) made;
+          counted = rw (t .book, n .is) total;
+          entitled = rw (t .book, n .is) titles-all;
         })

@@ -3,10 +3,10 @@ use Prim.Native.Nat.{ℕ}
 use mathlib.Core.Path.{_≡_}
 use mathlib.Core.List.{List}
 use mathlib.Core.Bool.{Bool, true, false}
-use lib.ListN.{length, take}
+use lib.ListN.{length, take, replicate}
 use Rattle.octets.specs.Reading.{Read, ok, no}
 use Rattle.layouts.specs.Book.{bookImage, bookIn}
-use Rattle.plans.specs.Plan.{Made, Kept}
+use Rattle.plans.specs.Plan.{Made, tallied, shelved, nothing, Kept}
 use Rattle.plans.specs.declared.Tally.{Tally}
 use Rattle.plans.specs.Rows.{laid}
 use Rattle.elements.specs.Element.{Item, item, Stepped}
@@ -19,10 +19,12 @@ use Rattle.runs.specs.declared.Went.{Went}
 use Rattle.runs.specs.declared.Running.{Running}
 use Rattle.runs.specs.declared.Running.the-variants as running
 
--- What a run carries with the used octets of a book: its layouts by their numbers and by their places there, and their plans.
+-- What a run carries with the used octets of a book: its layouts by their numbers and by their places there, and the plans that there is room for.
 pub record Carried (octets : List ℕ) (used : ℕ) (numbers places titles steps : List ℕ) (t : Tally) : Type 0 where
   pub kept : Kept (take used octets) numbers places (t .known) (bookIn octets used)
   pub made : Made titles steps t (bookIn octets used)
+  pub counted : t ≡ tallied nothing (bookIn octets used)
+  pub entitled : titles ≡ shelved (replicate 64 0) nothing (bookIn octets used)
 
 -- An item that the step at a place reads, with what is known of it behind the step.
 pub record Goes (s : List ℕ) (at rows : ℕ) (entry : List ℕ) (used : ℕ) (exit numbers places titles steps : List ℕ) (g : Gone) : Type 0 where

@@ -47,7 +47,7 @@ fn layout_word(number: u32, next: usize) -> u64
     (number as u64) * 4294967296 + (next as u64)
 }
 
-// The item at a place by the exact reader; a layout that the book grows by is kept by its place there, and gets a plan.
+// The item at a place by the exact reader; a layout that the book grows by is kept by its place there, with a plan if there is room.
 fn exact_item<'d, 'b, 'n, 'l, 't, 'p>(
     doc: &'d [u8],
     at: usize,

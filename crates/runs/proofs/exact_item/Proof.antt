@@ -15,7 +15,7 @@ use Rattle.layouts.proofs.Books.{Lent}
 use Rattle.layouts.proofs.Walks.{lent-book}
 use Rattle.plans.specs.Plan.{Made}
 use Rattle.plans.specs.declared.Tally.{Tally}
-use Rattle.plans.proofs.Keeping.{made-within, grown-known}
+use Rattle.plans.proofs.Keeping.{made-within}
 use Rattle.elements.specs.Element.{Element, layout, row, elementAt}
 use Rattle.elements.specs.Steps.{leaves, holding, stepAt}
 use Rattle.elements.specs.declared.Step.{Step}
@@ -220,14 +220,13 @@ returns c =
     let n = new w h in
     let a = Start v .args in
     let k = c .keep in
-    let (numbered, _, is, plans) = k .ensures .0 (n .layout) (t .next) (n .reads) in
+    let (numbered, named, is, plans) = k .ensures .0 (n .layout) (t .next) (n .reads) in
     let made = plans (t .stepped .book)
     (found-new (doc v) (octets v) (at v) (rows v) (bookIn (entry v) (used v)) (t .stepped) (t .next) (t .reads) n) (kept v x t) in
     goes w (k .last .1 .1 .1 .0) (k .last .1 .1 .1 .1 .0) (k .last .1 .1 .1 .1 .1 .0) (k .last .1 .1 .1 .1 .1 .1 .0) (k .result)
     (carried-new (entry v) (used v) (lent v) (Start v .pre .3) (now (a .numbers)) (now (a .places)) (now (a .titles)) (now (a .steps)) (a .tally) (Start v .pre .4)
     (doc v) (octets v) (at v) (rows v) (t .stepped) (t .next) (t .reads) n (x .next) (gone v x t) (exit v) (x .used) (left v x t) (fills v x t)
-    (k .last .1 .1 .1 .0) (k .last .1 .1 .1 .1 .0) (k .last .1 .1 .1 .1 .1 .0) (k .last .1 .1 .1 .1 .1 .1 .0) (k .result) made numbered (k .ensures .1)
-    (ap (λ (y : Tally). y .known) is ∙ grown-known (a .tally) (n .layout)))
+    (k .last .1 .1 .1 .0) (k .last .1 .1 .1 .1 .0) (k .last .1 .1 .1 .1 .1 .0) (k .last .1 .1 .1 .1 .1 .1 .0) (k .result) made numbered (k .ensures .1) named is)
 
 returns-4 : tie.Need-returns-4
 returns-4 c =

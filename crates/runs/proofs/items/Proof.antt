@@ -72,12 +72,12 @@ loop-holds c =
     let k = c .before .before .before .before .before .before in
     let start = k .before .before in
     let a = start .args in
-    let (kept, made, _, _) = c .index .ensures (bookIn (now (a .book)) (a .used)) (shelf k) in (
+    let (kept, made, counted, entitled) = c .index .ensures (bookIn (now (a .book)) (a .used)) (shelf k) in (
       started (now (a .doc)) (a .at) (a .rows) (now (a .book)) (a .used) (now (a .words)),
       start .pre .0,
       each-octet (now (a .book)) (k .slice-known .given),
       start .pre .3,
-      record { kept = kept; made = made },
+      record { kept = kept; made = made; counted = counted; entitled = entitled },
       refl,
       omega (arith, start .pre .2),
     )
