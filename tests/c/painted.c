@@ -42,6 +42,7 @@ __asm__(".pushsection .text\n"
         ".popsection\n");
 #define OWN (STACK_SIZE - 32)
 
+/* Writes a 0, which is not the paint of both stacks. */
 void write_deep(void);
 __asm__(".pushsection .text\n"
         "write_deep:\n"
