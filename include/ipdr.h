@@ -1,7 +1,7 @@
 /* ipdr.h: reading IPDR/XDR documents of version 4 from C.
  *
- * Link with target/staticlib/libcollector.a, which `rt staticlib collector` makes. It is for x86-64, needs no other
- * library, allocates nothing, keeps nothing between calls, and may be called from several threads at once.
+ * Link with target/staticlib/libcollector.a, which `rt staticlib collector` makes. It is for x86-64, needs no library
+ * but C's, allocates nothing, keeps nothing between calls, and may be called from several threads at once.
  *
  * Every call takes any octets and any numbers, comes to an end, and answers 0 where it accepts, else a refusal: one
  * number that holds which fault was met first and where (see ipdr_refusal_number and ipdr_refusal_place). A refusal
@@ -14,7 +14,7 @@
  * - `out`: eight words of 64 bits, aligned as uint64_t is.
  * No pointer may be null, not even with a length of 0, and what is lent for writing overlaps nothing else that is lent.
  *
- * A call uses at most the IPDR_*_STACK octets of stack below; link with -Wl,-z,now for them to hold of the first call too.
+ * A call uses at most the IPDR_*_STACK octets of stack below; linked with -Wl,-z,now, the first call too.
  *
  * To check a document:
  *
