@@ -16,8 +16,8 @@ def mixed(size, seed=5):
 
 
 def crowded(size, strings, seed=7):
-    """18 layouts whose plans leave 18 steps, one that does not fit, one of so many strings, and two short ones."""
-    kinds = [[STRING] * 62] * 19 + [[STRING] * strings, [0x22, 0x2D, 0x2A], [BOOLEAN] * 3]
+    """19 layouts of which 12 have plans, one of so many strings, whose plan fits up to 43, two short ones, and one without."""
+    kinds = [[STRING] * 62] * 19 + [[STRING] * strings, [0x22, 0x2D, 0x2A], [BOOLEAN] * 3, [BOOLEAN] * 60]
     return document([Layout(i, b"", [(b"", kind) for kind in types]) for i, types in enumerate(kinds)], size, seed, 4)
 
 
@@ -25,7 +25,7 @@ def bases():
     """What is damaged: short documents, so that damage meets headers and layouts as often as rows."""
     small = {"short": 600, "wide": 1500, "strings": 1200}
     images = {shape: SHAPES[shape](size) for shape, size in small.items()}
-    return {**images, "mixed": mixed(900), "many": many(36_000), "texts": texts(60_000), "crowded": crowded(20_000, 16)}
+    return {**images, "mixed": mixed(900), "many": many(36_000), "texts": texts(60_000), "crowded": crowded(20_000, 43)}
 
 
 def number_at(octets, place):
@@ -206,7 +206,7 @@ def border_cases():
     yield "another version", with_number(bare, 0, 3)
     yield "an id of another length", with_number(bare, len(bare) - END_SIZE - 24, 15)
     yield "a header not followed by its mark", with_number(bare, len(bare) - END_SIZE - 4, 0)
-    for strings in range(15, 19):
+    for strings in range(42, 46):
         yield f"a plan of {strings} strings more", bytes(crowded(30_000, strings).octets)
     yield "a book too full", book_over()
     yield "a layout again, shorter", shorter_again()

@@ -662,44 +662,42 @@ static void try_large(void)
     step_refuses("the last row cut short: 1 at its last value", end_at - 12 - 62 * 4, 0, used, IPDR_CUT_SHORT, cut);
 }
 
-/* Rows under layouts that have plans and layouts that have none, each once unstated and once stated: 18 layouts of 62
- * strings, whose plans take 1,134 of 1,152 steps; one more that does not fit; one of so many strings, which fits; and one
- * of numbers and one of booleans, of one and four steps. */
+/* Rows under layouts that have plans and layouts that have none, each once unstated and once stated: 19 layouts of 62
+ * strings, of which 12 have plans; one of so many strings, whose plan fits up to 43; one of numbers and one of booleans,
+ * which always have plans; and one of 60 booleans, which has none. */
 static void try_plans(uint32_t strings)
 {
-    static const uint8_t bits[3] = {1, 0, 1};
+    enum { STRINGS = 19, NUMBERS, BOOLEANS, MANY_BOOLEANS, LAYOUTS };
     char what[60];
     begin(HEADER_END);
-    for (uint32_t n = 0; n < 19; n++)
+    for (uint32_t n = 0; n < STRINGS; n++)
         put_wide_layout(n, 62, 0x28);
-    put_wide_layout(19, strings, 0x28);
-    put_wide_layout(20, 3, 0x22);
-    put_wide_layout(21, 3, 0x29);
+    put_wide_layout(STRINGS, strings, 0x28);
+    put_wide_layout(NUMBERS, 3, 0x22);
+    put_wide_layout(BOOLEANS, 3, 0x29);
+    put_wide_layout(MANY_BOOLEANS, 60, 0x29);
     uint32_t last_row = 0;
     for (uint32_t stated = 0; stated < 2; stated++)
-        for (uint32_t n = 0; n < 22; n++) {
-            uint32_t size = n < 19 ? 62 * 4 : n == 19 ? strings * 4 : n == 20 ? 12 : 3;
+        for (uint32_t n = 0; n < LAYOUTS; n++) {
+            uint32_t size = n < STRINGS ? 62 * 4 : n == STRINGS ? strings * 4 : n == NUMBERS ? 12 : n == BOOLEANS ? 3 : 60;
             last_row = (uint32_t)made.len;
             put_number(2);
             put_number(n);
             put_number(stated ? size : 0xffffffff);
-            if (n == 21)
-                put(bits, 3);
-            else
-                put_zeros(size);
+            put_zeros(size);
         }
-    put_end(44);
+    put_end(2 * LAYOUTS);
     snprintf(what, sizeof what, "layouts with plans and without, one of %u strings", strings);
-    whole_accepts(what, 44);
+    whole_accepts(what, 2 * LAYOUTS);
     lend_empty_book();
-    run_is_steps(what, HEADER_END, 0, 0, 22 + 44);
+    run_is_steps(what, HEADER_END, 0, 0, 3 * LAYOUTS);
     uint32_t used = (uint32_t)out[IPDR_RUN_USED];
     memcpy(book_before, book, sizeof book);
     made.at[last_row + 14] = 2;
     whole_refuses("a boolean of 2 in the last row: 14 there", IPDR_BOOLEAN, last_row + 14);
     step_refuses("a boolean of 2 in the last row: 14 there", last_row, 0, used, IPDR_BOOLEAN, last_row + 14);
-    made.at[last_row + 14] = 1;
-    made.at[last_row + 11] = 4;
+    made.at[last_row + 14] = 0;
+    made.at[last_row + 11]++;
     whole_refuses("a length of one more in the last row: 13 there", IPDR_ROW_LENGTH, last_row + 8);
     step_refuses("a length of one more in the last row: 13 there", last_row, 0, used, IPDR_ROW_LENGTH, last_row + 8);
 }
@@ -742,7 +740,7 @@ int main(void)
     try_limits();
     try_runs();
     try_large();
-    for (uint32_t strings = 15; strings <= 18; strings++)
+    for (uint32_t strings = 42; strings <= 45; strings++)
         try_plans(strings);
     try_stacks();
     printf("%d passed, %d failed\n", passed, failed);

@@ -1,6 +1,6 @@
 -- Plans kept: they go with every book that finds what theirs finds, one more is added behind them, a row passed by one is a row of the book, and one that its plan does not pass is refused.
 -- Layouts kept by their places: one more is added behind them too, and more octets behind theirs change nothing.
-use Prim.Native.Nat.{ℕ, _+_, _≤_, _<_}
+use Prim.Native.Nat.{ℕ, _+_, _*_, _≤_, _<_}
 use mathlib.Core.Path.{_≡_, refl, sym, ap, _∙_, subst}
 use mathlib.Core.List.{List, [], _∷_, _++_}
 use mathlib.Core.Bool.{Bool, true, false}
@@ -9,7 +9,7 @@ use native.Mathlib.Omega.{arith}
 use lib.ListN.{length, getD, set, take, length-set, length-append}
 use lib.Seq.{getD-set-same, getD-set-other, getD-take}
 use lib.Dec.{leb, ltb}
-use borrow.Author.Tests.{leb-true, leb-false, ltb-true, ltb-false}
+use borrow.Author.Tests.{leb-true, leb-false, ltb-true, ltb-false, le-leb}
 use Rattle.octets.specs.Reading.{ok, ends, isOk, be, document, stated, number}
 use Rattle.octets.specs.Writing.{Each, Octet}
 use Rattle.octets.proofs.Ends.{number-ok, number-no, ended, ends-ok, first-no}
@@ -61,6 +61,10 @@ grown-known t l = go (holds t l) refl
     go true e = rw e refl
     go false e = rw e refl
 
+-- Of eight steps every layout is sure, whatever came before it.
+pub eight-held : (titles steps : List ℕ) (t : Tally) (book : Book) (l : Layout) → Made titles steps t book → length (planFor l) ≤ 8 → holds t l ≡ true
+eight-held titles steps t book l m h = le-leb (t .filled + length (planFor l)) (712 + t .known * 8) (omega (arith, m .end))
+
 -- One layout more behind a book.
 pub tallied-more : (t : Tally) (b : Book) (l : Layout) → tallied t (b ++ l ∷ []) ≡ grown (tallied t b) l
 tallied-more t [] l = refl
@@ -88,7 +92,7 @@ module _ (titles steps put : List ℕ) (t : Tally) (book : Book) (m : Made title
           stands =
               rw here
               (on (getD steps i 0) (planFor (e .layout)) (p .from)
-              (begins-kept steps put (getD steps i 0) (t .filled) (planFor (e .layout)) (p .upto) (omega (arith, m .end, m .steps-long)) (long ∙ sym (m .steps-long)) kept (e .stands)));
+              (begins-kept steps put (getD steps i 0) (t .filled) (planFor (e .layout)) (p .upto) (omega (arith, m .end, m .few, m .steps-long)) (long ∙ sym (m .steps-long)) kept (e .stands)));
         };
         from = rw here (p .from);
         upto = rw here (omega (arith, p .upto));
@@ -100,13 +104,14 @@ module _ (titles steps put : List ℕ) (t : Tally) (book : Book) (m : Made title
         few = omega arith;
         behind = omega (arith, m .behind);
         start = m .start;
-        end = m .end;
+        end = omega (arith, m .end);
         titles-long = m .titles-long;
         steps-long = long;
         each = λ i h. stays titles put (t .filled) (omega arith) i h refl refl (λ at xs _ b. b);
       }
 
-  module _ (l : Layout) (found : find (l .number) book ≡ some l) (stands : Begins put (t .filled) (planFor l)) where
+  module _ (l : Layout) (found : find (l .number) book ≡ some l) (stands : Begins put (t .filled) (planFor l))
+      (fits : t .filled + length (planFor l) ≤ 712 + t .known * 8) where
     abbrev titles₁ : List ℕ
     titles₁ = set titles (t .plans) (l .number)
 
@@ -142,7 +147,7 @@ module _ (titles steps put : List ℕ) (t : Tally) (book : Book) (m : Made title
           few = omega arith;
           behind = omega (arith, m .behind);
           start = omega (arith, m .start);
-          end = omega (arith, stands .inside, long);
+          end = omega arith;
           titles-long = length-set titles (t .plans) (l .number) ∙ m .titles-long;
           steps-long = length-set put (t .plans) (t .filled) ∙ long;
           each = λ i h. go i h (ltb i (t .plans)) refl;

@@ -107,8 +107,8 @@ module _ (doc : List ℕ) (xs : List Attribute) (last from : ℕ) where
         }
 
   -- A plan with a step that the steps do not hold.
-  pub making-full : (steps : List ℕ) (k place j sum : ℕ) → Making doc steps xs last from k place j sum → 1216 ≤ j → 1216 < from + length (planOf 0 xs)
-  making-full steps k place j sum m h =
+  pub making-full : (steps : List ℕ) (k place j sum to : ℕ) → Making doc steps xs last from k place j sum → to ≤ j → to < from + length (planOf 0 xs)
+  making-full steps k place j sum to m h =
       omega (arith, m .here, ap length (m .split), length-append (m .made) (planOf sum (m .others)), plan-some sum (m .others))
 
   -- The last step.

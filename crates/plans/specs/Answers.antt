@@ -19,10 +19,10 @@ use Rattle.plans.specs.declared.Passed.the-variants as passed
 use Rattle.plans.specs.declared.Quick.{Quick}
 use Rattle.plans.specs.declared.Quick.the-variants as quick
 
--- A plan was put into the steps from an index on, or they do not hold it.
-abbrev pub Puts : List ℕ → ℕ → List ℕ → Put → Type 0
-Puts steps from plan (put.To end) = (end ≡ from + length plan) × Begins steps from plan
-Puts steps from plan put.Full = 1216 < from + length plan
+-- A plan was put into the steps from an index on, and ends at another at most, or it would not.
+abbrev pub Puts : List ℕ → ℕ → ℕ → List ℕ → Put → Type 0
+Puts steps from to plan (put.To end) = (end ≡ from + length plan) × (end ≤ to) × Begins steps from plan
+Puts steps from to plan put.Full = to < from + length plan
 
 -- The form of the value that closes a step.
 abbrev pub closing : ℕ → Form

@@ -67,12 +67,12 @@ pub record Placed (titles steps : List ℕ) (filled i : ℕ) (book : Book) : Typ
   pub from : 64 ≤ getD steps i 0
   pub upto : getD steps i 0 + length (planFor (entry .layout)) ≤ filled
 
--- Plans as they were made: as many as the tally says, before the steps that are free.
+-- Plans as they were made: as many as the tally says, before the steps that are free, of which eight are left for each layout that may follow.
 pub record Made (titles steps : List ℕ) (t : Tally) (book : Book) : Type 0 where
   pub few : t .known ≤ 64
   pub behind : t .plans ≤ t .known
   pub start : 64 ≤ t .filled
-  pub end : t .filled ≤ 1216
+  pub end : t .filled ≤ 704 + t .known * 8
   pub titles-long : length titles ≡ 64
   pub steps-long : length steps ≡ 1216
   pub each : (i : ℕ) → i < t .plans → Placed titles steps (t .filled) i book
@@ -84,9 +84,9 @@ withPlan t end = record { known = t .known + 1; plans = t .plans + 1; filled = e
 abbrev pub without : Tally → Tally
 without t = record { known = t .known + 1; plans = t .plans; filled = t .filled }
 
--- Whether the steps that are free hold a layout's plan. Then it has one, and its number is put behind the titles.
+-- Whether a layout's plan leaves eight steps to each layout that may follow, of 64 in all. Then it has one, and its number is put behind the titles.
 abbrev pub holds : Tally → Layout → Bool
-holds t l = leb (t .filled + length (planFor l)) 1216
+holds t l = leb (t .filled + length (planFor l)) (712 + t .known * 8)
 
 abbrev pub grown : Tally → Layout → Tally
 grown t l = choose (holds t l) (λ _. withPlan t (t .filled + length (planFor l))) (λ _. without t)

@@ -1,10 +1,10 @@
-// Plans: a layout's values as steps made once, so that a row is passed without its layout's octets. There is room for 1,152 steps in all, behind 64 that say where each plan stands.
+// Plans: a layout's values as steps made once, so that a row is passed without its layout's octets. There is room for 1,152 steps in all, of which each of 64 layouts is sure of eight, behind 64 that say where each plan stands.
 // What no plan passes is left to the exact readers: rows of layouts without one, and every refusal.
 
 ghost use mathlib.Core.Path.{_≡_};
 ghost use mathlib.Core.List.{List};
 ghost use mathlib.Core.Bool.{true};
-ghost use Prim.Native.Nat.{ℕ, _+_, _≤_, _<_};
+ghost use Prim.Native.Nat.{ℕ, _+_, _*_, _≤_, _<_};
 ghost use lib.ListN.{length, getD, set, take};
 ghost use Rattle.octets.specs.Reading.{ok, isOk, run};
 ghost use Rattle.layouts.specs.Layout.{Attribute, attributeAt, layoutAt};
@@ -67,16 +67,17 @@ fn mark_of(form: Form) -> u16
     }
 }
 
-// Puts the plan of so many attributes, which stand at a place of a document, into the steps from an index on, if they hold it.
+// Puts the plan of so many attributes, which stand at a place of a document, into the steps from an index on, if it ends at another at most.
 fn put_plan<'d, 'p>(
     doc: &'d [u8],
     first: usize,
     count: u32,
     steps: &'p mut [u16; 1216],
     from: usize,
+    to: usize,
 ) -> Put
-    requires { ⌜ (length (now doc) ≤ 1048576) × (count ≤ 64) × (from ≤ 1216) × (length (now steps) ≡ 1216) × Attributes (now doc) count first ⌝ }
-    ensures { λ r. ⌜ ((xs : List Attribute) (last : ℕ) → run (attributeAt (now (doc .entry))) count first ≡ ok xs last → Puts (now (steps .exit)) from (planOf 0 xs) r) × (take from (now (steps .exit)) ≡ take from (now (steps .entry))) × (length (now (steps .exit)) ≡ 1216) ⌝ }
+    requires { ⌜ (length (now doc) ≤ 1048576) × (count ≤ 64) × (from ≤ to) × (to ≤ 1216) × (length (now steps) ≡ 1216) × Attributes (now doc) count first ⌝ }
+    ensures { λ r. ⌜ ((xs : List Attribute) (last : ℕ) → run (attributeAt (now (doc .entry))) count first ≡ ok xs last → Puts (now (steps .exit)) from to (planOf 0 xs) r) × (take from (now (steps .exit)) ≡ take from (now (steps .entry))) × (length (now (steps .exit)) ≡ 1216) ⌝ }
 {
     let mut place = first;
     let mut j = from;
@@ -91,7 +92,7 @@ fn put_plan<'d, 'p>(
         if more % 4 == 0 {
             sum += more;
         } else {
-            if 1216 <= j {
+            if to <= j {
                 return Put::Full;
             }
             steps[j] = sum + more;
@@ -99,7 +100,7 @@ fn put_plan<'d, 'p>(
             sum = 0;
         }
     }
-    if 1216 <= j {
+    if to <= j {
         return Put::Full;
     }
     steps[j] = sum;
@@ -334,7 +335,7 @@ pub fn nothing() -> Tally
     }
 }
 
-// Keeps one more layout, which stands at a place of a document: its number, where it is to be looked for, and its plan if the steps hold it.
+// Keeps one more layout, which stands at a place of a document: its number, where it is to be looked for, and its plan if there is room for it that leaves eight steps to each layout that may follow.
 pub fn keep<'d, 'n, 'l, 't, 'p>(
     doc: &'d [u8],
     at: usize,
@@ -345,7 +346,7 @@ pub fn keep<'d, 'n, 'l, 't, 'p>(
     steps: &'p mut [u16; 1216],
     tally: Tally,
 ) -> Tally
-    requires { ⌜ (length (now doc) ≤ 1048576) × (isOk (layoutAt (now doc) at) ≡ true) × (length (now steps) ≡ 1216) × (tally .plans ≤ tally .known) × (tally .known < 64) × (64 ≤ tally .filled) × (tally .filled ≤ 1216) ⌝ }
+    requires { ⌜ (length (now doc) ≤ 1048576) × (isOk (layoutAt (now doc) at) ≡ true) × (length (now steps) ≡ 1216) × (tally .plans ≤ tally .known) × (tally .known < 64) × (64 ≤ tally .filled) × (tally .filled ≤ 704 + tally .known * 8) ⌝ }
     ensures { λ r. ⌜ Keeps (now (doc .entry)) at (now (numbers .entry)) (now (titles .entry)) (now (steps .entry)) tally (now (numbers .exit)) (now (titles .exit)) (now (steps .exit)) r × (now (places .exit) ≡ set (now (places .entry)) (tally .known) place) ⌝ }
 {
     let known = tally.known;
@@ -356,7 +357,7 @@ pub fn keep<'d, 'n, 'l, 't, 'p>(
     let count = octets::u32_at(doc, counted);
     numbers[known] = number;
     places[known] = place;
-    let put = put_plan(doc, counted + 4, count, steps, filled);
+    let put = put_plan(doc, counted + 4, count, steps, filled, 712 + known * 8);
     match put {
         Put::Full => Tally {
             known: known + 1,

@@ -1,7 +1,7 @@
 -- `plans::keep` meets its contract: the plan of the layout's attributes is put behind the others, which stay, where there is room for it. Assumes nothing.
 use borrow.Author.Needs.{needs}
 use native.Mathlib.Omega.{arith}
-use Prim.Native.Nat.{ℕ, _+_}
+use Prim.Native.Nat.{ℕ, _+_, _*_, _≤_}
 use denote.Ref.{now}
 use mathlib.Core.Path.{_≡_, refl, sym, ap, subst}
 use mathlib.Core.List.{List}
@@ -38,7 +38,7 @@ put-plan-requires c κs =
     let s = Start u in
     let (l, end, e) = value-is (layoutAt (now (s .args .doc)) (s .args .at)) (s .pre .1) in
     let few = layout-fields (now (s .args .doc)) (s .args .at) (u .before .attributes-at .result) (u .before .attributes-at .ensures .0) e .few in
-    (s .pre .0, omega (arith, few, u .u32-at .ensures), s .pre .6, s .pre .2, record { list = l .attributes; end = end; reads = attributes u l end e })
+    (s .pre .0, omega (arith, few, u .u32-at .ensures), omega (arith, s .pre .6), omega (arith, s .pre .4), s .pre .2, record { list = l .attributes; end = end; reads = attributes u l end e })
 
 -- What was put.
 abbrev Tried : Type 0
@@ -50,10 +50,13 @@ Of v = v .before .before
 abbrev steps₁ : Tried → List ℕ
 steps₁ v = v .put-plan .last .1 .1 .1 .0
 
+abbrev To : Tried → ℕ
+To v = 712 + Start (Of v) .args .tally .known * 8
+
 puts : (v : Tried) (x : Put) → v .put-plan .result ≡ x → (l : Layout) (end : ℕ) → layoutAt (now (Start (Of v) .args .doc)) (Start (Of v) .args .at) ≡ ok l end
-    → Puts (steps₁ v) (Start (Of v) .args .tally .filled) (planFor l) x
+    → Puts (steps₁ v) (Start (Of v) .args .tally .filled) (To v) (planFor l) x
 puts v x q l end e =
-    subst (Puts (steps₁ v) (Start (Of v) .args .tally .filled) (planFor l)) q (v .put-plan .ensures .0 (l .attributes) end (attributes (Of v) l end e))
+    subst (Puts (steps₁ v) (Start (Of v) .args .tally .filled) (To v) (planFor l)) q (v .put-plan .ensures .0 (l .attributes) end (attributes (Of v) l end e))
 
 numbered : (u : Counted) (l : Layout) (end : ℕ) → layoutAt (now (Start u .args .doc)) (Start u .args .at) ≡ ok l end → u .before .before .layout-number .result ≡ l .number
 numbered u l end e = u .before .before .layout-number .ensures l end e
@@ -62,7 +65,7 @@ returns : tie.Need-returns
 returns c =
     let v = c .before .before in
     let a = Start (Of v) .args in (
-      λ l end e. let full : holds (a .tally) l ≡ false = lt-leb _ 1216 (puts v _ (c .enum-told .given .1) l end e) in (
+      λ l end e. let full : holds (a .tally) l ≡ false = lt-leb _ _ (puts v _ (c .enum-told .given .1) l end e) in (
         ap (set (now (a .numbers)) (a .tally .known)) (numbered (Of v) l end e),
         rw full refl,
         rw full refl,
@@ -77,9 +80,10 @@ returns-2 c =
     let a = Start (Of v) .args in
     let t = a .tally in (
       λ l end e.
-          let (ends, stands) = puts v _ (c .before .put .given .1) l end e in
+          let (ends, inside, stands) = puts v _ (c .before .put .given .1) l end e in
           let named = numbered (Of v) l end e in
-          let held : holds t l ≡ true = le-leb (t .filled + length (planFor l)) 1216 (omega (arith, stands .inside, v .put-plan .ensures .2)) in
+          let fits : t .filled + length (planFor l) ≤ To v = omega (arith, ends, inside) in
+          let held : holds t l ≡ true = le-leb (t .filled + length (planFor l)) (To v) fits in
           let steps₂ = set (steps₁ v) (t .plans) (t .filled) in (
             ap (set (now (a .numbers)) (t .known)) named,
             rw held (ap (set (now (a .titles)) (t .plans)) named),
@@ -87,7 +91,7 @@ returns-2 c =
             λ book found m.
                 subst (λ (n : ℕ). Made (set (now (a .titles)) (t .plans) n) steps₂ (withPlan t (c .before .put .given .0 .0)) book) (sym named)
                 (subst (λ (n : ℕ). Made (set (now (a .titles)) (t .plans) (l .number)) steps₂ (withPlan t n) book) (sym ends)
-                (made-more (now (a .titles)) (now (a .steps)) (steps₁ v) t book m (Start (Of v) .pre .4) (v .put-plan .ensures .1) (v .put-plan .ensures .2) l found stands)),
+                (made-more (now (a .titles)) (now (a .steps)) (steps₁ v) t book m (Start (Of v) .pre .4) (v .put-plan .ensures .1) (v .put-plan .ensures .2) l found stands fits)),
           ),
       refl,
     )
@@ -95,6 +99,6 @@ returns-2 c =
 pub keep-spec : {M : Type 1} → statement M
 keep-spec =
     tie.close
-    (tie.spec (λ c κs. search needs) (λ c κs. search needs) (λ c κs. search needs) (λ c. search needs) (λ c. search needs) (λ c. search needs) (λ c. search needs) (λ c. search needs) put-plan-requires
+    (tie.spec (λ c κs. search needs) (λ c κs. search needs) (λ c κs. search needs) (λ c. search needs) (λ c. search needs) (λ c. search needs) (λ c. search needs) (λ c. search needs) (λ c. search needs) (λ c. search needs) put-plan-requires
     (λ c. search needs) (λ c. search needs) (λ c. search needs) (λ c. search needs) (λ c. search needs) (λ c. search needs) (λ c. search needs) (λ c. search needs) (λ c. search needs) (λ c. search needs)
     returns returns-2)

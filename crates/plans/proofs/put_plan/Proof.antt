@@ -20,12 +20,12 @@ use Rattle.plans.proofs.put_plan.Statement.{statement}
 use Rattle.plans.proofs.put_plan.Tie as tie
 
 abbrev Inv-loop : tie.InvT-loop
-Inv-loop doc first count steps₀ from place₀ j₀ sum₀ i₀ steps place j sum i =
-    (i ≤ count) × (j ≤ 1216) × (from ≤ j) × (sum ≤ i * 32) × (length steps ≡ 1216) × (take from steps ≡ take from steps₀)
+Inv-loop doc first count steps₀ from to place₀ j₀ sum₀ i₀ steps place j sum i =
+    (i ≤ count) × (j ≤ to) × (from ≤ j) × (sum ≤ i * 32) × (length steps ≡ 1216) × (take from steps ≡ take from steps₀)
     × ((xs : List Attribute) (last : ℕ) → run (attributeAt doc) count first ≡ ok xs last → Making doc steps xs last from (count - i) place j sum)
 
 abbrev μ-loop : tie.MeasureT-loop
-μ-loop doc first count steps₀ from place₀ j₀ sum₀ i₀ steps place j sum i = count - i
+μ-loop doc first count steps₀ from to place₀ j₀ sum₀ i₀ steps place j sum i = count - i
 
 loop-holds : tie.Need-loop-holds Inv-loop μ-loop
 loop-holds c =
@@ -35,10 +35,10 @@ loop-holds c =
       p .2,
       omega arith,
       omega arith,
-      p .3,
+      p .4,
       refl,
       λ xs last e.
-          making-start (now (a .doc)) xs last (a .from) (now (a .steps)) (a .count - 0) (a .first) (omega (arith, p .2, p .3))
+          making-start (now (a .doc)) xs last (a .from) (now (a .steps)) (a .count - 0) (a .first) (omega (arith, p .2, p .3, p .4))
           (subst (λ (k : ℕ). run (attributeAt (now (a .doc))) k (a .first) ≡ ok xs last) (sub-none (a .count)) e),
     )
 
@@ -64,7 +64,7 @@ next-of t xs last e =
     (m, making-next (Doc t) xs last (Start t .args .from) (t .before .loop .steps) (More t) (t .before .loop .place) (t .before .loop .j) (t .before .loop .sum) m)
 
 accepted : (t : Turn) → isOk (attributeAt (Doc t) (t .before .loop .place)) ≡ true
-accepted t = let r = Start t .pre .4 in ap isOk (next-of t (r .list) (r .end) (r .reads) .1 .reads)
+accepted t = let r = Start t .pre .5 in ap isOk (next-of t (r .list) (r .end) (r .reads) .1 .reads)
 
 -- The mark of the attribute here, and the place behind it.
 abbrev Marked : Type 0
@@ -116,7 +116,7 @@ returns c =
     let t = Of (c .before .before) in
     let l = t .before .loop in (
       λ xs last e.
-          making-full (Doc t) xs last (Start t .args .from) (l .steps) (suc (More t)) (l .place) (l .j) (l .sum) (next-of t xs last e .0) (c .if2 .taken),
+          making-full (Doc t) xs last (Start t .args .from) (l .steps) (suc (More t)) (l .place) (l .j) (l .sum) (Start t .args .to) (next-of t xs last e .0) (c .if2 .taken),
       l .inv .5,
       l .inv .4,
     )
@@ -137,7 +137,7 @@ loop-again-2 c =
           let q = is-mark s (n .attribute) (n .next) (n .reads) in
           subst (λ (x : ℕ). Making (Doc t) (set (t .before .loop .steps) (t .before .loop .j) (t .before .loop .sum + x)) xs last (Start t .args .from) (More t) (Kind s + 4) (t .before .loop .j + 1) 0) q
           (subst (λ (p : ℕ). Making (Doc t) (set (t .before .loop .steps) (t .before .loop .j) (t .before .loop .sum + mark (formOf (n .attribute .kind .basic)))) xs last (Start t .args .from) (More t) p (t .before .loop .j + 1) 0)
-          (is-place s (n .attribute) (n .next) (n .reads)) (n .close (λ z. c .before .if1 .left (sym (ap (λ (x : ℕ). x % 4) q) ∙ z)) (omega (arith, c .if2 .left, l .4)))),
+          (is-place s (n .attribute) (n .next) (n .reads)) (n .close (λ z. c .before .if1 .left (sym (ap (λ (x : ℕ). x % 4) q) ∙ z)) (omega (arith, c .if2 .left, l .4, Start t .pre .3)))),
     )
 
 -- Behind the last attribute.
@@ -156,7 +156,7 @@ returns-2 c =
     let x = c .before in
     let l = x .before .loop in
     let a = x .before .before .before .args in (
-      λ xs last e. making-full (now (a .doc)) xs last (a .from) (l .steps) 0 (l .place) (l .j) (l .sum) (made-all x xs last e) (c .if3 .taken),
+      λ xs last e. making-full (now (a .doc)) xs last (a .from) (l .steps) 0 (l .place) (l .j) (l .sum) (a .to) (made-all x xs last e) (c .if3 .taken),
       l .inv .5,
       l .inv .4,
     )
@@ -166,7 +166,9 @@ returns-3 c =
     let x = c .before in
     let l = x .before .loop in
     let a = x .before .before .before .args in (
-      λ xs last e. making-last (now (a .doc)) xs last (a .from) (l .steps) (l .place) (l .j) (l .sum) (made-all x xs last e) (omega (arith, c .if3 .left, l .inv .4)),
+      λ xs last e.
+          let (ends, stands) = making-last (now (a .doc)) xs last (a .from) (l .steps) (l .place) (l .j) (l .sum) (made-all x xs last e) (omega (arith, c .if3 .left, l .inv .4, x .before .before .before .pre .3)) in
+          (ends, omega (arith, c .if3 .left), stands),
       take-set-le (a .from) (l .steps) (l .j) (l .sum) (l .inv .2) ∙ l .inv .5,
       simp length-set (l .inv .4),
     )
@@ -178,6 +180,7 @@ put-plan-spec =
     (λ c κs. attribute-kind (Doc (c .before)) (c .before .before .loop .place) (c .name-end .result) (c .name-end .ensures .0) (accepted (c .before))) (λ c κs. c .form-here .ensures .1)
     (λ c. omega (arith, c .before .before .name-end .ensures .2, Start (Of c) .pre .0)) (λ c. let t = Of c in omega (arith, t .loop-test .taken))
     (λ c. omega (arith, sum-small (c .before))) (λ c. let t = Of (c .before) in omega (arith, t .loop-test .taken)) loop-again returns
-    (λ c. omega (arith, sum-small (c .before .before))) (λ c. omega (arith, c .if2 .left)) (λ c. omega (arith, c .if2 .left)) (λ c. omega (arith, c .if2 .left))
-    (λ c. let t = Of (c .before .before) in omega (arith, t .loop-test .taken)) loop-again-2 returns-2 (λ c. omega (arith, c .if3 .left)) (λ c. omega (arith, c .if3 .left))
-    (λ c. omega (arith, c .if3 .left)) returns-3)
+    (λ c. omega (arith, sum-small (c .before .before))) (λ c. omega (arith, c .if2 .left, Start (Of (c .before .before)) .pre .3)) (λ c. omega (arith, c .if2 .left, Start (Of (c .before .before)) .pre .3))
+    (λ c. omega (arith, c .if2 .left, Start (Of (c .before .before)) .pre .3))
+    (λ c. let t = Of (c .before .before) in omega (arith, t .loop-test .taken)) loop-again-2 returns-2 (λ c. omega (arith, c .if3 .left, c .before .before .before .before .pre .3)) (λ c. omega (arith, c .if3 .left, c .before .before .before .before .pre .3))
+    (λ c. omega (arith, c .if3 .left, c .before .before .before .before .pre .3)) returns-3)
