@@ -32,6 +32,10 @@ module _ (s : List ℕ) (rows : ℕ) (octets : List ℕ) (used : ℕ) where
     unfolding lentBook
     lent-is e h = rw (le-leb (length s) 1048576 short, e, le-leb rows 1048576 h) refl
 
+  pub lent-short : {book : Book} {end : ℕ} → lentBook s rows octets used ≡ ok book end → length s ≤ 1048576
+  unfolding lentBook
+  lent-short e = let (t, _) = chosen (leb (length s) 1048576) _ 2 0 e in leb-true (length s) 1048576 t
+
   pub lent-forth : {book : Book} {end : ℕ} → Each Octet octets → lentBook s rows octets used ≡ ok book end
       → (length s ≤ 1048576) × (rows ≤ 1048576) × IsBook octets used
   unfolding lentBook

@@ -1,24 +1,19 @@
 -- The contracts of elements themselves: each allows one answer and one content of the book. Assumes nothing.
-use Prim.Native.Nat.{ℕ, _+_, _≤_, _<_}
+use Prim.Native.Nat.{ℕ, _≤_, _<_}
 use mathlib.Core.Path.{_≡_, refl, sym, _∙_}
 use mathlib.Core.Bool.{Bool, true, false}
 use lib.Dec.{leb}
 use borrow.Author.Tests.{leb-true, leb-false}
 use Rattle.octets.specs.Contracts.{Once}
 use Rattle.octets.proofs.Alike.{_also_}
-use Rattle.elements.specs.Answers.{countSays}
-use Rattle.elements.specs.declared.Counting.{Counting}
-use Rattle.elements.specs.declared.Counting.the-variants.{Rows, Refused}
 use Rattle.elements.proofs.number_behind as number-behind
-use Rattle.elements.proofs.element_by as element-by
+use Rattle.elements.proofs.grow as grow
 use Rattle.elements.proofs.element as element
-use Rattle.elements.proofs.rows_from as rows-from
 
 pub record Contracts : Type 0 where
   pub of-number-behind : Once number-behind.Kinds.ps number-behind.Kinds.r number-behind.Reads.Pre number-behind.Reads.Post
-  pub of-element-by : Once element-by.Kinds.ps element-by.Kinds.r element-by.Reads.Pre element-by.Reads.Post
+  pub of-grow : Once grow.Kinds.ps grow.Kinds.r grow.Reads.Pre grow.Reads.Post
   pub of-element : Once element.Kinds.ps element.Kinds.r element.Reads.Pre element.Reads.Post
-  pub of-rows-from : Once rows-from.Kinds.ps rows-from.Kinds.r rows-from.Reads.Pre rows-from.Reads.Post
 
 -- A number that is said for both sides of a bound.
 told-once : (a b n : ℕ) (x y : ℕ) → (a ≤ b → x ≡ n) × (b < a → x ≡ 0) → (a ≤ b → y ≡ n) × (b < a → y ≡ 0) → x ≡ y
@@ -28,17 +23,10 @@ told-once a b n x y e f = go (leb a b) refl
     go true h = e .0 (leb-true a b h) ∙ sym (f .0 (leb-true a b h))
     go false h = e .1 (leb-false a b h) ∙ sym (f .1 (leb-false a b h))
 
-count-says-once : (x y : Counting) → countSays x ≡ countSays y → x ≡ y
-count-says-once (Rows k p) (Rows l q) e = cc
-count-says-once (Rows k p) (Refused m q) e = cc
-count-says-once (Refused n p) (Rows l q) e = cc
-count-says-once (Refused n p) (Refused m q) e = cc
-
 pub contracts : Contracts
 contracts =
     record {
       of-number-behind = λ κs a p x y u v e f. (told-once _ _ _ x y e f, refl);
-      of-element-by = λ κs a p x y u v e f. (e .0 ∙ sym (f .0), refl also refl also refl also (e .1 ∙ sym (f .1)) also refl);
+      of-grow = λ κs a p x y u v e f. (refl, refl also refl also refl also (let g = p .2 in e (g .rows) (g .stepped) (g .reads) ∙ sym (f (g .rows) (g .stepped) (g .reads))) also refl);
       of-element = λ κs a p x y u v e f. (e .0 ∙ sym (f .0), refl also refl also refl also (e .1 ∙ sym (f .1)) also refl);
-      of-rows-from = λ κs a p x y u v e f. (count-says-once x y (e ∙ sym f), refl);
     }

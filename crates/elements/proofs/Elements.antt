@@ -1,21 +1,20 @@
--- Elements, up to the end.
-use mathlib.Core.Path.{_≡_, refl, sym, ap, _∙_, subst}
-use mathlib.Core.List.{List, [], _∷_, _++_, append-assoc}
+-- One element: what it was read from, and that its image reads back.
+use mathlib.Core.Path.{_≡_, refl, sym, ap, subst}
+use mathlib.Core.List.{List, [], _∷_, _++_}
 use mathlib.Core.Bool.{Bool, true, false, _&&_}
 use mathlib.Core.Option.{Option, some, none}
-use Prim.Native.Nat.{ℕ, zero, suc, _+_, _^_, _≤_, _<_}
+use Prim.Native.Nat.{ℕ, _+_, _^_, _≤_, _<_}
 use native.Mathlib.Omega.{arith}
 use lib.ListN.{length}
 use lib.Dec.{leb, ltb, eqb, lit<}
 use borrow.Author.Tests.{eqb-true, eq-eqb}
-use Rattle.octets.specs.Reading.{ok, no, _then_, choose, number, same}
+use Rattle.octets.specs.Reading.{ok, no, choose, number, same}
 use Rattle.octets.specs.Writing.{word, images, Each, Octet}
 use Rattle.layouts.specs.Layout.{Layout, layoutAt, layoutImage, GoodLayout}
 use Rattle.layouts.specs.Book.{Book, bookImage, find, learnAt, learn}
 use Rattle.rows.specs.Row.{Row, rowAt, rowImage}
 use Rattle.elements.specs.Element.{Item, layout, row, Element, item, finish, Stepped, finishAt, elementAt}
-use Rattle.elements.specs.Steps.{Placed, isLast, elementsFrom}
-use Rattle.elements.specs.Document.{itemImage, rowCount, GoodItems, placedFrom}
+use Rattle.elements.specs.Document.{itemImage, GoodItems}
 use Rattle.octets.proofs.Spans.{Spans, join, middle, word-octets, each-append}
 use Rattle.octets.proofs.Inverse.{after, settle, chosen, either}
 use Rattle.octets.proofs.Fields.{number-whole}
@@ -52,18 +51,6 @@ pub data Came (s : List ℕ) (at rows : ℕ) (book : Book) : Stepped → ℕ →
 abbrev Ended : List ℕ → ℕ → ℕ → Element → ℕ → Type 0
 Ended s rows at f end = (time : ℕ) × (time < 2 ^ 64) × (end ≡ length s) × Spans s (length s) at end (word 4 rows ++ word 8 time) × (f ≡ finish rows time)
 
--- The elements read from a place to the end, as items and a time.
-pub record Elements (s : List ℕ) (at rows : ℕ) (book : Book) (placed : List Placed) (end : ℕ) : Type 0 where
-  pub items : List Item
-  pub total : ℕ
-  pub time : ℕ
-  pub good : GoodItems book items
-  pub sum : rows + rowCount items ≡ total
-  pub small : time < 2 ^ 64
-  pub spans : Spans s (length s) at end (images itemImage items ++ endImage total time)
-  pub is : placed ≡ placedFrom at total time items
-  pub whole : end ≡ length s
-
 module _ (s : List ℕ) (short : length s ≤ 1048576) where
   finish-back : (rows time : ℕ) {at next : ℕ} → rows < 2 ^ 32 → time < 2 ^ 64 → next ≡ length s → Spans s (length s) at next (word 4 rows ++ word 8 time)
       → finishAt rows s at ≡ ok (finish rows time) next
@@ -84,7 +71,7 @@ module _ (s : List ℕ) (short : length s ≤ 1048576) where
       let is : n ≡ rows = eqb-true n rows t in
       settle (Ended s rows at) e₆ (time, k, eqb-true last (length s) t₁, join (rw is at p) q, ap (λ (x : ℕ). finish x time) is)
 
-  element-back : (rows : ℕ) (book : Book) {at next : ℕ} {st : Stepped} → rows < 2 ^ 32 → Came s at rows book st next → elementAt s at rows book ≡ ok st next
+  pub element-back : (rows : ℕ) (book : Book) {at next : ℕ} {st : Stepped} → rows < 2 ^ 32 → Came s at rows book st next → elementAt s at rows book ≡ ok st next
   unfolding elementAt
   element-back rows book {at} small (a-layout {l} {learnt} g m p) =
       let (p₁, p₂) = middle (word 4 1) (layoutImage l) p in
@@ -121,71 +108,6 @@ module _ (s : List ℕ) (short : length s ≤ 1048576) where
       settle (Came s at rows book) e₇
       (subst (λ (x : Element). Came s at rows book (record { element = x; rows = rows; book = book }) last) (sym is)
       (an-end gt whole (join (rw (eqb-true kind 3 t) at p) q)))
-
-  pub elements-back : (k : ℕ) (items : List Item) {at end : ℕ} (rows total time : ℕ) (book : Book) → GoodItems book items → rows + rowCount items ≡ total
-      → total < 2 ^ 32 → time < 2 ^ 64 → end ≡ length s → Spans s (length s) at end (images itemImage items ++ endImage total time) → length items < k
-      → elementsFrom k s at rows book ≡ ok (placedFrom at total time items) end
-  unfolding elementsFrom images
-  elements-back zero items rows total time book g sum small h whole p k = absurd (omega arith)
-  elements-back (suc k) [] rows total time book g sum small h whole p m =
-      let is : total ≡ rows = omega arith in
-      rw is (rw (element-back rows book (omega arith) (an-end h whole (rw is at p))))
-  elements-back (suc k) (layout l ∷ rest) rows total time book g sum small h whole p m =
-      let (p₁, p₂) = middle (itemImage (layout l)) (images itemImage rest ++ endImage total time) (rw (append-assoc (itemImage (layout l)) (images itemImage rest)) at p) in
-      rw (
-        element-back rows book (omega arith) (a-layout (g .0) (g .1 .1) p₁),
-        elements-back k rest rows total time (g .1 .0) (g .1 .2) sum small h whole p₂ (omega arith),
-      )
-  elements-back (suc k) (row r ∷ rest) rows total time book g sum small h whole p m =
-      let (p₁, p₂) = middle (itemImage (row r)) (images itemImage rest ++ endImage total time) (rw (append-assoc (itemImage (row r)) (images itemImage rest)) at p) in
-      rw (
-        element-back rows book (omega arith) (a-row (g .0, g .1) p₁),
-        elements-back k rest (rows + 1) total time book (g .2) (omega arith) small h whole p₂ (omega arith),
-      )
-
-  -- One item more in front of elements.
-  more : (i : Item) {at rows mid rows₁ end : ℕ} {book book₁ : Book} {placed : List Placed} → Spans s (length s) at mid (itemImage i)
-      → (m : Elements s mid rows₁ book₁ placed end) → GoodItems book (i ∷ m .items) → rows + rowCount (i ∷ m .items) ≡ rows₁ + rowCount (m .items)
-      → Elements s at rows book (record { place = at; element = item i } ∷ placed) end
-  unfolding images
-  more i p m g sum =
-      record {
-        items = i ∷ m .items;
-        total = m .total;
-        time = m .time;
-        good = g;
-        sum = sum ∙ m .sum;
-        small = m .small;
-        spans = rw (append-assoc (itemImage i) (images itemImage (m .items))) (join p (m .spans));
-        is = cc (m .is, p .place);
-        whole = m .whole;
-      }
-
-  follow : (k : ℕ) {at rows next end : ℕ} {book : Book} {st : Stepped} {placed : List Placed} → Came s at rows book st next
-      → ((at rows end : ℕ) (book : Book) (placed : List Placed) → at ≤ length s → elementsFrom k s at rows book ≡ ok placed end → Elements s at rows book placed end)
-      → choose (isLast (st .element)) (λ _. ok (record { place = at; element = st .element } ∷ []) next)
-      (λ _. elementsFrom k s next (st .rows) (st .book) then λ rest end. ok (record { place = at; element = st .element } ∷ rest) end) ≡ ok placed end
-      → Elements s at rows book placed end
-  unfolding images
-  follow k {at} {rows} {book = book} (a-layout {l} {learnt} {next = mid} g m p) others e =
-      after (elementsFrom k s mid rows learnt) _ e λ rest last e₁ e₂.
-      let tail : Elements s mid rows learnt rest last = others mid rows last learnt rest (p .inside) e₁ in
-      settle (Elements s at rows book) e₂ (more (layout l) p tail (g, (learnt, m, tail .good)) refl)
-  follow k {at} {rows} {book = book} (a-row {r} {next = mid} g p) others e =
-      after (elementsFrom k s mid (rows + 1) book) _ e λ rest last e₁ e₂.
-      let tail : Elements s mid (rows + 1) book rest last = others mid (rows + 1) last book rest (p .inside) e₁ in
-      settle (Elements s at rows book) e₂ (more (row r) p tail (g .0, g .1, tail .good) (omega arith))
-  follow k {at} {rows} {book = book} (an-end {time} g whole p) others e =
-      settle (Elements s at rows book) e
-      (record { items = []; total = rows; time = time; good = tt; sum = omega arith; small = g; spans = p; is = refl; whole = whole })
-
-  pub elements-forth : (k : ℕ) → Each Octet s → {at rows end : ℕ} {book : Book} {placed : List Placed} → at ≤ length s → elementsFrom k s at rows book ≡ ok placed end
-      → Elements s at rows book placed end
-  unfolding elementsFrom
-  elements-forth zero o h e = absurd (let z : _≡_ {A = ℕ} 0 1 = cc in omega arith)
-  elements-forth (suc k) o {at} {rows} {book = book} h e =
-      after (elementAt s at rows book) _ e λ st next e₁ e₂.
-      follow k (element-forth at rows book o h e₁) (λ _ _ _ _ _. elements-forth k o) e₂
 
   pub items-octets : (items : List Item) (book : Book) → GoodItems book items → Each Octet (images itemImage items)
   unfolding images

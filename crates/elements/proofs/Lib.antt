@@ -2,7 +2,13 @@ pub mod Elements
 pub mod Went
 pub mod Told
 pub mod Before
-pub mod Going
-pub mod Quickly
+pub mod Behind
+pub mod Walks
+pub mod Turns
+pub mod Through
+pub mod Readings
+pub mod Items
+pub mod Growth
+pub mod Lents
 pub mod Refusing
 pub mod Contracts

@@ -17,8 +17,10 @@ use Rattle.layouts.specs.Layout.{Attribute, Layout, attributeAt, layoutAt, layo
 use Rattle.layouts.specs.Book.{Book, find, bookImage, as17, layoutsAt, bookOf, learnAt, learn}
 use Rattle.headers.specs.Header.{namespaceAt, idAt, headerFrom, headerAt}
 use Rattle.rows.specs.Row.{valueIn, fieldsIn, filled, valuesAt, named, rowAt}
-use Rattle.elements.specs.Element.{finishAt, elementAt}
-use Rattle.elements.specs.Steps.{lentBook, stepAt, isLast, elementsFrom, reading, whole}
+use Rattle.elements.specs.Element.{Element, item, finish, Stepped, finishAt, elementAt}
+use Rattle.elements.specs.Walk.{Stop, ended, refused, Walk, onward, walk, turnBy, turnOf, Spot, spotAt, spotOf, turnAt, through}
+use Rattle.elements.specs.Steps.{lentBook, stepAt}
+use Rattle.elements.specs.Reading.{elementsOf, answerOf, elementsRead, reading, whole}
 use Rattle.octets.proofs.Ends.{number-room}
 
 -- A reading that passes no end: neither by the place behind it nor by that of its refusal, of whose number P holds.
@@ -37,6 +39,12 @@ OfHeader P = P 2 × P 3 × P 4 × P 5 × P 6
 
 abbrev pub OfElement : (ℕ → Type 0) → Type 0
 OfElement P = P 4 × P 7 × P 8 × P 9 × P 10 × P 11 × P 12 × P 13 × P 14 × P 15 × P 16
+
+-- Where a walk stands, or what stops it, passes no end.
+abbrev Halted : (ℕ → Type 0) → ℕ → ℕ → Option Stop → Type 0
+Halted P end at none = at ≤ end
+Halted P end at (some (ended n t next)) = next ≤ end
+Halted P end at (some (refused n p)) = P n × (p ≤ end)
 
 -- A document that such an end is not before.
 module _ (P : ℕ → Type 0) (s : List ℕ) (end : ℕ) (long : length s ≤ end) where
@@ -224,23 +232,39 @@ module _ (P : ℕ → Type 0) (s : List ℕ) (end : ℕ) (long : length s ≤ en
           (stays-choose (eqb kind 2) _ _ (λ _. stays-then (rowAt book s next) _ (row-stays thirteen fourteen twelve book next c) λ r last d. d)
           (stays-choose (eqb kind 3) _ _ (λ _. stays-then (finishAt rows s next) _ (finish-stays fifteen sixteen rows next c) λ f last d. d) (seven, b)))
 
-      elements-stay : (k at rows : ℕ) (book : Book) → at ≤ end → Stays P end (elementsFrom k s at rows book)
-      unfolding elementsFrom
-      elements-stay zero at rows book b = (one, b)
-      elements-stay (suc k) at rows book b =
-          stays-then (elementAt s at rows book) _ (element-stays at rows book b) λ st next c.
-          stays-choose (isLast (st .element)) _ _ (λ _. c)
-          (stays-then (elementsFrom k s next (st .rows) (st .book)) _ (elements-stay k next (st .rows) (st .book) c) λ rest last d. d)
+      walk-stays : (k : ℕ) (x : Spot) → x .at ≤ end → Halted P end (walk (turnAt s) k x .spot .at) (walk (turnAt s) k x .stop)
+      unfolding walk
+      walk-stays zero x b = b
+      walk-stays (suc k) x b = go (elementAt s (x .at) (x .rows) (x .book)) (element-stays (x .at) (x .rows) (x .book) b) (λ y. walk-stays k y)
+        where
+          go : (r : Read Stepped) → Stays P end r → ((y : Spot) → y .at ≤ end → Halted P end (walk (turnAt s) k y .spot .at) (walk (turnAt s) k y .stop))
+              → Halted P end (onward x (turnOf spotOf (x .at) r) (walk (turnAt s) k) .spot .at) (onward x (turnOf spotOf (x .at) r) (walk (turnAt s) k) .stop)
+          go (no n p) h again = h
+          go (ok st next) h again = by (st .element)
+            where
+              by : (e : Element) → Halted P end (onward x (turnBy spotOf (x .at) st next e) (walk (turnAt s) k) .spot .at) (onward x (turnBy spotOf (x .at) st next e) (walk (turnAt s) k) .stop)
+              by (item i) = again (spotOf st next) h
+              by (finish n t) = h
+
+      elements-stay : (w : Walk Spot) → Halted P end (w .spot .at) (w .stop) → Stays P end (elementsRead w)
+      elements-stay w h = go (w .stop) h
+        where
+          go : (e : Option Stop) → Halted P end (w .spot .at) e → Stays P end (answerOf (elementsOf (w .seen) (w .spot .at) e) (w .spot .at) e)
+          go none h = (one, h)
+          go (some (ended n t next)) h = h
+          go (some (refused n p)) h = h
 
     pub header-stays : OfHeader P → Stays P end (headerAt s)
     unfolding headerAt
     header-stays all = stays-choose (leb (length s) 1048576) _ _ (λ _. fields-stay all 0 (omega arith)) (all .0, omega arith)
 
     pub whole-stays : OfHeader P → OfElement P → Stays P end (whole s)
-    unfolding whole reading
+    unfolding whole reading through
     whole-stays h e =
         stays-then (reading s) _
-        (stays-then (headerAt s) _ (header-stays h) λ head next b. stays-then (elementsFrom (length s + 1) s next 0 []) _ (elements-stay e (length s + 1) next 0 [] b) λ elements last c. c)
+        (stays-then (headerAt s) _ (header-stays h) λ head next b.
+        let x : Spot = spotAt next 0 [] in
+        stays-then (elementsRead (through s x)) _ (elements-stay e (through s x) (walk-stays e (length s + 1) x b)) λ elements last c. c)
         λ r last c. c
 
     -- What stands before a step is refused at 0.

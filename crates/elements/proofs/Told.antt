@@ -1,4 +1,4 @@
--- The equations of one element that functions over a book cite: which branch is taken and what it answers; and that lent octets hold their book as they are.
+-- The equations of one element that functions over a book cite: which branch is taken and what it answers, and what an answer tells of; and that lent octets hold their book as they are.
 use Prim.Native.Nat.{ℕ, _+_, _≤_, _<_}
 use mathlib.Core.Path.{_≡_, refl, ap, subst}
 use mathlib.Core.List.{List}
@@ -18,11 +18,12 @@ use Rattle.layouts.proofs.Books.{Lent}
 use Rattle.layouts.proofs.Walks.{lent-book}
 use Rattle.rows.specs.Row.{Row, named, rowAt}
 use Rattle.rows.specs.Answers.{Shape, shape}
-use Rattle.elements.specs.Element.{item, layout, row, finish, finishAt, layoutElement, rowElement, endElement, elementAt}
+use Rattle.elements.specs.Element.{item, layout, row, finish, Stepped, finishAt, layoutElement, rowElement, endElement, elementAt}
 use Rattle.elements.specs.Steps.{holding}
-use Rattle.elements.specs.Answers.{tells, Over}
+use Rattle.elements.specs.Answers.{stepOf, tells, Over}
 use Rattle.elements.specs.declared.Met.the-variants as met
-use Rattle.elements.specs.declared.Stepping.the-variants.{Done}
+use Rattle.elements.specs.declared.Step.{Step}
+use Rattle.elements.specs.declared.Stepping.the-variants.{Done, Refused}
 use Rattle.elements.proofs.Went.{named-number}
 
 -- The end, from its count on.
@@ -135,3 +136,22 @@ holding-lent octets used book l = rw (l .size, l .image) (take-append-drop used 
 
 pub holding-same : (octets : List ℕ) (used : ℕ) → Each Octet octets → IsBook octets used → holding (bookIn octets used) octets ≡ octets
 holding-same octets used o is = holding-lent octets used (bookIn octets used) (lent-book octets used o is)
+
+-- The reading that a step tells of.
+pub record Told (r : Read Stepped) (step : Step) : Type 0 where
+  pub stepped : Stepped
+  pub next : ℕ
+  pub reads : r ≡ ok stepped next
+  pub is : stepOf stepped next ≡ step
+
+pub told : (r : Read Stepped) (step : Step) → tells r ≡ Done step → Told r step
+told (ok st next) step e = record { stepped = st; next = next; reads = refl; is = (let same : stepOf st next ≡ step = cc in same) }
+told (no n p) step e = absurd (let z : _≡_ {A = ℕ} 0 1 = cc in omega arith)
+
+-- How much of the book is used behind it.
+pub told-used : {r : Read Stepped} {step : Step} (t : Told r step) → length (bookImage (t .stepped .book)) ≡ step .used
+told-used t = ap (λ (x : Step). x .used) (t .is)
+
+pub refusing : (r : Read Stepped) (n p : ℕ) → tells r ≡ Refused n p → r ≡ no n p
+refusing (ok st next) n p e = absurd (let z : _≡_ {A = ℕ} 0 1 = cc in omega arith)
+refusing (no m q) n p e = let a : m ≡ n = cc in let b : q ≡ p = cc in cc

@@ -12,7 +12,7 @@ use Rattle.layouts.specs.Layout.{Layout, layoutAt}
 use Rattle.layouts.specs.Book.{Book, find, learn}
 use Rattle.rows.specs.Row.{Row, valuesAt, named, rowAt}
 use Rattle.elements.specs.Element.{layout, row, Element, item, finish, Stepped, finishAt, elementAt}
-use Rattle.elements.specs.Steps.{asRow}
+use Rattle.elements.specs.Reading.{asRow}
 use Rattle.octets.proofs.Inverse.{no-ok, ok-value, ok-place, after, either}
 use Rattle.octets.proofs.Ends.{number-place}
 

@@ -1,8 +1,7 @@
 -- What the answers about an element say.
-use Prim.Native.Nat.{ℕ, _+_, _≤_}
+use Prim.Native.Nat.{ℕ, _+_, _≤_, _<_}
 use mathlib.Core.Path.{_≡_}
 use mathlib.Core.List.{List}
-use mathlib.Core.Bool.{Bool, true, false}
 use lib.ListN.{length}
 use Rattle.octets.specs.Reading.{Read, ok, no, be}
 use Rattle.kinds.specs.Kinds.{signed}
@@ -17,19 +16,12 @@ use Rattle.elements.specs.declared.Met.the-variants as met
 use Rattle.elements.specs.declared.Step.{Step}
 use Rattle.elements.specs.declared.Stepping.{Stepping}
 use Rattle.elements.specs.declared.Stepping.the-variants.{Done, Refused}
-use Rattle.elements.specs.declared.Counting.{Counting}
-use Rattle.elements.specs.declared.Counting.the-variants as counting
 
 -- What an element says: a layout's number and count of attributes, a row's number, whether its length is stated and its count of fields, the end's count and its time, which is signed.
 abbrev pub metOf : element.Element → Met
 metOf (element.item (element.layout l)) = met.Layout (l .number) (length (l .attributes))
 metOf (element.item (element.row r)) = met.Row (r .number) (r .is-stated) (length (r .fields))
 metOf (element.finish n t) = met.End n (signed 8 t)
-
-abbrev pub isLastMet : Met → Bool
-isLastMet (met.Layout n k) = false
-isLastMet (met.Row n stated k) = false
-isLastMet (met.End n t) = true
 
 -- What a step says: the element, the next place, the new row count and the new used count.
 abbrev pub stepOf : element.Stepped → ℕ → Step
@@ -40,13 +32,16 @@ abbrev pub tells : Read element.Stepped → Stepping
 tells (ok st next) = Done (stepOf st next)
 tells (no n p) = Refused n p
 
-abbrev pub countSays : Counting → Read ℕ
-countSays (counting.Rows n end) = ok n end
-countSays (counting.Refused n p) = no n p
-
 -- A book that uses so many octets and whose layouts stand in s, and where the number that stands at a place of a document was looked up among them.
 pub record Over (doc : List ℕ) (at : ℕ) (s : List ℕ) (looked : Looked) (used : ℕ) (book : Book) : Type 0 where
   pub number : ℕ
   pub is : at + 4 ≤ length doc → number ≡ be 4 doc at
   pub looks : Looks s number book looked
   pub size : length (bookImage book) ≡ used
+
+-- The element at a place, which ends at another, is a layout that is new to a book.
+pub record Grows (s : List ℕ) (at next : ℕ) (book : Book) : Type 0 where
+  pub rows : ℕ
+  pub stepped : element.Stepped
+  pub reads : element.elementAt s at rows book ≡ ok stepped next
+  pub more : length (bookImage book) < length (bookImage (stepped .book))

@@ -11,7 +11,7 @@ use Rattle.layouts.specs.Book.{Book, find, learn}
 use Rattle.rows.specs.Row.{rowImage, FieldsOf}
 use Rattle.headers.specs.Header.{Header, headerImage, GoodHeader}
 use Rattle.elements.specs.Element.{Item, layout, row, item, finish}
-use Rattle.elements.specs.Steps.{Placed, Reading}
+use Rattle.elements.specs.Reading.{Placed, Reading}
 
 -- What a document means: a header, layouts and rows in their order, and the bits of the end time. The end count is that of the rows.
 pub record Document : Type 0 where

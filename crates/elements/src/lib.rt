@@ -1,17 +1,16 @@
-// One element over a book that is known to be good, and the run to the end.
+// One element over a book that is known to be good.
 
 ghost use mathlib.Core.Path.{_≡_};
 ghost use mathlib.Core.Bool.{true};
-ghost use mathlib.Core.List.{[]};
 ghost use Prim.Native.Nat.{ℕ, _+_, _≤_, _<_};
-ghost use lib.ListN.{length, take};
+ghost use lib.ListN.{length};
 ghost use Rattle.octets.specs.Reading.{ok, isOk, be};
 ghost use Rattle.layouts.specs.Layout.{Layout, layoutAt};
 ghost use Rattle.layouts.specs.Book.{Book, bookImage, IsBook, bookIn};
 ghost use Rattle.layouts.specs.Answers.{Stood};
-ghost use Rattle.elements.specs.Element.{item, layout, layoutElement, rowElement, endElement, elementAt};
-ghost use Rattle.elements.specs.Steps.{leaves, elementsFrom, counted};
-ghost use Rattle.elements.specs.Answers.{tells, stepOf, isLastMet, countSays, Over};
+ghost use Rattle.elements.specs.Element.{item, layout, Stepped, layoutElement, rowElement, endElement, elementAt};
+ghost use Rattle.elements.specs.Steps.{leaves, holding};
+ghost use Rattle.elements.specs.Answers.{tells, stepOf, Over, Grows};
 use layouts::Learning;
 use layouts::Looked;
 use octets::Ended;
@@ -34,12 +33,6 @@ pub struct Step {
 
 pub enum Stepping {
     Done(Step),
-    Refused(u32, usize),
-}
-
-// A count of rows with the place behind them, or a refusal by number and place.
-pub enum Counting {
-    Rows(usize, usize),
     Refused(u32, usize),
 }
 
@@ -146,7 +139,7 @@ fn layout_step<'d, 's>(
 }
 
 // One element at any place, by where the number behind its kind was looked up among the layouts of a book, which stand in other octets.
-fn element_over<'d, 's>(
+pub fn element_over<'d, 's>(
     doc: &'d [u8],
     at: usize,
     rows: usize,
@@ -190,30 +183,13 @@ pub fn number_behind(doc: &[u8], at: usize) -> u32
     octets::u32_at(doc, at + 4)
 }
 
-// One element at any place, over a book that is known to be good, by where the number behind its kind was looked up; a new layout's octets are put behind the used ones.
-pub fn element_by<'d, 'b>(
-    doc: &'d [u8],
-    at: usize,
-    rows: usize,
-    book: &'b mut [u8],
-    used: usize,
-    looked: Looked,
-) -> Stepping
-    requires { ⌜ (length (now doc) ≤ 1048576) × (rows ≤ 1048576) × IsBook (now book) used × Over (now doc) (at + 4) (take used (now book)) looked used (bookIn (now book) used) ⌝ }
-    ensures { λ r. ⌜ (r ≡ tells (elementAt (now (doc .entry)) at rows (bookIn (now (book .entry)) used))) × (now (book .exit) ≡ leaves (now (book .entry)) (elementAt (now (doc .entry)) at rows (bookIn (now (book .entry)) used))) ⌝ }
+// The layout that an element was read as, put behind the used octets of the book that it is new to.
+pub fn grow<'d, 'b>(doc: &'d [u8], at: usize, next: usize, book: &'b mut [u8], used: usize)
+    requires { ⌜ (length (now doc) ≤ 1048576) × IsBook (now book) used × Grows (now doc) at next (bookIn (now book) used) ⌝ }
+    ensures { λ _. ⌜ ((rows : ℕ) (st : Stepped) → elementAt (now (doc .entry)) at rows (bookIn (now (book .entry)) used) ≡ ok st next → now (book .exit) ≡ holding (st .book) (now (book .entry))) ⌝ }
 {
-    let one = element_over(doc, at, rows, &book[..used], looked, used);
-    match one {
-        Stepping::Refused(n, p) => Stepping::Refused(n, p),
-        Stepping::Done(step) => {
-            if used < step.used {
-                let start = at + 4;
-                let next = step.next;
-                let filled = octets::lay(book, used, &doc[start..next]);
-            }
-            Stepping::Done(step)
-        }
-    }
+    let start = at + 4;
+    let filled = octets::lay(book, used, &doc[start..next]);
 }
 
 // One element at any place, over a book that is known to be good; a new layout's octets are put behind the used ones.
@@ -228,75 +204,14 @@ pub fn element<'d, 'b>(
     ensures { λ r. ⌜ (r ≡ tells (elementAt (now (doc .entry)) at rows (bookIn (now (book .entry)) used))) × (now (book .exit) ≡ leaves (now (book .entry)) (elementAt (now (doc .entry)) at rows (bookIn (now (book .entry)) used))) ⌝ }
 {
     let looked = layouts::look_in(&book[..used], number_behind(doc, at));
-    element_by(doc, at, rows, book, used, looked)
-}
-
-// Whether an element is the end.
-fn is_end(met: Met) -> bool
-    ensures { λ r. ⌜ r ≡ isLastMet met ⌝ }
-{
-    match met {
-        Met::Layout(number, count) => false,
-        Met::Row(number, stated, count) => false,
-        Met::End(count, time) => true,
-    }
-}
-
-// The rows from a place to the end, from an empty book; its layouts are kept by their places in the document. Rows are passed by plans as far as they go; a word has room, and is not looked at.
-pub fn rows_from(doc: &[u8], at: usize) -> Counting
-    requires { ⌜ (at ≤ length (now doc)) × (length (now doc) ≤ 1048576) ⌝ }
-    ensures { λ r. ⌜ countSays r ≡ counted 0 (elementsFrom (length (now (doc .entry)) + 1) (now (doc .entry)) at 0 []) ⌝ }
-{
-    let mut numbers = [0u32; 64];
-    let mut places = [0usize; 64];
-    let mut titles = [0u32; 64];
-    let mut steps = [0u16; 1216];
-    let mut tally = plans::nothing();
-    let mut pos = at;
-    let mut rows: usize = 0;
-    let mut used: usize = 0;
-    let mut first = [0u64; 1];
-    loop {
-        let stretch = plans::quick_rows(
-            doc,
-            pos,
-            &titles,
-            &steps,
-            tally.plans,
-            &mut first,
-            0,
-            1048576,
-        );
-        pos = stretch.next;
-        rows += stretch.count;
-        let looked = plans::look_up(&numbers, &places, tally.known, number_behind(doc, pos));
-        let one = element_over(doc, pos, rows, doc, looked, used);
-        match one {
-            Stepping::Refused(n, p) => {
-                return Counting::Refused(n, p);
+    let one = element_over(doc, at, rows, &book[..used], looked, used);
+    match one {
+        Stepping::Refused(n, p) => Stepping::Refused(n, p),
+        Stepping::Done(step) => {
+            if used < step.used {
+                grow(doc, at, step.next, book, used);
             }
-            Stepping::Done(step) => {
-                let met = step.met;
-                if is_end(met) {
-                    return Counting::Rows(step.rows, step.next);
-                }
-                if used < step.used {
-                    let here = pos + 4;
-                    tally = plans::keep(
-                        doc,
-                        here,
-                        here,
-                        &mut numbers,
-                        &mut places,
-                        &mut titles,
-                        &mut steps,
-                        tally,
-                    );
-                }
-                pos = step.next;
-                rows = step.rows;
-                used = step.used;
-            }
+            Stepping::Done(step)
         }
     }
 }

@@ -16,16 +16,9 @@ use Rattle.octets.proofs.Spans.{Spans, join, middle, all-spans, spans-all, none
 use Rattle.octets.proofs.Inverse.{after, either, settle, chosen}
 use Rattle.octets.proofs.Copies.{both-true}
 use Rattle.layouts.specs.Layout.{Layout, layoutAt, layoutImage, GoodLayout}
-use Rattle.layouts.specs.Book.{Book, find, isNone, Distinct, bookImage, layoutsAt, as17, bookOf, bookIn, IsBook}
+use Rattle.layouts.specs.Book.{Book, find, isNone, Distinct, bookImage, GoodBook, layoutsAt, as17, bookOf, bookIn, IsBook}
 use Rattle.layouts.proofs.Layouts.{layout-inverse, layout-long}
 use Rattle.layouts.proofs.Finding.{distinct-snoc, distinct-mid, absent}
-
--- Layouts inside the limits, of different numbers, that fit a book.
-pub record GoodBook (book : Book) : Type 0 where
-  pub few : length book ≤ 64
-  pub small : length (bookImage book) ≤ 32768
-  pub good : Each GoodLayout book
-  pub distinct : Distinct book
 
 -- The image of two books joined, and of a layout behind a book.
 pub image-nil : bookImage [] ≡ []

@@ -14,10 +14,10 @@ use Rattle.octets.proofs.Copies.{both-true, same-true, same-refl}
 use Rattle.octets.proofs.Spans.{each-join}
 use Rattle.octets.proofs.Inverse.{ok-value, chosen}
 use Rattle.layouts.specs.Layout.{Layout, layoutImage, GoodLayout}
-use Rattle.layouts.specs.Book.{Book, find, isNone, bookImage, learnAt, learn, Distinct}
+use Rattle.layouts.specs.Book.{Book, find, isNone, bookImage, learnAt, learn, Distinct, GoodBook}
 use Rattle.layouts.proofs.Finding.{some-same, First, first, find-here, find-nil, find-front, find-behind, Within, within-front, within-snoc, distinct-snoc, each-find, total, total-within, total-length, total-image}
 use Rattle.layouts.proofs.Layouts.{layout-once}
-use Rattle.layouts.proofs.Books.{GoodBook, image-nil, image-snoc}
+use Rattle.layouts.proofs.Books.{image-nil, image-snoc}
 
 -- What learning does.
 abbrev pub Learnt : Book → Layout → Book → Type 0

@@ -2,6 +2,7 @@ pub mod Layouts
 pub mod Finding
 pub mod Books
 pub mod Growing
+pub mod Positions
 pub mod Places
 pub mod Parts
 pub mod Walks

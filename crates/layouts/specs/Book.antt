@@ -1,5 +1,5 @@
 -- The book: layouts of different numbers, in the order met.
-use Prim.Native.Nat.{ℕ, zero, suc, _+_}
+use Prim.Native.Nat.{ℕ, zero, suc, _+_, _≤_}
 use mathlib.Core.Path.{_≡_}
 use mathlib.Core.List.{List, [], _∷_, _++_}
 use mathlib.Core.Bool.{Bool, true, false, _&&_}
@@ -7,8 +7,8 @@ use mathlib.Core.Option.{Option, some, none}
 use lib.ListN.{length, take}
 use lib.Dec.{leb, ltb, eqb}
 use Rattle.octets.specs.Reading.{Read, ok, no, _then_, choose, valueOr, same}
-use Rattle.octets.specs.Writing.{images}
-use Rattle.layouts.specs.Layout.{Layout, layoutAt, layoutImage}
+use Rattle.octets.specs.Writing.{images, Each}
+use Rattle.layouts.specs.Layout.{Layout, layoutAt, layoutImage, GoodLayout}
 
 abbrev pub Book : Type 0
 Book = List Layout
@@ -22,6 +22,15 @@ abbrev pub isNone : {A : Type 0} → Option A → Bool
 isNone none = true
 isNone (some a) = false
 
+-- The numbers of a book's layouts, in their order, and the position of a number among them; how many there are where it is not there.
+abbrev pub numbersOf : Book → List ℕ
+numbersOf [] = []
+numbersOf (l ∷ rest) = l .number ∷ numbersOf rest
+
+unfoldable pub position : ℕ → Book → ℕ
+position n [] = 0
+position n (l ∷ rest) = choose (eqb n (l .number)) (λ _. 0) (λ _. suc (position n rest))
+
 -- Layouts of different numbers.
 abbrev pub Distinct : Book → Type 0
 Distinct [] = Unit {0}
@@ -30,6 +39,13 @@ Distinct (l ∷ rest) = (find (l .number) rest ≡ none) × Distinct rest
 -- The book's octets: its layouts one after another.
 unfoldable pub bookImage : Book → List ℕ
 bookImage book = images layoutImage book
+
+-- Layouts inside the limits, of different numbers, that fit a book.
+pub record GoodBook (book : Book) : Type 0 where
+  pub few : length book ≤ 64
+  pub small : length (bookImage book) ≤ 32768
+  pub good : Each GoodLayout book
+  pub distinct : Distinct book
 
 -- The layouts that octets hold from a place to their end, behind those met; k more at most. Octets that are not whole valid layouts of different numbers are no book.
 unfoldable pub layoutsAt : ℕ → Book → List ℕ → ℕ → Read Book
