@@ -1,6 +1,3 @@
 pub mod Walking
 pub mod Making
-pub mod Keeping
-pub mod Indexing
-pub mod Rows
-pub mod Contracts
+pub mod Lasting

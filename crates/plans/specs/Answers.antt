@@ -3,21 +3,18 @@ use Prim.Native.Nat.{ℕ, _+_, _≤_, _<_}
 use mathlib.Core.Path.{_≡_}
 use mathlib.Core.List.{List}
 use mathlib.Core.Bool.{false}
-use lib.ListN.{length, getD}
+use lib.ListN.{length}
 use lib.Dec.{eqb}
-use Rattle.octets.specs.Reading.{ok, ends, isOk, choose, be, Room, reach, number}
+use Rattle.octets.specs.Reading.{ok, ends, isOk, choose, be, Room, reach}
 use Rattle.kinds.specs.declared.Form.{Form}
 use Rattle.kinds.specs.declared.Form.the-variants as form
 use Rattle.layouts.specs.Layout.{Attribute}
-use Rattle.layouts.specs.Book.{Book}
-use Rattle.rows.specs.Row.{Row, valueIn, fieldsIn, valuesAt, rowAt}
+use Rattle.rows.specs.Row.{valueIn, fieldsIn, valuesAt}
 use Rattle.plans.specs.Plan.{planOf, Begins}
 use Rattle.plans.specs.declared.Put.{Put}
 use Rattle.plans.specs.declared.Put.the-variants as put
 use Rattle.plans.specs.declared.Passed.{Passed}
 use Rattle.plans.specs.declared.Passed.the-variants as passed
-use Rattle.plans.specs.declared.Quick.{Quick}
-use Rattle.plans.specs.declared.Quick.the-variants as quick
 
 -- A plan was put into the steps from an index on, and ends at another at most, or it would not.
 abbrev pub Puts : List ℕ → ℕ → ℕ → List ℕ → Put → Type 0
@@ -46,14 +43,3 @@ Follows s at end steps from passed.Unsure =
 abbrev pub Lasts : List ℕ → ℕ → List ℕ → ℕ → Passed → Type 0
 Lasts s at steps from (passed.To p) = (xs : List Attribute) → Begins steps from (planOf 0 xs) → ends (valuesAt xs s at (be 4 s at)) ≡ ok p p
 Lasts s at steps from passed.Unsure = (xs : List Attribute) → Begins steps from (planOf 0 xs) → isOk (valuesAt xs s at (be 4 s at)) ≡ false
-
--- Where a row stands at a place, behind its kind, and its layout has a plan, it is refused.
-abbrev pub Refuses : List ℕ → ℕ → Book → List ℕ → ℕ → Type 0
-Refuses s at book titles plans =
-    (i : ℕ) → i < plans → getD titles i 0 ≡ be 4 s (at + 4) → number 4 s at ≡ ok 2 (at + 4) → isOk (rowAt book s (at + 4)) ≡ false
-
--- A row of a book stands at a place, behind its kind, and ends at another; its layout has a plan.
-abbrev pub Passes : List ℕ → ℕ → Book → List ℕ → ℕ → Quick → Type 0
-Passes s at book titles plans (quick.Row next i) =
-    (i < plans) × (getD titles i 0 ≡ be 4 s (at + 4)) × (number 4 s at ≡ ok 2 (at + 4)) × ((row : Row) × (rowAt book s (at + 4) ≡ ok row next))
-Passes s at book titles plans quick.Unsure = Refuses s at book titles plans

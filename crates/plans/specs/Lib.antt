@@ -1,3 +1,2 @@
 pub mod Plan
 pub mod Answers
-pub mod Rows

@@ -6,7 +6,7 @@ use denote.Ref.{now}
 use mathlib.Core.Path.{_≡_, sym, _∙_, subst}
 use Rattle.plans.specs.Answers.{Follows}
 use Rattle.plans.specs.declared.Passed.{Passed}
-use Rattle.plans.proofs.Keeping.{lasts-open, lasts-stated, lasts-past, lasts-no, lasts-short}
+use Rattle.plans.proofs.Lasting.{lasts-open, lasts-stated, lasts-past, lasts-no, lasts-short}
 use Rattle.plans.proofs.values_to.Statement.{statement}
 use Rattle.plans.proofs.values_to.Tie as tie
 

@@ -1,0 +1,31 @@
+-- The contracts of walks themselves that settle the answer: one turn, the rows counted, a row in one number, and the tally before any layout. Assumes nothing.
+use mathlib.Core.Path.{_≡_, refl, sym, _∙_}
+use Rattle.octets.specs.Contracts.{Once}
+use Rattle.walks.specs.Answers.{countSays}
+use Rattle.walks.specs.declared.Counting.{Counting}
+use Rattle.walks.specs.declared.Counting.the-variants.{Rows, Refused}
+use Rattle.walks.proofs.nothing as nothing
+use Rattle.walks.proofs.row_word as row-word
+use Rattle.walks.proofs.turn as turn
+use Rattle.walks.proofs.rows_from as rows-from
+
+pub record Contracts : Type 0 where
+  pub of-nothing : Once nothing.Kinds.ps nothing.Kinds.r nothing.Reads.Pre nothing.Reads.Post
+  pub of-row-word : Once row-word.Kinds.ps row-word.Kinds.r row-word.Reads.Pre row-word.Reads.Post
+  pub of-turn : Once turn.Kinds.ps turn.Kinds.r turn.Reads.Pre turn.Reads.Post
+  pub of-rows-from : Once rows-from.Kinds.ps rows-from.Kinds.r rows-from.Reads.Pre rows-from.Reads.Post
+
+count-says-once : (x y : Counting) → countSays x ≡ countSays y → x ≡ y
+count-says-once (Rows k p) (Rows l q) e = cc
+count-says-once (Rows k p) (Refused m q) e = cc
+count-says-once (Refused n p) (Rows l q) e = cc
+count-says-once (Refused n p) (Refused m q) e = cc
+
+pub contracts : Contracts
+contracts =
+    record {
+      of-nothing = λ κs a p x y u v e f. (e ∙ sym f, refl);
+      of-row-word = λ κs a p x y u v e f. (e ∙ sym f, refl);
+      of-turn = λ κs a p x y u v e f. let b = p .3 in (e (b .book) (b .bears) ∙ sym (f (b .book) (b .bears)), refl);
+      of-rows-from = λ κs a p x y u v e f. (count-says-once x y (e ∙ sym f), refl);
+    }

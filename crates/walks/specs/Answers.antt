@@ -1,0 +1,53 @@
+-- What is told of a turn and of the rows counted.
+use Prim.Native.Nat.{ℕ}
+use mathlib.Core.Path.{_≡_}
+use mathlib.Core.List.{List}
+use lib.ListN.{length}
+use Rattle.octets.specs.Reading.{Read, ok, no}
+use Rattle.kinds.specs.Kinds.{signed}
+use Rattle.layouts.specs.Book.{Book, bookImage}
+use Rattle.elements.specs.Element.{item}
+use Rattle.elements.specs.Answers.{metOf}
+use Rattle.elements.specs.declared.Met.{Met}
+use Rattle.elements.specs.declared.Met.the-variants as met
+use Rattle.elements.specs.declared.Step.{Step}
+use Rattle.elements.specs.Walk.{ended, refused, Seen, Turn, goes, stops, Spot}
+use Rattle.walks.specs.Kept.{Numbered, Shelved}
+use Rattle.walks.specs.declared.Gone.{Gone}
+use Rattle.walks.specs.declared.Moved.{Moved}
+use Rattle.walks.specs.declared.Moved.the-variants as moved
+use Rattle.walks.specs.declared.Counting.{Counting}
+use Rattle.walks.specs.declared.Counting.the-variants as counting
+
+-- An item and the spot behind it.
+abbrev pub goneOf : Seen → Spot → Gone
+goneOf p y = record { met = metOf (item (p .which)); position = p .position; next = p .next; rows = y .rows; used = length (bookImage (y .book)) }
+
+-- The one answer to a turn.
+abbrev pub movedOf : Turn Spot → Moved
+movedOf (goes p y) = moved.Item (goneOf p y)
+movedOf (stops (ended n t next)) = moved.End n (signed 8 t) next
+movedOf (stops (refused n p)) = moved.Refused n p
+
+-- The same by what a step says and the position of its layout.
+abbrev pub metMoved : Met → Step → ℕ → Moved
+metMoved (met.End n t) step i = moved.End n t (step .next)
+metMoved (met.Layout n k) step i = moved.Item (record { met = step .met; position = i; next = step .next; rows = step .rows; used = step .used })
+metMoved (met.Row n stated k) step i = moved.Item (record { met = step .met; position = i; next = step .next; rows = step .rows; used = step .used })
+
+abbrev pub stepMoved : Step → ℕ → Moved
+stepMoved step i = metMoved (step .met) step i
+
+-- A book that uses so many octets, whose layouts are kept by their numbers and by their places in a shelf.
+pub record Bears (shelf : List ℕ) (used : ℕ) (numbers places : List ℕ) (known : ℕ) (book : Book) : Type 0 where
+  pub numbered : Numbered numbers known book
+  pub shelved : Shelved shelf places known book
+  pub size : length (bookImage book) ≡ used
+
+pub record Borne (shelf : List ℕ) (used : ℕ) (numbers places : List ℕ) (known : ℕ) : Type 0 where
+  pub book : Book
+  pub bears : Bears shelf used numbers places known book
+
+abbrev pub countSays : Counting → Read ℕ
+countSays (counting.Rows n end) = ok n end
+countSays (counting.Refused n p) = no n p

@@ -1,0 +1,384 @@
+// Walking through elements: what is kept of a book's layouts, and how a walk goes on, by a stretch of rows or by one element.
+// Kept are, of the i-th layout of the book, its number in numbers[i], with 2^32 added where it has no plan; its place in places[i]; and where its plan stands in steps[i]. Plans stand behind the first 64 steps, one behind another.
+
+ghost use mathlib.Core.Path.{_≡_};
+ghost use mathlib.Core.List.{List, []};
+ghost use mathlib.Core.Bool.{true};
+ghost use Prim.Native.Nat.{ℕ, _+_, _*_, _≤_, _<_};
+ghost use lib.ListN.{length, getD, set};
+ghost use Rattle.octets.specs.Reading.{ok, isOk};
+ghost use Rattle.layouts.specs.Layout.{Layout, layoutAt};
+ghost use Rattle.layouts.specs.Book.{Book, position};
+ghost use Rattle.layouts.specs.Answers.{Looks};
+ghost use Rattle.elements.specs.Walk.{spotAt, turnAt, through};
+ghost use Rattle.elements.specs.Reading.{rowsRead};
+ghost use Rattle.walks.specs.Kept.{nothing, Numbered, Shelved, Planned, Plans, Kept, Lacks, Keeps, Image, Images};
+ghost use Rattle.walks.specs.Rows.{rowWord, Refuses, Tried, Passage};
+ghost use Rattle.walks.specs.Answers.{movedOf, stepMoved, Bears, Borne, countSays};
+use elements::Met;
+use elements::Step;
+use elements::Stepping;
+use layouts::Looked;
+use plans::Passed;
+use plans::Put;
+
+// How many layouts are kept, and the index behind the last plan.
+pub struct Tally {
+    pub known: usize,
+    pub filled: usize,
+}
+
+// The place behind a row and its layout's position, or that the exact reader is to be asked.
+pub enum Quick {
+    Row(usize, usize),
+    Unsure,
+}
+
+// The place behind rows one behind another, and the index behind their words.
+pub struct Stretch {
+    pub next: usize,
+    pub count: usize,
+}
+
+// An item: what it says, its layout's position, and where the walk stands behind it, by the place, the rows passed and the octets of the book that are used.
+pub struct Gone {
+    pub met: Met,
+    pub position: usize,
+    pub next: usize,
+    pub rows: usize,
+    pub used: usize,
+}
+
+// What a turn met: an item, the end with its count, its time and the place behind it, or a refusal.
+pub enum Moved {
+    Item(Gone),
+    End(u32, i64, usize),
+    Refused(u32, usize),
+}
+
+// A count of rows with the place behind the end, or a refusal by number and place.
+pub enum Counting {
+    Rows(usize, usize),
+    Refused(u32, usize),
+}
+
+fn wide(x: u16) -> usize
+    ensures { λ r. ⌜ (r ≡ x) × (r < 65536) ⌝ }
+{
+    x as usize
+}
+
+// Before any layout is kept: plans are put behind the steps that say where they stand.
+pub fn nothing() -> Tally
+    ensures { λ r. ⌜ r ≡ nothing ⌝ }
+{
+    Tally {
+        known: 0,
+        filled: 64,
+    }
+}
+
+// The position of a number in the book whose layouts are known by their numbers, with a plan or without.
+fn position_of(numbers: &[u64; 64], known: usize, number: u32) -> usize
+    requires { ⌜ known ≤ 64 ⌝ }
+    ensures { λ r. ⌜ ((book : Book) → Numbered (now (numbers .entry)) known book → r ≡ position number book) ⌝ }
+{
+    let mut i = 0;
+    while i < known {
+        if numbers[i] % 4294967296 == number as u64 {
+            return i;
+        }
+        i += 1;
+    }
+    known
+}
+
+// The index of a number that has a plan: the index that was last, or the one behind it, or the first that is found; all known where there is none.
+fn index_of(numbers: &[u64; 64], known: usize, last: usize, number: u32) -> usize
+    requires { ⌜ known ≤ 64 ⌝ }
+    ensures { λ r. ⌜ (r < known → getD (now (numbers .entry)) r 0 ≡ number) × (known ≤ r → Lacks (now (numbers .entry)) known number) ⌝ }
+{
+    let title = number as u64;
+    if last < known {
+        if numbers[last] == title {
+            return last;
+        }
+        if last + 1 < known {
+            if numbers[last + 1] == title {
+                return last + 1;
+            }
+        }
+    }
+    let mut i = 0;
+    while i < known {
+        if numbers[i] == title {
+            return i;
+        }
+        i += 1;
+    }
+    known
+}
+
+// The row at a place, passed by the plan of its layout.
+fn quick_row<'d, 'n, 'p>(
+    doc: &'d [u8],
+    at: usize,
+    numbers: &'n [u64; 64],
+    steps: &'p [u16; 1216],
+    known: usize,
+    last: usize,
+) -> Quick
+    requires { ⌜ (at ≤ length (now doc)) × (length (now doc) ≤ 1048576) × Plans (now numbers) (now steps) known ⌝ }
+    ensures { λ r. ⌜ ((book : Book) → Planned (now (numbers .entry)) (now (steps .entry)) known book → Tried (now (doc .entry)) at book (now (numbers .entry)) known r) ⌝ }
+{
+    if doc.len() < at + 12 {
+        return Quick::Unsure;
+    }
+    if octets::u32_at(doc, at) != 2 {
+        return Quick::Unsure;
+    }
+    let i = index_of(numbers, known, last, octets::u32_at(doc, at + 4));
+    if known <= i {
+        return Quick::Unsure;
+    }
+    let passed = plans::values_to(doc, at + 8, steps, wide(steps[i]));
+    match passed {
+        Passed::Unsure => Quick::Unsure,
+        Passed::To(next) => Quick::Row(next, i),
+    }
+}
+
+// A row in one number.
+pub fn row_word(label: u32, stated: bool, next: usize) -> u64
+    requires { ⌜ next < 1073741824 ⌝ }
+    ensures { λ r. ⌜ r ≡ rowWord label stated next ⌝ }
+{
+    if stated {
+        return (label as u64) * 4294967296 + 3221225472 + (next as u64);
+    }
+    (label as u64) * 4294967296 + 2147483648 + (next as u64)
+}
+
+// Puts a word at an index, where there is one.
+fn put_word(words: &mut [u64], n: usize, word: u64)
+    ensures { λ _. ⌜ now (words .exit) ≡ set (now (words .entry)) n word ⌝ }
+{
+    if n < words.len() {
+        words[n] = word;
+    }
+}
+
+// Rows one behind another, each passed by the plan of its layout, from one index to another at most. The words of those that have a place are put there, each with the low 32 bits of the label of its layout's position.
+pub fn rows_on<'d, 'n, 'p, 'k, 'w>(
+    doc: &'d [u8],
+    at: usize,
+    numbers: &'n [u64; 64],
+    steps: &'p [u16; 1216],
+    known: usize,
+    labels: &'k [u64; 64],
+    words: &'w mut [u64],
+    from: usize,
+    to: usize,
+) -> Stretch
+    requires { ⌜ (at ≤ length (now doc)) × (length (now doc) ≤ 1048576) × (from ≤ to) × Plans (now numbers) (now steps) known ⌝ }
+    ensures { λ r. ⌜ (r .next ≤ length (now (doc .entry))) × (r .count ≤ to) × ((rows : ℕ) (book : Book) → Planned (now (numbers .entry)) (now (steps .entry)) known book → Passage (now (doc .entry)) (spotAt at rows book) (now (numbers .entry)) (now (labels .entry)) from (now (words .entry)) (now (words .exit)) r × (r .count < to → Refuses (now (doc .entry)) (r .next) book (now (numbers .entry)) known)) ⌝ }
+{
+    let mut pos = at;
+    let mut n = from;
+    let mut last: usize = 0;
+    while n < to {
+        let quick = quick_row(doc, pos, numbers, steps, known, last);
+        match quick {
+            Quick::Unsure => {
+                return Stretch {
+                    next: pos,
+                    count: n,
+                };
+            }
+            Quick::Row(next, i) => {
+                let stated = octets::u32_at(doc, pos + 8) < 0xffff_ffff;
+                let label = (labels[i] % 4294967296) as u32;
+                put_word(words, n, row_word(label, stated, next));
+                n += 1;
+                pos = next;
+                last = i;
+            }
+        }
+    }
+    Stretch {
+        next: pos,
+        count: n,
+    }
+}
+
+// Keeps a layout that stands at a place of the document behind those known: its number, a place at which it is found, and its plan if there is room for it that leaves eight steps to each layout that may follow.
+pub fn keep<'d, 'n, 'l, 'p>(
+    doc: &'d [u8],
+    at: usize,
+    place: usize,
+    numbers: &'n mut [u64; 64],
+    places: &'l mut [usize; 64],
+    steps: &'p mut [u16; 1216],
+    tally: Tally,
+) -> Tally
+    requires { ⌜ (length (now doc) ≤ 1048576) × (isOk (layoutAt (now doc) at) ≡ true) × (length (now steps) ≡ 1216) × (tally .known < 64) × (64 ≤ tally .filled) × (tally .filled ≤ 704 + tally .known * 8) ⌝ }
+    ensures { λ r. ⌜ ((l : Layout) (end : ℕ) → layoutAt (now (doc .entry)) at ≡ ok l end → Keeps l place (now (numbers .entry)) (now (places .entry)) (now (steps .entry)) tally (now (numbers .exit)) (now (places .exit)) (now (steps .exit)) r) ⌝ }
+{
+    let known = tally.known;
+    let filled = tally.filled;
+    let number = layouts::layout_number(doc, at) as u64;
+    let counted = layouts::attributes_at(doc, at);
+    let count = octets::u32_at(doc, counted);
+    places[known] = place;
+    let put = plans::put_plan(doc, counted + 4, count, steps, filled, 712 + known * 8);
+    match put {
+        Put::Full => {
+            numbers[known] = number + 4294967296;
+            Tally {
+                known: known + 1,
+                filled,
+            }
+        }
+        Put::To(end) => {
+            numbers[known] = number;
+            steps[known] = filled as u16;
+            Tally {
+                known: known + 1,
+                filled: end,
+            }
+        }
+    }
+}
+
+// Keeps all layouts of a book by their places in its octets.
+pub fn index<'s, 'n, 'l, 'p>(
+    s: &'s [u8],
+    numbers: &'n mut [u64; 64],
+    places: &'l mut [usize; 64],
+    steps: &'p mut [u16; 1216],
+) -> Tally
+    requires { ⌜ (length (now s) ≤ 1048576) × (length (now numbers) ≡ 64) × (length (now places) ≡ 64) × (length (now steps) ≡ 1216) × Images (now s) ⌝ }
+    ensures { λ r. ⌜ ((book : Book) → Image (now (s .entry)) book → Kept (now (s .entry)) (now (numbers .exit)) (now (places .exit)) (now (steps .exit)) r book) ⌝ }
+{
+    let mut pos = 0;
+    let mut tally = nothing();
+    while pos < s.len() {
+        tally = keep(s, pos, pos, numbers, places, steps, tally);
+        pos = layouts::layout_skip(s, pos);
+    }
+    tally
+}
+
+// Where a layout stands by its position.
+fn looked_at(places: &[usize; 64], known: usize, i: usize) -> Looked
+    requires { ⌜ known ≤ 64 ⌝ }
+    ensures { λ r. ⌜ ((shelf numbers : List ℕ) (number : ℕ) (book : Book) → Numbered numbers known book → Shelved shelf (now (places .entry)) known book → i ≡ position number book → Looks shelf number book r) ⌝ }
+{
+    if known <= i {
+        return Looked::Missing(known);
+    }
+    Looked::There(places[i])
+}
+
+// What a turn tells of a step that was read, with the position of its layout.
+fn told(step: Step, position: usize) -> Moved
+    ensures { λ r. ⌜ r ≡ stepMoved step position ⌝ }
+{
+    let met = step.met;
+    match met {
+        Met::End(count, time) => Moved::End(count, time, step.next),
+        Met::Layout(number, count) => Moved::Item(Gone {
+            met,
+            position,
+            next: step.next,
+            rows: step.rows,
+            used: step.used,
+        }),
+        Met::Row(number, stated, count) => Moved::Item(Gone {
+            met,
+            position,
+            next: step.next,
+            rows: step.rows,
+            used: step.used,
+        }),
+    }
+}
+
+// One turn from a place: the element there, over the layouts kept, which stand in the octets of a shelf; a new layout is kept by whoever goes on.
+pub fn turn<'d, 's, 'n, 'l>(
+    doc: &'d [u8],
+    at: usize,
+    rows: usize,
+    shelf: &'s [u8],
+    used: usize,
+    numbers: &'n [u64; 64],
+    places: &'l [usize; 64],
+    known: usize,
+) -> Moved
+    requires { ⌜ (length (now doc) ≤ 1048576) × (rows ≤ 1048576) × (length (now shelf) ≤ 1048576) × Borne (now shelf) used (now numbers) (now places) known ⌝ }
+    ensures { λ r. ⌜ ((book : Book) → Bears (now (shelf .entry)) used (now (numbers .entry)) (now (places .entry)) known book → r ≡ movedOf (turnAt (now (doc .entry)) (spotAt at rows book))) ⌝ }
+{
+    let position = position_of(numbers, known, elements::number_behind(doc, at));
+    let looked = looked_at(places, known, position);
+    let one = elements::element_over(doc, at, rows, shelf, looked, used);
+    match one {
+        Stepping::Refused(n, p) => Moved::Refused(n, p),
+        Stepping::Done(step) => told(step, position),
+    }
+}
+
+// The rows from a place to the end, from an empty book; its layouts are kept by their places in the document. A word has room, and is not looked at.
+pub fn rows_from(doc: &[u8], at: usize) -> Counting
+    requires { ⌜ (at ≤ length (now doc)) × (length (now doc) ≤ 1048576) ⌝ }
+    ensures { λ r. ⌜ countSays r ≡ rowsRead (through (now (doc .entry)) (spotAt at 0 [])) ⌝ }
+{
+    let mut numbers = [0u64; 64];
+    let mut places = [0usize; 64];
+    let mut steps = [0u16; 1216];
+    let mut tally = nothing();
+    let mut pos = at;
+    let mut rows: usize = 0;
+    let mut used: usize = 0;
+    let mut words = [0u64; 1];
+    loop {
+        let stretch = rows_on(
+            doc,
+            pos,
+            &numbers,
+            &steps,
+            tally.known,
+            &numbers,
+            &mut words,
+            0,
+            1048576,
+        );
+        pos = stretch.next;
+        rows += stretch.count;
+        let moved = turn(doc, pos, rows, doc, used, &numbers, &places, tally.known);
+        match moved {
+            Moved::Refused(n, p) => {
+                return Counting::Refused(n, p);
+            }
+            Moved::End(count, time, next) => {
+                return Counting::Rows(rows, next);
+            }
+            Moved::Item(gone) => {
+                if used < gone.used {
+                    let here = pos + 4;
+                    tally = keep(
+                        doc,
+                        here,
+                        here,
+                        &mut numbers,
+                        &mut places,
+                        &mut steps,
+                        tally,
+                    );
+                }
+                pos = gone.next;
+                rows = gone.rows;
+                used = gone.used;
+            }
+        }
+    }
+}
