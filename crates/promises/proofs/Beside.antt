@@ -1,25 +1,25 @@
--- A run over a second book beside an accepted run: the same elements, as far as the book covers their rows.
+-- A way over a second book beside an accepted way: the same elements, as far as the book covers their rows.
 -- A step takes of its book only what `find` answers of a row's number and whether a layout can be learnt; both books are within the final one, and so neither passes a limit. Assumes nothing.
 use Prim.Native.Nat.{ℕ, _+_}
 use mathlib.Core.Path.{_≡_, refl, sym, _∙_, ap, subst}
 use mathlib.Core.List.{List, [], _∷_, _++_, List·Memᴰ, List·Memᴰ·head, append-nil, append-assoc}
 use mathlib.Core.Bool.{Bool, true, false, _&&_}
 use mathlib.Core.Option.{Option, some, none}
-use mathlib.Core.Logic.{inl, inr}
 use native.Mathlib.Omega.{arith}
 use Rattle.octets.specs.Reading.{ok, no}
 use Rattle.layouts.specs.Layout.{Layout}
-use Rattle.layouts.specs.Book.{Book, find, isNone, Distinct}
+use Rattle.layouts.specs.Book.{Book, find, isNone, Distinct, GoodBook}
 use Rattle.rows.specs.Row.{Row}
-use Rattle.elements.specs.Element.{layout, row, Element, item, finish, Stepped, elementAt}
-use Rattle.elements.specs.Steps.{Placed}
+use Rattle.elements.specs.Element.{Item, layout, row, Element, item, finish, Stepped, elementAt}
+use Rattle.elements.specs.Walk.{Stop, ended, refused, Seen, stops, Path, seenAt, Spot, spotAt, spotOf, turnAt}
+use Rattle.elements.specs.Reading.{Placed, placedAll, elementsOf}
 use Rattle.promises.specs.Resume.{layoutOf, layoutsOf}
 use Rattle.octets.specs.Writing.{Each, Octet}
 use Rattle.layouts.proofs.Finding.{absent, some-same, Within}
-use Rattle.layouts.proofs.Books.{GoodBook}
-use Rattle.layouts.proofs.Growing.{Learnt, learnt, absent-append, Alike, alike-append, alike-known, Learns, learns-within}
+use Rattle.layouts.proofs.Growing.{absent-append, Alike, alike-append, Learns, learns-within}
 use Rattle.elements.proofs.Went.{Went, at-layout, at-row, at-finish, went, layout-step, row-step, row-stop, finish-step, row-found, row-agrees, row-lacks}
-use Rattle.promises.proofs.Run.{Spot, behind, Steps, Gains, step-gains, steps-gain}
+use Rattle.elements.proofs.Turns.{took-at, ends, turn-item, turn-end}
+use Rattle.promises.proofs.Run.{Gains, element-gains, turn-gains, path-gains}
 
 -- An element that is no row, or a row whose layout's number is in a book.
 abbrev pub Known : Book → Element → Type 0
@@ -39,133 +39,113 @@ present none e = let z : _≡_ {A = ℕ} 0 1 = cc in absurd (omega arith)
 pub alike-none : (b c : Book) → Alike b c → (n : ℕ) → find n c ≡ none → find n b ≡ none
 alike-none b c a n e = absent (find n b) (a n ∙ rw e refl)
 
--- One step over a second book.
-record Follows (s : List ℕ) (f : Book) (at rows : ℕ) (st : Stepped) (next : ℕ) (c d : Book) : Type 0 where
+-- A second book, within the final one, that has the numbers of some layouts.
+pub record Beside (f c d : Book) : Type 0 where
+  pub distinct : Distinct c
+  pub within : Within c f
+  pub alike : Alike c d
+
+-- One item over a second book.
+record Follows (s : List ℕ) (f : Book) (x : Spot) (i : Item) (passed next : ℕ) (c d : Book) : Type 0 where
   pub stepped : Stepped
-  pub goes : elementAt s at rows c ≡ ok stepped next
-  pub element : stepped .element ≡ st .element
-  pub passed : stepped .rows ≡ st .rows
-  pub distinct : Distinct (stepped .book)
-  pub within : Within (stepped .book) f
-  pub alike : Alike (stepped .book) (d ++ layoutOf (st .element))
+  pub reads : elementAt s (x .at) (x .rows) c ≡ ok stepped next
+  pub is : stepped .element ≡ item i
+  pub rows : stepped .rows ≡ passed
+  pub beside : Beside f (stepped .book) (d ++ layoutOf (item i))
 
 module _ (s : List ℕ) (f : Book) (good : GoodBook f) where
-  follows : (at rows : ℕ) (b : Book) (st : Stepped) (next : ℕ) → elementAt s at rows b ≡ ok st next → Within (st .book) f
-      → ((l : Layout) → List·Memᴰ l (layoutOf (st .element)) → find (l .number) f ≡ some l)
-      → (c d : Book) → Distinct c → Within c f → Alike c d → Known d (st .element) → Follows s f at rows st next c d
-  follows at rows b st next e inside has c d distinct within alike known = go (went s at rows b st next e)
+  follows : (x : Spot) (st : Stepped) (next : ℕ) (i : Item) → elementAt s (x .at) (x .rows) (x .book) ≡ ok st next → st .element ≡ item i → Within (st .book) f
+      → ((l : Layout) → List·Memᴰ l (layoutOf (item i)) → find (l .number) f ≡ some l) → (c d : Book) → Beside f c d → Known d (item i) → Follows s f x i (st .rows) next c d
+  follows x st next i e is inside has c d b known = go (went s (x .at) (x .rows) (x .book) st next e)
     where
-      go : Went s at rows b st next → Follows s f at rows st next c d
-      go (at-layout l x k h g el ro) =
-          let t : Learns f c l (at + 4) = learns-within f c l (at + 4) good distinct within (has l (rw el (List·Memᴰ·head refl))) in
-          record {
-            stepped = record { element = item (layout l); rows = rows; book = t .book };
-            goes = layout-step s at rows c l next (t .book) (at + 4) k h (t .learns);
-            element = sym el;
-            passed = sym ro;
-            distinct = t .distinct;
-            within = t .within;
-            alike = rw el (λ n. t .alike n ∙ alike-append c d (l ∷ []) alike n);
-          }
+      go : Went s (x .at) (x .rows) (x .book) st next → Follows s f x i (st .rows) next c d
+      go (at-layout l z k h g el ro) =
+          let q : i ≡ layout l = cc in
+          let t : Learns f c l (x .at + 4) = learns-within f c l (x .at + 4) good (b .distinct) (b .within) (has l (rw q (List·Memᴰ·head refl))) in
+          rw (q, ro) (record {
+            stepped = record { element = item (layout l); rows = x .rows; book = t .book };
+            reads = layout-step s (x .at) (x .rows) c l next (t .book) (x .at + 4) k h (t .learns);
+            is = refl;
+            rows = refl;
+            beside = record { distinct = t .distinct; within = t .within; alike = λ n. t .alike n ∙ alike-append c d (l ∷ []) (b .alike) n };
+          })
       go (at-row r k h el ro bo) =
-          let found = row-found b s (at + 4) r next h in
-          let known2 : isNone (find (r .number) d) ≡ false = subst (Known d) el known in
-          let here = present (find (r .number) c) (alike (r .number) ∙ known2) in
+          let q : i ≡ row r = cc in
+          let found = row-found (x .book) s (x .at + 4) r next h in
+          let here = present (find (r .number) c) (b .alike (r .number) ∙ subst (λ (j : Item). Known d (item j)) q known) in
           let in-f : find (r .number) f ≡ some (found .0) = inside (r .number) (found .0) (ap (find (r .number)) bo ∙ found .1) in
-          let q : here .0 ≡ found .0 = some-same (within (r .number) (here .0) (here .1)) in-f in
-          let same : find (r .number) c ≡ find (r .number) b = here .1 ∙ (ap some q ∙ sym (found .1)) in
-          record {
-            stepped = record { element = item (row r); rows = rows + 1; book = c };
-            goes = row-step s at rows c r next k (row-agrees b s (at + 4) r next h c same);
-            element = sym el;
-            passed = sym ro;
-            distinct = distinct;
-            within = within;
-            alike = rw (el, append-nil d) alike;
-          }
-      go (at-finish n t k h el ro bo) =
-          record {
-            stepped = record { element = finish n t; rows = rows; book = c };
-            goes = finish-step s at rows c (finish n t) next k h;
-            element = sym el;
-            passed = sym ro;
-            distinct = distinct;
-            within = within;
-            alike = rw (el, append-nil d) alike;
-          }
+          let one : here .0 ≡ found .0 = some-same (b .within (r .number) (here .0) (here .1)) in-f in
+          let same : find (r .number) c ≡ find (r .number) (x .book) = here .1 ∙ (ap some one ∙ sym (found .1)) in
+          rw (q, ro) (record {
+            stepped = record { element = item (row r); rows = x .rows + 1; book = c };
+            reads = row-step s (x .at) (x .rows) c r next k (row-agrees (x .book) s (x .at + 4) r next h c same);
+            is = refl;
+            rows = refl;
+            beside = rw (append-nil d) b;
+          })
+      go (at-finish n t k h el ro bo) = absurd (let z : _≡_ {A = ℕ} 0 1 = cc in omega arith)
 
--- A run over a second book.
-pub record Resumes (s : List ℕ) (f : Book) (x y : Spot) (ps : List Placed) (c d : Book) : Type 0 where
+-- A way over a second book.
+pub record Resumes (s : List ℕ) (f : Book) (x y : Spot) (ps : List Seen) (c d : Book) : Type 0 where
+  pub seen : List Seen
   pub book : Book
-  pub steps : Steps s (record { at = x .at; rows = x .rows; book = c }) ps (record { at = y .at; rows = y .rows; book = book })
-  pub distinct : Distinct book
-  pub within : Within book f
-  pub alike : Alike book (d ++ layoutsOf ps)
+  pub path : Path (turnAt s) (spotAt (x .at) (x .rows) c) seen (spotAt (y .at) (y .rows) book)
+  pub same : placedAll seen ≡ placedAll ps
+  pub beside : Beside f book (d ++ layoutsOf (placedAll ps))
 
 module _ (s : List ℕ) (o : Each Octet s) (f : Book) (good : GoodBook f) where
-  pub resumes : (ps : List Placed) (x y : Spot) → Steps s x ps y → GoodBook (x .book) → Within (y .book) f
-      → (c d : Book) → Distinct c → Within c f → Alike c d → Covered d ps → Resumes s f x y ps c d
-  resumes [] x y h begins inside c d distinct within alike covered =
-      record { book = c; steps = ap (λ (z : Spot). record { at = z .at; rows = z .rows; book = c }) h; distinct = distinct; within = within; alike = rw (append-nil d) alike }
-  resumes (p ∷ ps) x y h begins inside c d distinct within alike covered =
-      let st : Stepped = h .0 in
-      let next : ℕ = h .1 in
-      let one : Gains (x .book) (layoutOf (st .element)) (st .book) = step-gains s o (x .at) (x .rows) (x .book) st next begins (h .2) in
-      let more : Gains (st .book) (layoutsOf ps) (y .book) = steps-gain s o (behind st next) y ps (one .good) (h .4) in
-      let in-f : Within (st .book) f = λ n l e. inside n l (more .keeps n l e) in
-      let q : p .element ≡ st .element = ap (λ (z : Placed). z .element) (h .3) in
-      let t : Follows s f (x .at) (x .rows) st next c d =
-      follows s f good (x .at) (x .rows) (x .book) st next (h .2) in-f (λ l i. in-f (l .number) l (one .has l i)) c d distinct within alike (subst (Known d) q (covered .0)) in
-      let rest : Resumes s f (behind st next) y ps (t .stepped .book) (d ++ layoutOf (p .element)) =
-      resumes ps (behind st next) y (h .4) (one .good) inside (t .stepped .book) (d ++ layoutOf (p .element)) (t .distinct) (t .within)
-      (subst (λ (z : Element). Alike (t .stepped .book) (d ++ layoutOf z)) (sym q) (t .alike)) (covered .1) in
+  pub resumes : (ps : List Seen) (x y : Spot) → Path (turnAt s) x ps y → GoodBook (x .book) → Within (y .book) f
+      → (c d : Book) → Beside f c d → (more : List Placed) → Covered d (placedAll ps ++ more) → Resumes s f x y ps c d
+  resumes [] x y h begins inside c d b more covered =
+      record { seen = []; book = c; path = ap (λ (z : Spot). spotAt (z .at) (z .rows) c) h; same = refl; beside = rw (append-nil d) b }
+  resumes (p ∷ ps) x y h begins inside c d b more covered =
+      let t = took-at s x p (h .0) (h .1) in
+      let st : Stepped = t .stepped in
+      let next : Spot = spotOf st (p .next) in
+      let on : Path (turnAt s) next ps y = subst (λ (z : Spot). Path (turnAt s) z ps y) (t .spot) (h .2) in
+      let one : Gains (x .book) (layoutOf (item (p .which))) (st .book) =
+      subst (λ (e : Element). Gains (x .book) (layoutOf e) (st .book)) (t .is) (element-gains s o (x .at) (x .rows) (x .book) st (p .next) begins (t .reads)) in
+      let in-f : Within (st .book) f = λ n l e. inside n l (path-gains s o ps next y (one .good) on .keeps n l e) in
+      let g = follows s f good x st (p .next) (p .which) (t .reads) (t .is) in-f (λ l i. in-f (l .number) l (one .has l i)) c d b (covered .0) in
+      let place : p .place ≡ x .at = ap (λ (q : Seen). q .place) (t .seen) in
+      let rest = resumes ps next y on (one .good) inside (g .stepped .book) (d ++ layoutOf (item (p .which))) (g .beside) more (covered .1) in
       record {
+        seen = seenAt (x .at) (p .which) (g .stepped) (p .next) ∷ rest .seen;
         book = rest .book;
-        steps = (
-          t .stepped,
-          next,
-          t .goes,
-          h .3 ∙ ap (λ (z : Element). record { place = x .at; element = z }) (sym (t .element)),
-          subst (λ (z : ℕ). Steps s (record { at = next; rows = z; book = t .stepped .book }) ps (record { at = y .at; rows = y .rows; book = rest .book })) (sym (t .passed)) (rest .steps),
+        path = (
+          spotOf (g .stepped) (p .next),
+          turn-item spotOf (x .at) (elementAt s (x .at) (x .rows) c) (g .stepped) (p .next) (p .which) (g .reads) (g .is),
+          subst (λ (n : ℕ). Path (turnAt s) (spotAt (p .next) n (g .stepped .book)) (rest .seen) (spotAt (y .at) (y .rows) (rest .book))) (sym (g .rows)) (rest .path),
         );
-        distinct = rest .distinct;
-        within = rest .within;
-        alike = rw (← append-assoc d (layoutOf (p .element)) (layoutsOf ps)) (rest .alike);
+        same = cc (rest .same);
+        beside = rw (← append-assoc d (layoutOf (item (p .which))) (layoutsOf (placedAll ps))) (rest .beside);
       }
 
--- A row that the second book lacks.
-pub lacks : (s : List ℕ) (at rows : ℕ) (b : Book) (st : Stepped) (next : ℕ) (r : Row) (c : Book) → elementAt s at rows b ≡ ok st next
-    → st .element ≡ item (row r) → find (r .number) c ≡ none → elementAt s at rows c ≡ no 12 (at + 4)
-lacks s at rows b st next r c e is none-there = go (went s at rows b st next e)
-  where
-    go : Went s at rows b st next → elementAt s at rows c ≡ no 12 (at + 4)
-    go (at-layout l x k h g el ro) = let z : _≡_ {A = ℕ} 0 1 = cc in absurd (omega arith)
-    go (at-row v k h el ro bo) =
-        let q : r ≡ v = cc in
-        row-stop s at rows c 12 (at + 4) k (row-lacks b s (at + 4) v next h c (subst (λ (y : Row). find (y .number) c ≡ none) q none-there))
-    go (at-finish n t k h el ro bo) = let z : _≡_ {A = ℕ} 0 1 = cc in absurd (omega arith)
+module _ (s : List ℕ) where
+  -- The end is read alike over every book.
+  pub end-alike : (x : Spot) (n t next : ℕ) (c : Book) → turnAt s x ≡ stops (ended n t next) → turnAt s (spotAt (x .at) (x .rows) c) ≡ stops (ended n t next)
+  end-alike x n t next c e =
+      let (st, reads, is) = ends spotOf (x .at) (elementAt s (x .at) (x .rows) (x .book)) n t next e in
+      go st is (went s (x .at) (x .rows) (x .book) st next reads)
+    where
+      go : (st : Stepped) → st .element ≡ finish n t → Went s (x .at) (x .rows) (x .book) st next → turnAt s (spotAt (x .at) (x .rows) c) ≡ stops (ended n t next)
+      go st is (at-layout l z k h g el ro) = absurd (let z : _≡_ {A = ℕ} 0 1 = cc in omega arith)
+      go st is (at-row r k h el ro bo) = absurd (let z : _≡_ {A = ℕ} 0 1 = cc in omega arith)
+      go st is (at-finish m u k h el ro bo) =
+          turn-end spotOf (x .at) (elementAt s (x .at) (x .rows) c) (record { element = finish m u; rows = x .rows; book = c }) next n t
+          (finish-step s (x .at) (x .rows) c (finish m u) next k h) (sym el ∙ is)
 
--- The numbers of a run's book are those of its first book and of its layouts.
-step-alike : (s : List ℕ) (at rows : ℕ) (b : Book) (st : Stepped) (next : ℕ) → elementAt s at rows b ≡ ok st next → Alike (st .book) (b ++ layoutOf (st .element))
-step-alike s at rows b st next e = go (went s at rows b st next e)
-  where
-    learning : (l : Layout) → Learnt b l (st .book) → Alike (st .book) (b ++ l ∷ [])
-    learning l (inl h) = rw (h .3) (alike-known b l (h .0) (h .1))
-    learning l (inr h) = rw (h .3) (λ n. refl)
-
-    go : Went s at rows b st next → Alike (st .book) (b ++ layoutOf (st .element))
-    go (at-layout l x k h g el ro) = rw el (learning l (learnt b l (at + 4) (st .book) x g))
-    go (at-row r k h el ro bo) = rw (el, bo, append-nil b) (λ n. refl)
-    go (at-finish n t k h el ro bo) = rw (el, bo, append-nil b) (λ n. refl)
-
-pub steps-alike : (s : List ℕ) (x y : Spot) (ps : List Placed) → Steps s x ps y → Alike (y .book) (x .book ++ layoutsOf ps)
-steps-alike s x y [] h = rw (append-nil (x .book), h) (λ n. refl)
-steps-alike s x y (p ∷ ps) h =
-    let st : Stepped = h .0 in
-    let again : Alike (y .book) (st .book ++ layoutsOf ps) = steps-alike s (behind st (h .1)) y ps (h .4) in
-    let one : Alike (st .book) (x .book ++ layoutOf (st .element)) = step-alike s (x .at) (x .rows) (x .book) st (h .1) (h .2) in
-    let q : p .element ≡ st .element = ap (λ (z : Placed). z .element) (h .3) in
-    rw (q, ← append-assoc (x .book) (layoutOf (st .element)) (layoutsOf ps)) (λ n. again n ∙ alike-append (st .book) (x .book ++ layoutOf (st .element)) (layoutsOf ps) one n)
+  -- A row that the second book lacks.
+  pub lacks : (at rows : ℕ) (b : Book) (st : Stepped) (next : ℕ) (r : Row) (c : Book) → elementAt s at rows b ≡ ok st next
+      → st .element ≡ item (row r) → find (r .number) c ≡ none → elementAt s at rows c ≡ no 12 (at + 4)
+  lacks at rows b st next r c e is none-there = go (went s at rows b st next e)
+    where
+      go : Went s at rows b st next → elementAt s at rows c ≡ no 12 (at + 4)
+      go (at-layout l x k h g el ro) = let z : _≡_ {A = ℕ} 0 1 = cc in absurd (omega arith)
+      go (at-row v k h el ro bo) =
+          let q : r ≡ v = cc in
+          row-stop s at rows c 12 (at + 4) k (row-lacks b s (at + 4) v next h c (subst (λ (y : Row). find (y .number) c ≡ none) q none-there))
+      go (at-finish n t k h el ro bo) = let z : _≡_ {A = ℕ} 0 1 = cc in absurd (omega arith)
 
 -- A book with all the numbers of another.
 abbrev pub Under : Book → Book → Type 0
@@ -180,21 +160,19 @@ and-under false false c h e = refl
 under-append : (b d e : Book) → Under b d → Under (b ++ e) (d ++ e)
 under-append b d e u n h = absent-append n d e ∙ and-under (isNone (find n b)) (isNone (find n d)) (isNone (find n e)) (u n) (sym (absent-append n b e) ∙ h)
 
--- A run is covered by any book with all the numbers of its own.
-pub covers : (s : List ℕ) (ps : List Placed) (x y : Spot) (d : Book) → Steps s x ps y → Under (x .book) d → Covered d ps
-covers s [] x y d h u = tt
-covers s (p ∷ ps) x y d h u = (subst (Known d) (sym q) (go (went s (x .at) (x .rows) (x .book) st (h .1) (h .2))), covers s ps (behind st (h .1)) y (d ++ layoutOf (p .element)) (h .4) on)
+-- A way is covered by any book with all the numbers of its own, and so is its end.
+pub covers : (s : List ℕ) → Each Octet s → (ps : List Seen) (x y : Spot) (at : ℕ) (e : Stop) (d : Book) → Path (turnAt s) x ps y → GoodBook (x .book) → Under (x .book) d
+    → Covered d (elementsOf ps at (some e))
+covers s o [] x y at (ended n t next) d h good u = (tt, tt)
+covers s o [] x y at (refused n p) d h good u = tt
+covers s o (p ∷ ps) x y at e d h good u =
+    let t = took-at s x p (h .0) (h .1) in
+    let one = turn-gains s o x (h .0) p good (h .1) in (
+      subst (Known d) (t .is) (go (t .stepped) (went s (x .at) (x .rows) (x .book) (t .stepped) (p .next) (t .reads))),
+      covers s o ps (h .0) y at e (d ++ layoutOf (item (p .which))) (h .2) (one .good) λ n q. under-append (x .book) d (layoutOf (item (p .which))) u n (sym (one .alike n) ∙ q),
+    )
   where
-    st : Stepped
-    st = h .0
-
-    q : p .element ≡ st .element
-    q = ap (λ (z : Placed). z .element) (h .3)
-
-    go : Went s (x .at) (x .rows) (x .book) (h .0) (h .1) → Known d (h .0 .element)
-    go (at-layout l z k e g el ro) = rw el tt
-    go (at-row r k e el ro bo) = rw el (u (r .number) (rw (row-found (x .book) s (x .at + 4) r (h .1) e .1) refl))
-    go (at-finish n t k e el ro bo) = rw el tt
-
-    on : Under (h .0 .book) (d ++ layoutOf (p .element))
-    on n e = rw q (under-append (x .book) d (layoutOf (h .0 .element)) u n (sym (step-alike s (x .at) (x .rows) (x .book) (h .0) (h .1) (h .2) n) ∙ e))
+    go : (st : Stepped) → Went s (x .at) (x .rows) (x .book) st (p .next) → Known d (st .element)
+    go st (at-layout l z k e g el ro) = rw el tt
+    go st (at-row r k e el ro bo) = rw el (u (r .number) (rw (row-found (x .book) s (x .at + 4) r (p .next) e .1) refl))
+    go st (at-finish n t k e el ro bo) = rw el tt

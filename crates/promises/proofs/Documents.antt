@@ -2,7 +2,7 @@
 -- Header and elements are inverse each by their own laws, one behind the other. Assumes nothing.
 use mathlib.Core.Path.{_≡_, refl, sym, ap, _∙_, subst}
 use mathlib.Core.List.{List, [], _∷_, _++_, append-assoc}
-use Prim.Native.Nat.{ℕ, _+_, _≤_}
+use Prim.Native.Nat.{ℕ, suc, _+_, _-_, _≤_}
 use native.Mathlib.Omega.{arith}
 use native.Mathlib.Nat.{zero-add}
 use lib.ListN.{length, length-append}
@@ -16,13 +16,15 @@ use Rattle.layouts.specs.Layout.{layoutImage}
 use Rattle.rows.specs.Row.{rowImage}
 use Rattle.headers.specs.Header.{Header, headerFrom, headerAt, headerImage, GoodHeader}
 use Rattle.elements.specs.Element.{Item, layout, row}
-use Rattle.elements.specs.Steps.{Placed, elementsFrom, Reading, reading, rowsOf, whole}
+use Rattle.elements.specs.Walk.{spotAt, turnAt, walk, through}
+use Rattle.elements.specs.Reading.{Placed, elementsRead, Reading, reading, rowsOf, whole}
 use Rattle.elements.specs.Document.{Document, itemImage, rowCount, image, Good, placedFrom, readingOf}
 use Rattle.octets.proofs.Spans.{Spans, join, middle, all-spans, spans-all, length-word, word-octets, each-append}
 use Rattle.octets.proofs.Inverse.{after, settle, chosen, no-ok}
 use Rattle.promises.specs.Meaning.{Means, Meaning}
 use Rattle.headers.proofs.Headers.{header-inverse}
-use Rattle.elements.proofs.Elements.{endImage, Elements, elements-back, elements-forth, items-octets}
+use Rattle.elements.proofs.Elements.{endImage, items-octets}
+use Rattle.elements.proofs.Items.{Elements, elements-back, elements-forth}
 
 pub image-is : (d : Document) → image d ≡ headerImage (d .header) ++ (images itemImage (d .items) ++ endImage (rowCount (d .items)) (d .end))
 unfolding image
@@ -41,7 +43,7 @@ few (row r ∷ rest) =
 
 -- Whatever is inside the limits is read back from its image.
 pub complete : (d : Document) → Good d → reading (image d) ≡ ok (readingOf d) (length (image d))
-unfolding reading headerAt readingOf
+unfolding reading through headerAt readingOf
 complete d g =
     let s : List ℕ = image d in
     let header : List ℕ = headerImage (d .header) in
@@ -50,10 +52,14 @@ complete d g =
     let (p, q) = middle header (items ++ endImage rows (d .end)) (subst (Spans s (length s) 0 (length s)) (image-is d) (all-spans s)) in
     let many : length (d .items) ≤ length s =
     omega (arith, few (d .items), ap length (image-is d), length-append header (items ++ endImage rows (d .end)), length-append items (endImage rows (d .end))) in
+    let k : ℕ = length s - length (d .items) in
+    let turns : length s + 1 ≡ length (d .items) + suc k = omega arith in
+    let elements = ap (λ (n : ℕ). elementsRead (walk (turnAt s) n (spotAt (0 + length header) 0 []))) turns
+    ∙ elements-back s (g .fits) (d .items) 0 rows (d .end) [] (g .items) (zero-add rows) (omega (arith, few (d .items), g .fits)) (g .end) refl q k in
     rw (
       le-leb (length s) 1048576 (g .fits),
       header-inverse s .back (d .header) tt (g .header) p,
-      elements-back s (g .fits) (length s + 1) (d .items) 0 rows (d .end) [] (g .items) (zero-add rows) (omega (arith, few (d .items), g .fits)) (g .end) refl q (omega arith),
+      elements,
       zero-add (length header),
     )
 
@@ -61,8 +67,8 @@ complete d g =
 abbrev Reads : List ℕ → Reading → ℕ → Type 0
 Reads s r end = (d : Document) × Means s d × (readingOf d ≡ r) × (end ≡ length s)
 
-meaning : {s : List ℕ} {h : Header} {next end : ℕ} {placed : List Placed} → length s ≤ 1048576 → GoodHeader h → Spans s (length s) 0 next (headerImage h)
-    → Elements s next 0 [] placed end → Reads s (record { header = h; elements = placed }) end
+meaning : {s : List ℕ} {h : Header} {next end : ℕ} {placed : List Placed} (short : length s ≤ 1048576) → GoodHeader h → Spans s (length s) 0 next (headerImage h)
+    → Elements s short next 0 [] placed end → Reads s (record { header = h; elements = placed }) end
 unfolding readingOf
 meaning {s} {h} {next} short g p m =
     let d : Document = record { header = h; items = m .items; end = m .time } in
@@ -78,10 +84,10 @@ meaning {s} {h} {next} short g p m =
 -- What is read is inside the limits, and its image is what was read.
 pub sound : (s : List ℕ) → Each Octet s → (r : Reading) (end : ℕ) → reading s ≡ ok r end
     → (d : Document) × Means s d × (readingOf d ≡ r) × (end ≡ length s)
-unfolding reading headerAt
+unfolding reading through headerAt
 sound s o r end e =
     after (headerAt s) _ e λ h next e₁ e₂.
-    after (elementsFrom (length s + 1) s next 0 []) _ e₂ λ placed last e₃ e₄.
+    after (elementsRead (through s (spotAt next 0 []))) _ e₂ λ placed last e₃ e₄.
     let (t, e₅) = chosen (leb (length s) 1048576) (λ _. headerFrom s 0) 2 0 e₁ in
     let short : length s ≤ 1048576 = leb-true (length s) 1048576 t in
     let (u, g, p) = header-inverse s .forth o (omega arith) e₅ in

@@ -13,7 +13,9 @@ use Rattle.layouts.specs.Book.{find, bookImage, layoutsAt, bookOf, learn}
 use Rattle.rows.specs.Row.{valueIn, fieldsIn, valuesAt, rowAt}
 use Rattle.headers.specs.Header.{Header, namespaceAt, idAt, headerFrom, headerAt}
 use Rattle.elements.specs.Element.{Stepped, finishAt, elementAt}
-use Rattle.elements.specs.Steps.{lentBook, stepAt, elementsFrom, reading, whole}
+use Rattle.elements.specs.Steps.{lentBook, stepAt}
+use Rattle.elements.specs.Walk.{walk, through}
+use Rattle.elements.specs.Reading.{reading, whole}
 use Rattle.promises.specs.Specimen.{specimen, layoutBook, emptyBook}
 use Rattle.promises.specs.Refusals.{refusalOf, refusalsOf, headerNumbers, elementNumbers, stepNumbers, wholeNumbers, Inputs, Refusals}
 use Rattle.promises.proofs.Numbers.{header-only, step-only, whole-only}
@@ -88,7 +90,7 @@ wholeInputs =
     ∷ set specimen 94 8 ∷ set specimen 98 6 ∷ set specimen 86 0x29 ∷ set specimen 128 3 ∷ (specimen ++ 0 ∷ []) ∷ []
 
 whole-each : refusalsOf whole wholeInputs ≡ wholeNumbers
-unfolding wholeInputs specimen be part numberIn octetsIn textIn count exactly run word textImage images among basicOf kindAt attributeAt layoutAt attributeImage layoutImage find bookImage learn valueIn fieldsIn valuesAt rowAt namespaceAt idAt headerFrom headerAt finishAt elementAt elementsFrom reading whole
+unfolding wholeInputs specimen be part numberIn octetsIn textIn count exactly run word textImage images among basicOf kindAt attributeAt layoutAt attributeImage layoutImage find bookImage learn valueIn fieldsIn valuesAt rowAt namespaceAt idAt headerFrom headerAt finishAt elementAt walk through reading whole
 whole-each = ap (λ (r : Read ℕ). 1 ∷ refusalOf r ∷ 3 ∷ 4 ∷ 5 ∷ 6 ∷ 7 ∷ 8 ∷ 9 ∷ 10 ∷ 11 ∷ 12 ∷ 13 ∷ 14 ∷ 15 ∷ 16 ∷ []) whole-long
 
 pub refusals : Refusals

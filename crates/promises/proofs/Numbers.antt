@@ -12,7 +12,8 @@ use Rattle.octets.proofs.Inverse.{no-ok}
 use Rattle.layouts.specs.Book.{as17, layoutsAt, bookOf}
 use Rattle.layouts.specs.Answers.{among}
 use Rattle.headers.specs.Header.{headerAt}
-use Rattle.elements.specs.Steps.{stepAt, whole}
+use Rattle.elements.specs.Steps.{stepAt}
+use Rattle.elements.specs.Reading.{whole}
 use Rattle.elements.proofs.Refusing.{Stays, header-stays, whole-stays, step-stays}
 use Rattle.promises.specs.Refusals.{Only, headerNumbers, stepNumbers, wholeNumbers}
 

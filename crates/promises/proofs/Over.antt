@@ -1,219 +1,116 @@
--- The reading by steps over lent octets is the reading over books in hand: each step finds in the octets the book that the step before left there.
--- What is left carries the new book, which is good, so that it is read back. Assumes nothing.
-use Prim.Native.Nat.{ℕ, zero, suc, _+_, _≤_, _<_}
+-- The reading by steps over lent octets is the walk over the book that they hold, and so it is the reading; what each of its steps is given and leaves. Assumes nothing.
+use Prim.Native.Nat.{ℕ, _+_, _≤_}
 use mathlib.Core.Path.{_≡_, refl, sym, _∙_, ap, subst}
-use mathlib.Core.List.{List, [], _∷_, _++_, append-assoc}
-use mathlib.Core.Bool.{Bool, true, false}
-use mathlib.Core.Logic.{_⊎_, inl, inr}
+use mathlib.Core.List.{List, [], _∷_, _++_, append-assoc, append-nil}
+use mathlib.Core.Option.{some, none}
+use mathlib.Core.Logic.{inl, inr}
 use native.Mathlib.Omega.{arith}
 use native.Mathlib.Nat.{add-zero}
 use lib.ListN.{length, take, drop, length-append}
-use lib.Seq.{take-append-seam}
 use lib.Dec.{leb}
-use borrow.Author.Tests.{leb-true, le-leb}
-use Rattle.octets.specs.Reading.{Read, ok, no, _then_}
+use borrow.Author.Tests.{leb-true}
+use Rattle.octets.specs.Reading.{Read, ok, no}
 use Rattle.octets.specs.Writing.{Each, Octet, over}
 use Rattle.layouts.specs.Layout.{Layout, layoutImage}
-use Rattle.layouts.specs.Book.{Book, bookImage, bookOf}
+use Rattle.layouts.specs.Book.{Book, bookImage, bookOf, bookIn, GoodBook}
 use Rattle.headers.specs.Header.{Header, headerAt}
-use Rattle.elements.specs.Element.{layout, item, Stepped, elementAt}
-use Rattle.elements.specs.Steps.{holding, lentBook, stepAt, Placed, isLast, elementsFrom, readingFrom, Reading, reading, asRow, rowsOf, whole}
-use Rattle.promises.specs.BySteps.{Left, left, stepOver, Ending, ended, refused, BySteps, stop, last, more, answer, FromFirst, no-header, then-steps, Carries, Few, OneReading, OneFirst, Appends, stepsOver, Meets, Stops}
-use Rattle.octets.proofs.Ends.{number-no}
-use Rattle.octets.proofs.Inverse.{ok-value, ok-place, after, chosen}
-use Rattle.layouts.proofs.Books.{GoodBook, Lent, image-nil, image-snoc, book-back, book-forth}
+use Rattle.elements.specs.Element.{layout, Element, item, Stepped}
+use Rattle.elements.specs.Steps.{holding, lentBook, stepAt}
+use Rattle.elements.specs.Walk.{Stop, Seen, stops, Walk, standing, behind, walk, Path, Spot, spotAt, turnAt, through, Lent, lentAt, lentOf, turnOver, throughOver}
+use Rattle.elements.specs.Walk as walk
+use Rattle.elements.specs.Reading.{Placed, placedAll, closing, elementsOf, answerOf, elementsRead, readingFrom, Reading, headed, reading, asRow, rowsOf, whole}
+use Rattle.promises.specs.BySteps.{Ending, refused, endingOf, BySteps, answer, FromFirst, no-header, then-steps, Carries, Few, OneReading, OneFirst, Appends, Comes, Meets, Stops}
+use Rattle.octets.proofs.Inverse.{after, chosen}
+use Rattle.layouts.proofs.Books as books
+use Rattle.layouts.proofs.Books.{image-nil, image-snoc, book-back, book-forth}
 use Rattle.layouts.proofs.Growing.{Learnt, learnt, good-nil}
+use Rattle.elements.proofs.Before.{lent-forth, lent-is, step-refused}
 use Rattle.elements.proofs.Went.{Went, at-layout, at-row, at-finish, went, step-rows}
 use Rattle.elements.proofs.Told.{holding-lent}
-use Rattle.elements.proofs.Going.{holding-length}
-use Rattle.promises.proofs.Run.{Spot, behind, placed, Steps, Ends, NoEnd, step-gains, step-moves, step-few}
+use Rattle.elements.proofs.Walks.{walk-none, walk-path, walk-at-stop, path-walk, path-split}
+use Rattle.elements.proofs.Turns.{took-over, refuses, turn-no}
+use Rattle.elements.proofs.Through.{through-comes, through-stops, through-path, over-stops}
+use Rattle.elements.proofs.Readings.{placed-length, cut}
+use Rattle.elements.proofs.Lents.{Holds, through-alike}
+use Rattle.promises.proofs.Run.{first-here}
 
--- The book in lent octets that hold it.
-carries-book : (octets : List ℕ) (used : ℕ) (b : Book) → Carries octets used b → GoodBook b → bookOf octets used ≡ ok b used
-carries-book octets used b h good =
-    subst (λ (u : ℕ). bookOf octets u ≡ ok b u) (sym (h .size))
-    (book-back b octets good (h .room) (subst (λ (u : ℕ). take u octets ≡ bookImage b) (h .size) (h .held)))
+-- Where a walk by steps comes to: elements before its stop, and the place of that.
+pub record Came (s : List ℕ) (x : Lent) (ps : List Placed) (at : ℕ) (e : Stop) : Type 0 where
+  pub passes : placedAll (throughOver s x .seen) ≡ ps
+  pub place : throughOver s x .spot .at ≡ at
+  pub stop : throughOver s x .stop ≡ some e
 
--- What a step leaves carries its book.
-left-carries : (octets : List ℕ) (c : Book) → 32768 ≤ length octets → GoodBook c → Carries (holding c octets) (length (bookImage c)) c
-left-carries octets c room good =
-    record {
-      room = omega (arith, holding-length c octets good room);
-      size = refl;
-      held = take-append-seam (bookImage c) (drop (length (bookImage c)) octets);
-    }
-
--- Where steps over lent octets stand beside a book in hand.
-pub record InStep (s : List ℕ) (at rows : ℕ) (octets : List ℕ) (used : ℕ) (b : Book) : Type 0 where
-  pub few : Few s at rows
-  pub carries : Carries octets used b
-  pub good : GoodBook b
+pub came-steps : {s : List ℕ} {x : Lent} {ps : List Placed} {at : ℕ} {e : Stop} → Came s x ps at e → BySteps s x (ps ++ closing at (some e)) (endingOf e)
+came-steps {e = e} c = record { stop = e; comes = c .stop; gives = rw (c .passes, c .place) refl; ends = refl }
 
 module _ (s : List ℕ) (o : Each Octet s) (short : length s ≤ 1048576) where
-  -- One step over lent octets that hold a book is the step over that book.
-  module _ {at rows : ℕ} {octets : List ℕ} {used : ℕ} {b : Book} (x : InStep s at rows octets used b) where
-    over-is : stepOver s at rows octets used ≡ (elementAt s at rows b then λ st next. ok (left octets st) next)
-    unfolding stepOver stepAt lentBook
-    over-is = rw (le-leb (length s) 1048576 short, carries-book octets used b (x .carries) (x .good), le-leb rows 1048576 (omega (arith, x .few)))
+  -- Lent octets that carry a good book hold it.
+  pub holds : (x : Lent) (y : Spot) → x .at ≡ y .at → x .rows ≡ y .rows → Few s (y .at) (y .rows) → Carries (x .octets) (x .used) (y .book) → GoodBook (y .book) → Holds s o short x y
+  unfolding bookIn
+  holds x y at rows few c good =
+      let there : bookOf (x .octets) (x .used) ≡ ok (y .book) (x .used) =
+      subst (λ (u : ℕ). bookOf (x .octets) u ≡ ok (y .book) u) (sym (c .size))
+      (book-back (y .book) (x .octets) good (c .room) (subst (λ (u : ℕ). take u (x .octets) ≡ bookImage (y .book)) (c .size) (c .held))) in
+      record { at = at; rows = rows; few = rw (at, rows) few; room = c .room; is = rw there refl; book = rw there refl; good = good }
 
-    over-no : {n p : ℕ} → elementAt s at rows b ≡ no n p → stepOver s at rows octets used ≡ no n p
-    over-no e = over-is ∙ rw e
+  -- The steps over them come to where a way over it comes to.
+  pub path-came : (x : Lent) (y z : Spot) (ps : List Seen) (e : Stop) → Holds s o short x y → Path (turnAt s) y ps z → turnAt s z ≡ stops e → Came s x (placedAll ps) (z .at) e
+  path-came x y z ps e h way stop =
+      let all : through s y ≡ behind ps (standing z (some e)) = through-path s o short ps y z way ∙ ap (behind ps) (through-stops s o short z e stop) in
+      let w = through-alike s o short x y h in
+      record { passes = rw (w .seen, all, append-nil ps) refl; place = w .spot .at ∙ rw all refl; stop = w .stop ∙ rw all refl }
 
-    over-ok : {st : Stepped} {next : ℕ} → elementAt s at rows b ≡ ok st next → stepOver s at rows octets used ≡ ok (left octets st) next
-    over-ok e = over-is ∙ rw e
-
-    onward : {st : Stepped} {next : ℕ} → elementAt s at rows b ≡ ok st next → isLast (st .element) ≡ false
-        → InStep s next (st .rows) (holding (st .book) octets) (length (bookImage (st .book))) (st .book)
-    onward {st} {next} e t =
-        let gains = step-gains s o at rows b st next (x .good) e in
-        record { few = step-few s o at rows b st next short e t (x .few); carries = left-carries octets (st .book) (x .carries .room) (gains .good); good = gains .good }
-
-  -- A run of steps to the end, over lent octets.
-  pub reaches : (ps : List Placed) (x y : Spot) {octets : List ℕ} {used : ℕ} → InStep s (x .at) (x .rows) octets used (x .book) → Steps s x ps y → Ends ps
-      → BySteps s (x .at) (x .rows) octets used ps (ended (y .at))
-  reaches [] x y a h ends = absurd ends
-  reaches (p ∷ []) x y a h ends =
-      rw (h .3, ← h .4) (last (over-ok a (h .2)) (subst (λ (z : Placed). isLast (z .element) ≡ true) (h .3) ends))
-  reaches (p ∷ q ∷ ps) x y a h ends =
-      let t : isLast (h .0 .element) ≡ false = subst (λ (z : Placed). isLast (z .element) ≡ false) (h .3) (ends .0) in
-      rw (h .3) (more (over-ok a (h .2)) t (reaches (q ∷ ps) (behind (h .0) (h .1)) y (onward a (h .2) t) (h .4) (ends .1)))
-
-  -- A run of steps to a refusal.
-  pub halts : (ps : List Placed) (x y : Spot) {octets : List ℕ} {used n p : ℕ} → InStep s (x .at) (x .rows) octets used (x .book) → Steps s x ps y → NoEnd ps
-      → elementAt s (y .at) (y .rows) (y .book) ≡ no n p → BySteps s (x .at) (x .rows) octets used ps (refused n p)
-  halts [] x y {n = n} {p} a h ends e = stop (over-no a (subst (λ (z : Spot). elementAt s (z .at) (z .rows) (z .book) ≡ no n p) (sym h) e))
-  halts (q ∷ ps) x y a h ends e =
-      let t : isLast (h .0 .element) ≡ false = subst (λ (z : Placed). isLast (z .element) ≡ false) (h .3) (ends .0) in
-      rw (h .3) (more (over-ok a (h .2)) t (halts ps (behind (h .0) (h .1)) y (onward a (h .2) t) (h .4) (ends .1) e))
-
-  -- The step that is refused there.
-  pub stops : (ps : List Placed) (x y : Spot) {octets : List ℕ} {used n p : ℕ} → InStep s (x .at) (x .rows) octets used (x .book) → Steps s x ps y → NoEnd ps
-      → elementAt s (y .at) (y .rows) (y .book) ≡ no n p → Stops s (x .at) (x .rows) octets used ps (y .at) n p
-  unfolding stepsOver
-  stops [] x y {octets} {used} {n} {p} a h ends e =
-      subst (λ (z : Spot). Stops s (x .at) (x .rows) octets used [] (z .at) n p) h
-      (record {
-        given = record { rows = x .rows; octets = octets; used = used };
-        comes = refl;
-        refuses = over-no a (subst (λ (z : Spot). elementAt s (z .at) (z .rows) (z .book) ≡ no n p) (sym h) e);
-      })
-  stops (q ∷ ps) x y a h ends e =
-      let t : isLast (h .0 .element) ≡ false = subst (λ (z : Placed). isLast (z .element) ≡ false) (h .3) (ends .0) in
-      let m = stops ps (behind (h .0) (h .1)) y (onward a (h .2) t) (h .4) (ends .1) e in
-      record { given = m .given; comes = rw (over-ok a (h .2)) (m .comes); refuses = m .refuses }
-
-  -- The reading over a book in hand, by steps.
-  abbrev Goes : ℕ → ℕ → ℕ → Book → List ℕ → ℕ → Type 0
-  Goes k at rows b octets used = (ps : List Placed) × (e : Ending) × BySteps s at rows octets used ps e × (elementsFrom k s at rows b ≡ answer ps e)
-
-  cut-short : (at rows : ℕ) (b : Book) → length s < at → elementAt s at rows b ≡ no 1 at
-  unfolding elementAt
-  cut-short at rows b h = rw (number-no s at 4 (omega arith))
-
-  added : (p : Placed) (ps : List Placed) (e : Ending) → (answer ps e then λ rest end. ok (p ∷ rest) end) ≡ answer (p ∷ ps) e
-  added p ps (ended end) = refl
-  added p ps (refused n m) = refl
-
-  turn : (k at rows : ℕ) (b : Book) (octets : List ℕ) (used : ℕ) → InStep s at rows octets used b → (r : Read Stepped) → elementAt s at rows b ≡ r
-      → ((st : Stepped) (next : ℕ) → elementAt s at rows b ≡ ok st next → isLast (st .element) ≡ false
-      → Goes k next (st .rows) (st .book) (holding (st .book) octets) (length (bookImage (st .book))))
-      → Goes (suc k) at rows b octets used
-  unfolding elementsFrom
-  turn k at rows b octets used a (no n p) e rest = ([], refused n p, stop (over-no a e), rw e)
-  turn k at rows b octets used a (ok st next) e rest = go (isLast (st .element)) refl
+  read-steps : (x : Lent) (y : Spot) → Holds s o short x y → (ps : List Placed) × (e : Ending) × BySteps s x ps e × (elementsRead (through s y) ≡ answer ps e)
+  unfolding through
+  read-steps x y h =
+      let w : Walk Spot = through s y in
+      let (e, stop) = through-comes s o short y in
+      let ps : List Placed = elementsOf (w .seen) (w .spot .at) (some e) in
+      let d = path-came x y (w .spot) (w .seen) e h (walk-path (turnAt s) (length s + 1) y) (walk-at-stop (turnAt s) (length s + 1) y e stop) in
+      (ps, endingOf e, came-steps d, rw stop (answered ps (w .spot .at) e))
     where
-      go : (t : Bool) → isLast (st .element) ≡ t → Goes (suc k) at rows b octets used
-      go true t = (placed at st ∷ [], ended next, last (over-ok a e) t, rw (e, t))
-      go false t =
-          let (ps, z, d, q) = rest st next e t in
-          (placed at st ∷ ps, z, more (over-ok a e) t d, rw (e, t, q) (added (placed at st) ps z))
+      answered : (ps : List Placed) (at : ℕ) (e : Stop) → answerOf ps at (some e) ≡ answer ps (endingOf e)
+      answered ps at (walk.ended n t next) = refl
+      answered ps at (walk.refused n p) = refl
 
-  goes : (k at rows : ℕ) (b : Book) (octets : List ℕ) (used : ℕ) → length s < at + k → InStep s at rows octets used b → Goes k at rows b octets used
-  unfolding elementsFrom
-  goes zero at rows b octets used h a = ([], refused 1 at, stop (over-no a (cut-short at rows b (omega arith))), refl)
-  goes (suc k) at rows b octets used h a =
-      turn k at rows b octets used a (elementAt s at rows b) refl
-      λ st next e t. goes k next (st .rows) (st .book) (holding (st .book) octets) (length (bookImage (st .book)))
-      (omega (arith, step-moves s o at rows b st next short e t)) (onward a e t)
+-- Steps go one way alone.
+pub once : {s : List ℕ} {x : Lent} {ps : List Placed} {e : Ending} → BySteps s x ps e → (qs : List Placed) (f : Ending) → BySteps s x qs f → (qs ≡ ps) × (f ≡ e)
+once {s} {x} d qs f c =
+    let same : c .stop ≡ d .stop = cc (c .comes, d .comes) in
+    (sym (c .gives) ∙ (ap (λ (z : Stop). elementsOf (throughOver s x .seen) (throughOver s x .spot .at) (some z)) same ∙ d .gives), sym (c .ends) ∙ (ap endingOf same ∙ d .ends))
 
--- Steps go one way alone: the first step settles how they go on.
-abbrev Way : (s : List ℕ) (at : ℕ) (ps : List Placed) (e : Ending) → Left → ℕ → Type 0
-Way s at ps e l next =
-    ((isLast (l .element) ≡ true) × (ps ≡ record { place = at; element = l .element } ∷ []) × (e ≡ ended next))
-    ⊎ ((isLast (l .element) ≡ false) × ((rest : List Placed) × BySteps s next (l .rows) (l .octets) (l .used) rest e × (ps ≡ record { place = at; element = l .element } ∷ rest)))
-
-abbrev First : (s : List ℕ) (at : ℕ) (ps : List Placed) (e : Ending) → Read Left → Type 0
-First s at ps e (ok l next) = Way s at ps e l next
-First s at ps e (no n p) = (ps ≡ []) × (e ≡ refused n p)
-
-first : {s : List ℕ} {at rows used : ℕ} {octets : List ℕ} {ps : List Placed} {e : Ending} → BySteps s at rows octets used ps e
-    → First s at ps e (stepOver s at rows octets used)
-first (stop q) = rw q (refl, refl)
-first (last q t) = rw q (inl (t, refl, refl))
-first (more {rest = rest} q t d) = rw q (inr (t, (rest, d, refl)))
-
-pub once : {s : List ℕ} {at rows used : ℕ} {octets : List ℕ} {ps : List Placed} {e : Ending} → BySteps s at rows octets used ps e
-    → (qs : List Placed) (f : Ending) → BySteps s at rows octets used qs f → (qs ≡ ps) × (f ≡ e)
-once {s} {at} (stop q) qs f d = subst (First s at qs f) q (first d)
-once {s} {at} (last {next = next} {l = l} q t) qs f d = go (subst (First s at qs f) q (first d))
+pub one-reading : (s : List ℕ) (x : Lent) → Each Octet s → Each Octet (x .octets) → Few s (x .at) (x .rows) → OneReading s x
+unfolding readingFrom
+one-reading s x o p few = go (lentBook s (x .rows) (x .octets) (x .used)) refl
   where
-    go : Way s at qs f l next → (qs ≡ record { place = at; element = l .element } ∷ []) × (f ≡ ended next)
-    go (inl w) = (w .1, w .2)
-    go (inr w) = absurd (let z : _≡_ {A = ℕ} 0 1 = cc in omega arith)
-once {s} {at} (more {next = next} {l = l} {rest} {e} q t c) qs f d = go (λ os g z. once c os g z) (subst (First s at qs f) q (first d))
-  where
-    go : ((os : List Placed) (g : Ending) → BySteps s next (l .rows) (l .octets) (l .used) os g → (os ≡ rest) × (g ≡ e)) → Way s at qs f l next
-        → (qs ≡ record { place = at; element = l .element } ∷ rest) × (f ≡ e)
-    go again (inl w) = absurd (let z : _≡_ {A = ℕ} 0 1 = cc in omega arith)
-    go again (inr w) = let (a, b) = again (w .1 .0) f (w .1 .1) in (w .1 .2 ∙ ap (λ (os : List Placed). record { place = at; element = l .element } ∷ os) a, b)
-
--- Steps from a place over lent octets, and the reading from there.
-lent-ok : (s : List ℕ) (rows : ℕ) (octets : List ℕ) (used : ℕ) {b : Book} {end : ℕ} → lentBook s rows octets used ≡ ok b end
-    → (length s ≤ 1048576) × (bookOf octets used ≡ ok b end)
-unfolding lentBook
-lent-ok s rows octets used e =
-    let (t, e₁) = chosen (leb (length s) 1048576) _ 2 0 e in
-    after (bookOf octets used) _ e₁ λ b end e₂ e₃.
-    let (u, e₄) = chosen (leb rows 1048576) (λ _. ok b end) 17 0 e₃ in
-    (leb-true (length s) 1048576 t, e₂ ∙ e₄)
-
-pub one-reading : (s : List ℕ) (at rows : ℕ) (octets : List ℕ) (used : ℕ) → Each Octet s → Each Octet octets → Few s at rows → OneReading s at rows octets used
-unfolding readingFrom stepOver stepAt
-one-reading s at rows octets used o p few = go (lentBook s rows octets used) refl
-  where
-    told : (ps : List Placed) (e : Ending) → BySteps s at rows octets used ps e → readingFrom s at rows octets used ≡ answer ps e → OneReading s at rows octets used
+    told : (ps : List Placed) (e : Ending) → BySteps s x ps e → readingFrom s (x .at) (x .rows) (x .octets) (x .used) ≡ answer ps e → OneReading s x
     told ps e d q = record { elements = ps; ending = e; steps = d; only = λ qs f c. once d qs f c; answers = q }
 
-    go : (r : Read Book) → lentBook s rows octets used ≡ r → OneReading s at rows octets used
-    go (no n m) e = told [] (refused n m) (stop (rw e)) (rw e)
+    go : (r : Read Book) → lentBook s (x .rows) (x .octets) (x .used) ≡ r → OneReading s x
+    go (no n m) e =
+        let stop = over-stops s o x (walk.refused n m) (turn-no (lentOf (x .octets)) (x .at) _ n m (step-refused s (x .rows) (x .octets) (x .used) (x .at) n m e)) in
+        told [] (refused n m) (record { stop = walk.refused n m; comes = rw stop refl; gives = rw stop refl; ends = refl }) (rw e refl)
     go (ok b end) e =
-        let (short, found) = lent-ok s rows octets used e in
-        let (lent, z) = book-forth octets used p found in
-        let a : InStep s at rows octets used b =
-        record { few = few; carries = record { room = lent .room; size = sym (lent .size); held = sym (lent .image) }; good = lent .good } in
-        let (ps, f, d, q) = goes s o short (length s + 1) at rows b octets used (omega arith) a in
-        told ps f d (rw e q)
+        let (short, low, is) = lent-forth s (x .rows) (x .octets) (x .used) p e in
+        let l = book-forth (x .octets) (x .used) p is .0 in
+        let (ps, f, d, q) = read-steps s o short x (spotAt (x .at) (x .rows) (bookIn (x .octets) (x .used)))
+        (record { at = refl; rows = refl; few = few; room = l .room; is = is; book = refl; good = l .good }) in
+        told ps f d (rw (lent-is s (x .rows) (x .octets) (x .used) short is low) q)
 
 -- A first-octet reading.
-abbrev headed : Header → Read (List Placed) → Read Reading
-headed h r = r then λ elements end. ok (record { header = h; elements = elements }) end
-
 pub header-short : (s : List ℕ) {h : Header} {next : ℕ} → headerAt s ≡ ok h next → length s ≤ 1048576
 unfolding headerAt
 header-short s e = let (t, _) = chosen (leb (length s) 1048576) _ 2 0 e in leb-true (length s) 1048576 t
 
--- Nothing in the book, and no row passed.
-empty-in-step : (s : List ℕ) (at : ℕ) (octets : List ℕ) → length s ≤ 1048576 → 32768 ≤ length octets → InStep s at 0 octets 0 []
-empty-in-step s at octets short room =
-    record { few = omega arith; carries = record { room = room; size = rw image-nil refl; held = rw image-nil refl }; good = good-nil }
-
 module _ (s : List ℕ) (o : Each Octet s) (octets : List ℕ) (room : 32768 ≤ length octets) where
   first-goes : (h : Header) (next : ℕ) → headerAt s ≡ ok h next
-      → (ps : List Placed) × (e : Ending) × BySteps s next 0 octets 0 ps e × (reading s ≡ headed h (answer ps e))
+      → (ps : List Placed) × (e : Ending) × BySteps s (lentAt next 0 octets 0) ps e × (reading s ≡ headed h (answer ps e))
   unfolding reading
   first-goes h next e =
       let short = header-short s e in
-      let (ps, f, d, q) = goes s o short (length s + 1) next 0 [] octets 0 (omega arith) (empty-in-step s next octets short room) in
+      let empty : Carries octets 0 [] = record { room = room; size = rw image-nil refl; held = rw image-nil refl } in
+      let (ps, f, d, q) = read-steps s o short (lentAt next 0 octets 0) (spotAt next 0 [])
+      (holds s o short (lentAt next 0 octets 0) (spotAt next 0 []) refl refl (omega arith) empty good-nil) in
       (ps, f, d, rw (e, q))
 
   first-only : (r : Read Reading) → FromFirst s octets r → r ≡ reading s
@@ -234,91 +131,85 @@ module _ (s : List ℕ) (o : Each Octet s) (octets : List ℕ) (room : 32768 ≤
       go (ok h next) e = let (ps, f, d, z) = first-goes h next e in then-steps e d z
 
 -- What an accepted step leaves.
-kept : (octets : List ℕ) (used : ℕ) (b : Book) → Lent octets used b → (holding b octets ≡ octets) × (length (bookImage b) ≡ used)
+kept : (octets : List ℕ) (used : ℕ) (b : Book) → books.Lent octets used b → (holding b octets ≡ octets) × (length (bookImage b) ≡ used)
 kept octets used b l = (holding-lent octets used b l, l .size)
 
-appended : (octets : List ℕ) (used : ℕ) (b : Book) (m : Layout) → Lent octets used b
+appended : (octets : List ℕ) (used : ℕ) (b : Book) (m : Layout) → books.Lent octets used b
     → (holding (b ++ m ∷ []) octets ≡ over octets used (layoutImage m)) × (length (bookImage (b ++ m ∷ [])) ≡ used + length (layoutImage m))
 unfolding over
 appended octets used b m lent =
-    let long : length (bookImage (b ++ m ∷ [])) ≡ used + length (layoutImage m) = ap length (image-snoc b m) ∙ length-append (bookImage b) (layoutImage m) ∙ ap (λ (n : ℕ). n + length (layoutImage m)) (lent .size) in
+    let long : length (bookImage (b ++ m ∷ [])) ≡ used + length (layoutImage m) =
+    ap length (image-snoc b m) ∙ length-append (bookImage b) (layoutImage m) ∙ ap (λ (n : ℕ). n + length (layoutImage m)) (lent .size) in
     (rw (long, image-snoc b m, lent .image) (append-assoc (take used octets) (layoutImage m) (drop (used + length (layoutImage m)) octets)), long)
 
--- An accepted step, as the element over the book that was lent.
-stepped : {C : Type 0} (s : List ℕ) (at rows : ℕ) (octets : List ℕ) (used : ℕ) (l : Left) (next : ℕ) → stepOver s at rows octets used ≡ ok l next
-    → ((b : Book) (x : ℕ) (st : Stepped) → lentBook s rows octets used ≡ ok b x → elementAt s at rows b ≡ ok st next → left octets st ≡ l → C) → C
-unfolding stepOver stepAt
-stepped s at rows octets used l next e k =
-    after (lentBook s rows octets used then λ b _. elementAt s at rows b) _ e λ st end e₁ e₂.
-    after (lentBook s rows octets used) _ e₁ λ b x e₃ e₄.
-    k b x st e₃ (e₄ ∙ ap (ok st) (ok-place refl e₂)) (ok-value refl e₂)
-
-pub appends : (s : List ℕ) (at rows : ℕ) (octets : List ℕ) (used : ℕ) (l : Left) (next : ℕ) → Each Octet octets → stepOver s at rows octets used ≡ ok l next
-    → Appends octets used l
-appends s at rows octets used l next o e =
-    stepped s at rows octets used l next e λ b x st e₁ e₂ is.
-    let lent : Lent octets used b = book-forth octets used o (lent-ok s rows octets used e₁ .1) .0 in
-    subst (Appends octets used) is (go st next b lent (went s at rows b st next e₂))
+pub appends : (s : List ℕ) (at rows : ℕ) (octets : List ℕ) (used : ℕ) (st : Stepped) (next : ℕ) → Each Octet octets → stepAt s at rows octets used ≡ ok st next → Appends octets used st
+unfolding stepAt
+appends s at rows octets used st next o e =
+    after (lentBook s rows octets used) _ e λ b x e₁ e₂.
+    let (short, low, is) = lent-forth s rows octets used o e₁ in
+    let same : bookIn octets used ≡ b = cc (lent-is s rows octets used short is low, e₁) in
+    go b (subst (books.Lent octets used) same (book-forth octets used o is .0)) (went s at rows b st next e₂)
   where
-    learning : (st : Stepped) (b : Book) (m : Layout) → Lent octets used b → st .element ≡ item (layout m) → Learnt b m (st .book) → Appends octets used (left octets st)
-    learning st b m lent el (inl h) = inl (rw (h .3) (kept octets used b lent))
-    learning st b m lent el (inr h) = let (p, q) = appended octets used b m lent in inr (m, el, rw (h .3) p, rw (h .3) q)
+    learning : (b : Book) (m : Layout) → books.Lent octets used b → st .element ≡ item (layout m) → Learnt b m (st .book) → Appends octets used st
+    learning b m lent el (inl h) = inl (rw (h .3) (kept octets used b lent))
+    learning b m lent el (inr h) = let (p, q) = appended octets used b m lent in inr (m, el, rw (h .3) p, rw (h .3) q)
 
-    go : (st : Stepped) (end : ℕ) (b : Book) → Lent octets used b → Went s at rows b st end → Appends octets used (left octets st)
-    go st end b lent (at-layout m x k h g el ro) = learning st b m lent el (learnt b m (at + 4) (st .book) x g)
-    go st end b lent (at-row r k h el ro bo) = inl (rw bo (kept octets used b lent))
-    go st end b lent (at-finish n t k h el ro bo) = inl (rw bo (kept octets used b lent))
+    go : (b : Book) → books.Lent octets used b → Went s at rows b st next → Appends octets used st
+    go b lent (at-layout m x k h g el ro) = learning b m lent el (learnt b m (at + 4) (st .book) x g)
+    go b lent (at-row r k h el ro bo) = inl (rw bo (kept octets used b lent))
+    go b lent (at-finish n t k h el ro bo) = inl (rw bo (kept octets used b lent))
 
 -- The rows at each element.
-step-counts : (s : List ℕ) (at rows : ℕ) (octets : List ℕ) (used : ℕ) (l : Left) (next : ℕ) → stepOver s at rows octets used ≡ ok l next → l .rows ≡ rows + asRow (l .element)
-step-counts s at rows octets used l next e =
-    stepped s at rows octets used l next e λ b x st e₁ e₂ is.
-    subst (λ (y : Left). y .rows ≡ rows + asRow (y .element)) is (step-rows s at rows b st next e₂)
+step-counts : (s : List ℕ) (at rows : ℕ) (octets : List ℕ) (used : ℕ) (st : Stepped) (next : ℕ) → stepAt s at rows octets used ≡ ok st next → st .rows ≡ rows + asRow (st .element)
+unfolding stepAt
+step-counts s at rows octets used st next e = after (lentBook s rows octets used) _ e λ b x e₁ e₂. step-rows s at rows b st next e₂
 
--- An element in a list is not in one that ends before it.
-not-in : {A : Type 0} (a : List A) (q : A) (b : List A) → [] ≡ a ++ q ∷ b → ⊥
-not-in [] q b e = let z : _≡_ {A = ℕ} 0 1 = cc in omega arith
-not-in (x ∷ a) q b e = let z : _≡_ {A = ℕ} 0 1 = cc in omega arith
+module _ (s : List ℕ) where
+  over-rows : (ps : List Seen) (x y : Lent) → Path (turnOver s) x ps y → y .rows ≡ x .rows + rowsOf (placedAll ps)
+  over-rows [] x y h = rw (← h) (sym (add-zero (x .rows)))
+  over-rows (p ∷ ps) x y h =
+      let t = took-over s x p (h .0) (h .1) in
+      let one : h .0 .rows ≡ x .rows + asRow (item (p .which)) =
+      ap (λ (z : Lent). z .rows) (t .spot) ∙ (step-counts s (x .at) (x .rows) (x .octets) (x .used) (t .stepped) (p .next) (t .reads) ∙ ap (λ (d : Element). x .rows + asRow d) (t .is)) in
+      omega (arith, over-rows ps (h .0) y (h .2))
 
-tails : {A : Type 0} {x y : A} {xs ys : List A} → x ∷ xs ≡ y ∷ ys → (x ≡ y) × (xs ≡ ys)
-tails e = (cc, cc)
+  -- Behind a way a reading by steps stands where the way leads.
+  comes : (x : Lent) (ps : List Seen) (z : Lent) → Path (turnOver s) x ps z → Comes s x (placedAll ps) z
+  comes x ps z h =
+      let there : walk (turnOver s) (length (placedAll ps)) x ≡ behind ps (standing z none) =
+      ap (λ (k : ℕ). walk (turnOver s) k x) (placed-length ps ∙ sym (add-zero (length ps))) ∙ (path-walk (turnOver s) ps 0 x z h ∙ ap (behind ps) (walk-none (turnOver s) z)) in
+      record { passes = rw (there, append-nil ps) refl; stands = rw there refl }
 
--- The element that a step reads, which some steps come to.
-meets-here : (s : List ℕ) (at rows : ℕ) (octets : List ℕ) (used : ℕ) (l : Left) (next : ℕ) (q : Placed) → stepOver s at rows octets used ≡ ok l next
-    → record { place = at; element = l .element } ≡ q → Meets s at rows octets used [] q
-unfolding stepsOver
-meets-here s at rows octets used l next q e is =
-    subst (Meets s at rows octets used []) is
-    (record {
-      given = record { rows = rows; octets = octets; used = used };
-      left = l;
-      next = next;
-      comes = refl;
-      steps = e;
-      element = refl;
-      told = sym (add-zero rows);
-      counts = step-counts s at rows octets used l next e;
+-- Each element of a reading by steps.
+pub meets : {s : List ℕ} {x : Lent} {ps : List Placed} {e : Ending} (a : List Placed) (q : Placed) (b : List Placed) → BySteps s x ps e → ps ≡ a ++ q ∷ b → Meets s x a q
+unfolding throughOver
+meets {s} {x} a q b d is =
+    let w : Walk Lent = throughOver s x in
+    let c = cut (w .seen) (w .spot .at) (some (d .stop)) a q b (d .gives ∙ is) in
+    let (z, to, on) = path-split (turnOver s) (c .front) (c .back) x (w .spot) (subst (λ (ps : List Seen). Path (turnOver s) x ps (w .spot)) (c .both) (walk-path (turnOver s) (length s + 1) x)) in
+    let h = first-here (λ (y : Lent). y .at) (λ (y : Lent). lentOf (y .octets)) (λ (y : Lent). stepAt s (y .at) (y .rows) (y .octets) (y .used)) (c .back) z (w .spot) (d .stop) q b on
+    (walk-at-stop (turnOver s) (length s + 1) x (d .stop) (d .comes)) (c .rest-is) in
+    rw (c .before-is) (record {
+      given = z;
+      stepped = h .stepped;
+      next = h .next;
+      comes = comes s x (c .front) z to;
+      there = sym (h .place);
+      steps = h .reads;
+      element = h .is;
+      told = over-rows s (c .front) x z to;
+      counts = step-counts s (z .at) (z .rows) (z .octets) (z .used) (h .stepped) (h .next) (h .reads) ∙ ap (λ (el : Element). z .rows + asRow el) (h .is);
     })
 
-pub meets : {s : List ℕ} {at rows used : ℕ} {octets : List ℕ} {ps : List Placed} {e : Ending} (a : List Placed) (q : Placed) (b : List Placed)
-    → BySteps s at rows octets used ps e → ps ≡ a ++ q ∷ b → Meets s at rows octets used a q
-unfolding stepsOver
-meets a q b (stop e) is = absurd (not-in a q b is)
-meets {s} [] q b (last {at} {rows} {used} {next} {octets} {l} e t) is = meets-here s at rows octets used l next q e (tails is .0)
-meets (x ∷ a) q b (last e t) is = absurd (not-in a q b (tails is .1))
-meets {s} [] q b (more {at} {rows} {used} {next} {octets} {l} e t d) is = meets-here s at rows octets used l next q e (tails is .0)
-meets {s} (x ∷ a) q b (more {at} {rows} {used} {next} {octets} {l} e t d) is =
-    let (i, j) = tails is in
-    let m = meets a q b d j in
-    let same : l .element ≡ x .element = ap (λ (p : Placed). p .element) i in
-    let sum : l .rows + rowsOf a ≡ rows + (asRow (x .element) + rowsOf a) = rw (← same) (omega (arith, step-counts s at rows octets used l next e)) in
-    record {
-      given = m .given;
-      left = m .left;
-      next = m .next;
-      comes = rw e (m .comes);
-      steps = m .steps;
-      element = m .element;
-      told = m .told ∙ sum;
-      counts = m .counts;
-    }
+-- The step at which a reading is refused.
+pub came-stops : {s : List ℕ} {x : Lent} {ps : List Placed} {at n p : ℕ} → Came s x ps at (walk.refused n p) → Stops s x ps at n p
+unfolding throughOver
+came-stops {s} {x} {n = n} {p} c =
+    let w : Walk Lent = throughOver s x in
+    let y : Lent = w .spot in
+    rw (← c .passes) (record {
+      given = y;
+      comes = comes s x (w .seen) y (walk-path (turnOver s) (length s + 1) x);
+      there = c .place;
+      refuses = refuses (lentOf (y .octets)) (y .at) (stepAt s (y .at) (y .rows) (y .octets) (y .used)) n p (walk-at-stop (turnOver s) (length s + 1) x (walk.refused n p) (c .stop));
+    })

@@ -6,7 +6,7 @@ use mathlib.Core.Bool.{true}
 use mathlib.Core.Logic.{_↔_}
 use lib.ListN.{length}
 use Rattle.octets.specs.Reading.{ok, no, isOk}
-use Rattle.elements.specs.Steps.{Reading, reading, whole}
+use Rattle.elements.specs.Reading.{Reading, reading, whole}
 use Rattle.elements.specs.Document.{Document, image, rowCount, Good, readingOf}
 
 -- Octets mean a document where it is inside the limits and they are its one image.

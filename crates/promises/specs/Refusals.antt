@@ -6,7 +6,8 @@ use mathlib.Core.Bool.{true}
 use Rattle.octets.specs.Reading.{Read, ok, no}
 use Rattle.layouts.specs.Answers.{among}
 use Rattle.headers.specs.Header.{headerAt}
-use Rattle.elements.specs.Steps.{stepAt, whole}
+use Rattle.elements.specs.Steps.{stepAt}
+use Rattle.elements.specs.Reading.{whole}
 
 -- A reading that no other number refuses.
 pub record Only {A : Type 0} (ns : List ℕ) (r : Read A) : Type 0 where

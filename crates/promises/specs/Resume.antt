@@ -10,7 +10,8 @@ use Rattle.layouts.specs.Book.{Book, find}
 use Rattle.rows.specs.Row.{Row}
 use Rattle.headers.specs.Header.{Header}
 use Rattle.elements.specs.Element.{layout, row, Element, item, finish}
-use Rattle.elements.specs.Steps.{Placed, reading, rowsOf}
+use Rattle.elements.specs.Walk.{lentAt}
+use Rattle.elements.specs.Reading.{Placed, reading, rowsOf}
 use Rattle.promises.specs.BySteps.{Ending, ended, refused, BySteps, Stops}
 
 -- An accepted document and one of its elements, with those before it and those behind it.
@@ -58,17 +59,17 @@ pub record FirstLacking (book : Book) (elements : List Placed) (met : List Place
 -- What is promised of the steps from an element of an accepted document on, told the rows before it, over lent octets that carry such a book.
 pub record Resumed (s : List ℕ) (before : List Placed) (here : Placed) (behind : List Placed) (end : ℕ) (book : Book) (octets : List ℕ) (used : ℕ) : Type 0 where
   -- With at least every layout met before the element, they give what a first-octet reading gives from there to the end: the same elements at the same places, each row with the same names, types and values.
-  pub same : AllIn (layoutsOf before) book → BySteps s (here .place) (rowsOf before) octets used (here ∷ behind) (ended end)
+  pub same : AllIn (layoutsOf before) book → BySteps s (lentAt (here .place) (rowsOf before) octets used) (here ∷ behind) (ended end)
   -- With some lacking, the elements are the same up to the first row that names one, which is refused by 12 at its layout's number.
   pub lacks : (met : List Placed) (p : Placed) → FirstLacking book (here ∷ behind) met p
-      → BySteps s (here .place) (rowsOf before) octets used met (refused 12 (p .place + 4))
+      → BySteps s (lentAt (here .place) (rowsOf before) octets used) met (refused 12 (p .place + 4))
   -- It is that row's own step that is refused.
   pub there : (met : List Placed) (p : Placed) → FirstLacking book (here ∷ behind) met p
-      → Stops s (here .place) (rowsOf before) octets used met (p .place) 12 (p .place + 4)
+      → Stops s (lentAt (here .place) (rowsOf before) octets used) met (p .place) 12 (p .place + 4)
   -- With some lacking that no row names so, all are the same.
   pub unneeded : ((met : List Placed) (p : Placed) → FirstLacking book (here ∷ behind) met p → ⊥)
-      → BySteps s (here .place) (rowsOf before) octets used (here ∷ behind) (ended end)
+      → BySteps s (lentAt (here .place) (rowsOf before) octets used) (here ∷ behind) (ended end)
   -- There is such a row or there is none, and no other outcome is possible than the one said.
   pub either : ((met : List Placed) × (p : Placed) × FirstLacking book (here ∷ behind) met p) ⊎ ((met : List Placed) (p : Placed) → FirstLacking book (here ∷ behind) met p → ⊥)
-  pub only : (ps qs : List Placed) (e f : Ending) → BySteps s (here .place) (rowsOf before) octets used ps e → BySteps s (here .place) (rowsOf before) octets used qs f
+  pub only : (ps qs : List Placed) (e f : Ending) → BySteps s (lentAt (here .place) (rowsOf before) octets used) ps e → BySteps s (lentAt (here .place) (rowsOf before) octets used) qs f
       → (qs ≡ ps) × (f ≡ e)

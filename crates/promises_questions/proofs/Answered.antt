@@ -10,23 +10,24 @@ use Rattle.octets.specs.Reading.{Read, ok, no, number}
 use Rattle.octets.specs.Writing.{word, textImage, images, Each, Octet}
 use Rattle.octets.proofs.Spans.{Spans, middle, length-word}
 use Rattle.octets.proofs.Fields.{number-whole}
-use Rattle.octets.proofs.Inverse.{after, chosen, ok-value, ok-place}
+use Rattle.octets.proofs.Inverse.{chosen}
 use Rattle.layouts.specs.Layout.{Attribute, Layout}
 use Rattle.headers.specs.Header.{Namespace, Header, headerFrom, headerAt, namespaceImage, headerImage, GoodHeader}
 use Rattle.headers.proofs.Headers.{header-inverse}
 use Rattle.rows.specs.Row.{Field, Row}
-use Rattle.elements.specs.Element.{Element, item, layout, row, finish, Stepped}
-use Rattle.elements.specs.Steps.{Placed, stepAt}
+use Rattle.elements.specs.Element.{Element, item, layout, row, finish}
+use Rattle.elements.specs.Walk.{Lent}
+use Rattle.elements.specs.Reading.{Placed}
 use Rattle.reading.specs.Answers.{headTells}
-use Rattle.questions.specs.Questions.{rowOf, layoutOf, rowAsked, layoutAsked, fieldAsked, attributeAsked, partOf}
+use Rattle.questions.specs.Questions.{rowOf, layoutOf, rowAsked, partOf}
 use Rattle.questions.specs.Answers.{octetsOf, fieldTells, kindTells}
 use Rattle.questions.proofs.Asked.{nth-none, nth-some, attribute-asked}
 use Rattle.questions.proofs.Line.{field-asked, field-unasked}
 use Rattle.questions.proofs.After.{row-after, layout-after}
 use Rattle.strings.specs.Strings.{namespacesPlace, servicesPlace, namespaceAsked, serviceAsked}
-use Rattle.promises.specs.BySteps.{Left, stepOver, Ending, BySteps, Given, Meets}
+use Rattle.promises.specs.BySteps.{Ending, BySteps, Meets}
 use Rattle.promises.proofs.Over.{meets}
-use Rattle.promises_questions.specs.Answered.{Items, RowAnswered, LayoutAnswered, Answered, HeaderAnswered, AllAsked}
+use Rattle.promises_questions.specs.Answered.{fieldOver, layoutOver, attributeOver, Items, RowAnswered, LayoutAnswered, Answered, HeaderAnswered, AllAsked}
 
 -- A list that answers a question, item by item and behind its last.
 module _ {A : Type 0} {question : ℕ → Read A} (place : ℕ) (xs : List A) (next : ℕ) (items : Items question place xs next) where
@@ -37,70 +38,59 @@ module _ {A : Type 0} {question : ℕ → Read A} (place : ℕ) (xs : List A) (n
   item-none n h = items n ∙ nth-none n place xs next h
 
 -- An element, from what its row and its layout are when asked.
-module _ (s : List ℕ) (at : ℕ) (g : Given) (next : ℕ) where
-  row-answered : (r : Row) → rowAsked s at (g .rows) (g .octets) (g .used) ≡ ok r next → layoutAsked s at (g .rows) (g .octets) (g .used) ≡ no 19 at
-      → RowAnswered s at g r next
+abbrev rowOver : List ℕ → Lent → Read Row
+rowOver s x = rowAsked s (x .at) (x .rows) (x .octets) (x .used)
+
+module _ (s : List ℕ) (x : Lent) (next : ℕ) where
+  row-answered : (r : Row) → rowOver s x ≡ ok r next → layoutOver s x ≡ no 19 (x .at) → RowAnswered s x r next
   row-answered r a b =
-      let items : Items (fieldAsked s at (g .rows) (g .octets) (g .used)) at (r .fields) next = λ n. field-asked s at (g .rows) (g .octets) (g .used) n r next a in
+      let items : Items (fieldOver s x) (x .at) (r .fields) next = λ n. field-asked s (x .at) (x .rows) (x .octets) (x .used) n r next a in
       record {
         field = items;
-        told = λ n f rest d. ap fieldTells (item-there at (r .fields) next items n f rest d);
-        name = λ n f rest d. ap (partOf (λ (x : Field). x .attribute .name)) (item-there at (r .fields) next items n f rest d);
-        held = λ n f rest d. ap (partOf (λ (x : Field). octetsOf (x .value))) (item-there at (r .fields) next items n f rest d);
-        behind = λ n h. ap fieldTells (item-none at (r .fields) next items n h);
+        told = λ n f rest d. ap fieldTells (item-there (x .at) (r .fields) next items n f rest d);
+        name = λ n f rest d. ap (partOf (λ (y : Field). y .attribute .name)) (item-there (x .at) (r .fields) next items n f rest d);
+        held = λ n f rest d. ap (partOf (λ (y : Field). octetsOf (y .value))) (item-there (x .at) (r .fields) next items n f rest d);
+        behind = λ n h. ap fieldTells (item-none (x .at) (r .fields) next items n h);
         other = b;
       }
 
-  no-field : rowAsked s at (g .rows) (g .octets) (g .used) ≡ no 19 at → (n : ℕ) → fieldAsked s at (g .rows) (g .octets) (g .used) n ≡ no 19 at
-  no-field a n = field-unasked s at (g .rows) (g .octets) (g .used) n 19 at a
+  no-field : rowOver s x ≡ no 19 (x .at) → (n : ℕ) → fieldOver s x n ≡ no 19 (x .at)
+  no-field a n = field-unasked s (x .at) (x .rows) (x .octets) (x .used) n 19 (x .at) a
 
-  layout-answered : (l : Layout) → rowAsked s at (g .rows) (g .octets) (g .used) ≡ no 19 at → layoutAsked s at (g .rows) (g .octets) (g .used) ≡ ok l next
-      → LayoutAnswered s at g l next
+  layout-answered : (l : Layout) → rowOver s x ≡ no 19 (x .at) → layoutOver s x ≡ ok l next → LayoutAnswered s x l next
   layout-answered l a b =
-      let items : Items (attributeAsked s at (g .rows) (g .octets) (g .used)) at (l .attributes) next = λ n. attribute-asked s at (g .rows) (g .octets) (g .used) n l next b in
+      let items : Items (attributeOver s x) (x .at) (l .attributes) next = λ n. attribute-asked s (x .at) (x .rows) (x .octets) (x .used) n l next b in
       record {
-        type-name = ap (partOf (λ (x : Layout). x .type-name)) b;
+        type-name = ap (partOf (λ (y : Layout). y .type-name)) b;
         attribute = items;
-        name = λ n x rest d. ap (partOf (λ (y : Attribute). y .name)) (item-there at (l .attributes) next items n x rest d);
-        kind = λ n x rest d. ap kindTells (item-there at (l .attributes) next items n x rest d);
-        behind = λ n h. ap kindTells (item-none at (l .attributes) next items n h);
+        name = λ n y rest d. ap (partOf (λ (z : Attribute). z .name)) (item-there (x .at) (l .attributes) next items n y rest d);
+        kind = λ n y rest d. ap kindTells (item-there (x .at) (l .attributes) next items n y rest d);
+        behind = λ n h. ap kindTells (item-none (x .at) (l .attributes) next items n h);
         other = no-field a;
       }
 
-  answered : (e : Element) → rowAsked s at (g .rows) (g .octets) (g .used) ≡ rowOf at e next → layoutAsked s at (g .rows) (g .octets) (g .used) ≡ layoutOf at e next
-      → Answered s at g e next
+  answered : (e : Element) → rowOver s x ≡ rowOf (x .at) e next → layoutOver s x ≡ layoutOf (x .at) e next → Answered s x e next
   answered (item (row r)) a b = row-answered r a b
   answered (item (layout l)) a b = layout-answered l a b
   answered (finish n t) a b = record { no-row = no-field a; no-layout = b }
 
--- An accepted step, by the element that it reads.
-pub stepped : {C : Type 0} (s : List ℕ) (at : ℕ) (g : Given) (l : Left) (next : ℕ) → stepOver s at (g .rows) (g .octets) (g .used) ≡ ok l next
-    → ((st : Stepped) → stepAt s at (g .rows) (g .octets) (g .used) ≡ ok st next → st .element ≡ l .element → C) → C
-unfolding stepOver
-stepped s at g l next e k =
-    after (stepAt s at (g .rows) (g .octets) (g .used)) _ e λ st end e₁ e₂.
-    k st (e₁ ∙ ap (ok st) (ok-place refl e₂)) (ap (λ (x : Left). x .element) (ok-value refl e₂))
-
 -- What its row and its layout are when asked with what an element's own step is given.
-module _ {s : List ℕ} {at rows used : ℕ} {octets : List ℕ} {before : List Placed} {p : Placed} (m : Meets s at rows octets used before p) where
-  pub row-is : rowAsked s (p .place) (m .given .rows) (m .given .octets) (m .given .used) ≡ rowOf (p .place) (p .element) (m .next)
+module _ {s : List ℕ} {x : Lent} {before : List Placed} {p : Placed} (m : Meets s x before p) where
+  pub row-is : rowOver s (m .given) ≡ rowOf (m .given .at) (p .element) (m .next)
   row-is =
       let g = m .given in
-      stepped s (p .place) g (m .left) (m .next) (m .steps) λ st e same.
-      row-after s (p .place) (g .rows) (g .octets) (g .used) st (m .next) e ∙ ap (λ (x : Element). rowOf (p .place) x (m .next)) (same ∙ m .element)
+      row-after s (g .at) (g .rows) (g .octets) (g .used) (m .stepped) (m .next) (m .steps) ∙ ap (λ (e : Element). rowOf (g .at) e (m .next)) (m .element)
 
-  pub layout-is : layoutAsked s (p .place) (m .given .rows) (m .given .octets) (m .given .used) ≡ layoutOf (p .place) (p .element) (m .next)
+  pub layout-is : layoutOver s (m .given) ≡ layoutOf (m .given .at) (p .element) (m .next)
   layout-is =
       let g = m .given in
-      stepped s (p .place) g (m .left) (m .next) (m .steps) λ st e same.
-      layout-after s (p .place) (g .rows) (g .octets) (g .used) st (m .next) e ∙ ap (λ (x : Element). layoutOf (p .place) x (m .next)) (same ∙ m .element)
+      layout-after s (g .at) (g .rows) (g .octets) (g .used) (m .stepped) (m .next) (m .steps) ∙ ap (λ (e : Element). layoutOf (g .at) e (m .next)) (m .element)
 
 -- Each element of a reading by steps.
-pub asked : {s : List ℕ} {at rows used : ℕ} {octets : List ℕ} {elements : List Placed} {e : Ending} → BySteps s at rows octets used elements e
-    → AllAsked s at rows octets used elements
+pub asked : {s : List ℕ} {x : Lent} {elements : List Placed} {e : Ending} → BySteps s x elements e → AllAsked s x elements
 asked {s} d before p behind is =
     let m = meets before p behind d is in
-    record { meets = m; answers = answered s (p .place) (m .given) (m .next) (p .element) (row-is m) (layout-is m) }
+    record { meets = m; answers = answered s (m .given) (m .next) (p .element) (row-is m) (layout-is m) }
 
 -- An accepted header. Its octets are its image, in which each list's count stands behind what is before it.
 module _ (s : List ℕ) (o : Each Octet s) (h : Header) (next : ℕ) (e : headerAt s ≡ ok h next) where

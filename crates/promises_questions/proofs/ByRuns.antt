@@ -1,182 +1,137 @@
--- The reading by runs is the reading by steps: a run passes what the steps from its place read, as far as they read items. Assumes nothing.
-use Prim.Native.Nat.{ℕ, zero, suc, _<_}
-use mathlib.Core.Path.{_≡_, refl, sym, ap, _∙_, subst}
+-- Reading by runs is reading by steps: what a run passes is the beginning of the walk by steps, and both go on from where it stands. Assumes nothing.
+use Prim.Native.Nat.{ℕ, zero, suc, _+_, _-_, _≤_, _<_}
+use mathlib.Core.Path.{_≡_, refl, ap, _∙_}
 use mathlib.Core.List.{List, [], _∷_, _++_}
-use mathlib.Core.Bool.{true, false}
+use mathlib.Core.Option.{Option, some, none}
 use native.Mathlib.Omega.{arith}
-use lib.ListN.{length, length-append}
+use lib.ListN.{length}
 use Rattle.octets.specs.Reading.{Read, ok, no, _then_}
-use Rattle.octets.proofs.Inverse.{no-ok, ok-value, ok-place, after}
-use Rattle.layouts.specs.Book.{bookImage}
-use Rattle.elements.specs.Element.{Item, Element, item, finish, Stepped}
-use Rattle.elements.specs.Steps.{holding, Placed, isLast, stepAt}
-use Rattle.runs.specs.Runs.{itemWord, Passed, stopped, behind, ofItem, runFrom, runAsked}
-use Rattle.runs.specs.Answers.{isItem}
-use Rattle.runs.proofs.Runs.{run-none, run-stops, run-goes}
-use Rattle.runs.proofs.Entry.{asked-no, asked-ok, none-item}
-use Rattle.promises.specs.BySteps.{Left, left, stepOver, Ending, BySteps, stop, last, more}
-use Rattle.promises_questions.specs.ByRuns as by
-use Rattle.promises_questions.specs.ByRuns.{Passes, ByRuns, ReadByRuns}
+use Rattle.octets.specs.Writing.{Each, Octet}
+use Rattle.octets.proofs.Inverse.{no-ok, ok-value}
+use Rattle.elements.specs.Element.{Element, item, finish, Stepped}
+use Rattle.elements.specs.Steps.{stepAt}
+use Rattle.elements.specs.Walk.{Stop, Seen, Turn, goes, stops, Walk, onward, walk, Path, Lent, lentOf, turnOver, throughOver}
+use Rattle.elements.specs.Walk as walk
+use Rattle.elements.specs.Reading.{Placed, placedAll, elementsOf}
+use Rattle.elements.proofs.Walks.{walk-goes, walk-path, walk-at-stop}
+use Rattle.elements.proofs.Turns.{turn-item, turn-end, turn-no, over-moves}
+use Rattle.elements.proofs.Through.{over-stops, over-path}
+use Rattle.elements.proofs.Readings.{elements-behind}
+use Rattle.runs.specs.Runs.{runAsked}
+use Rattle.promises.specs.BySteps.{Ending, refused, endingOf, BySteps}
+use Rattle.promises.proofs.Over.{once}
+use Rattle.promises_questions.specs.ByRuns.{ByRuns, refuse, end, go, ReadByRuns}
 
--- What goes on without a refusal of its own is refused by what stands before it.
-before : {A B : Type 0} (r : Read A) (f : A → ℕ → B) (place : A → ℕ → ℕ) {n p : ℕ} → (r then λ a next. ok (f a next) (place a next)) ≡ no n p → r ≡ no n p
-before (ok a next) f place e = absurd (no-ok e refl)
-before (no m q) f place {n} {p} e = let a : m ≡ n = cc in let b : q ≡ p = cc in cc
-
--- An element that is not the last is an item, and the last is none.
-an-item : (x : Element) → isLast x ≡ false → (i : Item) × (x ≡ item i)
-an-item (item i) t = (i, refl)
-an-item (finish n u) t = absurd (let z : _≡_ {A = ℕ} 0 1 = cc in omega arith)
-
-no-item : (x : Element) → isLast x ≡ true → ofItem x (λ _. true) false ≡ false
-no-item (item i) t = absurd (let z : _≡_ {A = ℕ} 0 1 = cc in omega arith)
-no-item (finish n u) t = refl
-
-the-last : (x : Element) → ofItem x (λ _. true) false ≡ false → isLast x ≡ true
-the-last (item i) t = absurd (let z : _≡_ {A = ℕ} 0 1 = cc in omega arith)
-the-last (finish n u) t = refl
-
-module _ (s : List ℕ) (at rows : ℕ) (octets : List ℕ) (used : ℕ) where
-  abbrev step : Read Stepped
-  step = stepAt s at rows octets used
-
-  -- A step over lent octets, as the step that it is.
-  over-ok : {l : Left} {next : ℕ} → stepOver s at rows octets used ≡ ok l next → (st : Stepped) × (step ≡ ok st next) × (left octets st ≡ l)
-  unfolding stepOver
-  over-ok e = after step _ e λ st end e₁ e₂. (st, e₁ ∙ ap (ok st) (ok-place refl e₂), ok-value refl e₂)
-
-  over-no : {n p : ℕ} → stepOver s at rows octets used ≡ no n p → step ≡ no n p
-  unfolding stepOver
-  over-no e = before step _ _ e
-
-  is-over : (n p : ℕ) → step ≡ no n p → stepOver s at rows octets used ≡ no n p
-  unfolding stepOver
-  is-over n p e = rw e refl
-
-  -- What a run answers rests on its first step.
-  asked-first : {n p : ℕ} → runAsked s at rows octets used ≡ no n p → step ≡ no n p
-  unfolding runAsked
-  asked-first e = before step _ _ e
-
-  asked-is : {q : Passed} {k : ℕ} → runAsked s at rows octets used ≡ ok q k → q ≡ runFrom 4096 s at rows octets used
-  unfolding runAsked
-  asked-is e = after step _ e λ st end e₁ e₂. sym (ok-value refl e₂)
-
-  -- How a run goes by what the step over lent octets gives.
-  goes-over : (k : ℕ) {l : Left} {next : ℕ} (i : Item) → stepOver s at rows octets used ≡ ok l next → l .element ≡ item i
-      → runFrom (suc k) s at rows octets used ≡ behind (itemWord i next ∷ []) (runFrom k s next (l .rows) (l .octets) (l .used))
-  goes-over k {l} {next} i e t =
-      let (st, e₁, is) = over-ok e in
-      subst (λ (x : Left). runFrom (suc k) s at rows octets used ≡ behind (itemWord i next ∷ []) (runFrom k s next (x .rows) (x .octets) (x .used))) is
-      (run-goes k s at rows octets used st i next e₁ (ap (λ (x : Left). x .element) is ∙ t))
-
-  last-over : (k : ℕ) {l : Left} {next : ℕ} → stepOver s at rows octets used ≡ ok l next → isLast (l .element) ≡ true → runFrom k s at rows octets used ≡ stopped at rows octets used
-  last-over k e t =
-      let (st, e₁, is) = over-ok e in
-      run-stops k s at rows octets used (ap isItem e₁ ∙ no-item (st .element) (ap (λ (x : Left). isLast (x .element)) is ∙ t))
-
--- Items and then the steps behind them are steps.
-onto : {s : List ℕ} {at rows used : ℕ} {octets : List ℕ} {ps rest : List Placed} {q : Passed} {e : Ending} → Passes s at rows octets used ps q
-    → BySteps s (q .next) (q .rows) (q .octets) (q .used) rest e → BySteps s at rows octets used (ps ++ rest) e
-onto by.none d = d
-onto (by.one e t h) d = more e (ap isLast t) (onto h d)
-
-steps : {s : List ℕ} {at rows used : ℕ} {octets : List ℕ} {ps : List Placed} {e : Ending} → ByRuns s at rows octets used ps e → BySteps s at rows octets used ps e
-steps {s} {at} {rows} {used} {octets} (by.refuse {n = n} {p} e) = stop (is-over s at rows octets used n p (asked-first s at rows octets used e))
-steps {s} {at} {rows} {used} {octets} (by.end e none over) =
-    let (st, e₁, is) = over-ok s at rows octets used over in
-    let stops = none-item s at rows octets used (ap (λ (q : Passed). length (q .words)) (sym (asked-is s at rows octets used e)) ∙ none) in
-    last over (ap (λ (x : Left). isLast (x .element)) (sym is) ∙ the-last (st .element) (sym (ap isItem e₁) ∙ stops))
-steps (by.go e h d) = onto h (steps d)
-
--- How far so many steps of a reading are a run, and the reading behind it.
-record Split (k : ℕ) (s : List ℕ) (at rows : ℕ) (octets : List ℕ) (used : ℕ) (ps : List Placed) (e : Ending) : Type 0 where
-  pub front : List Placed
-  pub rest : List Placed
-  pub joined : ps ≡ front ++ rest
-  pub passes : Passes s at rows octets used front (runFrom k s at rows octets used)
-  pub onward : let q = runFrom k s at rows octets used in BySteps s (q .next) (q .rows) (q .octets) (q .used) rest e
-
--- It stops here.
-here : (k : ℕ) (s : List ℕ) (at rows : ℕ) (octets : List ℕ) (used : ℕ) (ps : List Placed) (e : Ending) → BySteps s at rows octets used ps e
-    → runFrom k s at rows octets used ≡ stopped at rows octets used → Split k s at rows octets used ps e
-here k s at rows octets used ps e d stops =
-    record {
-      front = [];
-      rest = ps;
-      joined = refl;
-      passes = subst (Passes s at rows octets used []) (sym stops) by.none;
-      onward = subst (λ (q : Passed). BySteps s (q .next) (q .rows) (q .octets) (q .used) ps e) (sym stops) d;
-    }
-
-split : (k : ℕ) {s : List ℕ} {at rows used : ℕ} {octets : List ℕ} {ps : List Placed} {e : Ending} → BySteps s at rows octets used ps e → Split k s at rows octets used ps e
-split zero {s} {at} {rows} {used} {octets} {ps} {e} d = here zero s at rows octets used ps e d (run-none s at rows octets used)
-split (suc k) {s} {at} {rows} {used} {octets} {ps} {e} (stop q) =
-    here (suc k) s at rows octets used ps e (stop q) (run-stops (suc k) s at rows octets used (ap isItem (over-no s at rows octets used q)))
-split (suc k) {s} {at} {rows} {used} {octets} {ps} {e} (last q t) = here (suc k) s at rows octets used ps e (last q t) (last-over s at rows octets used (suc k) q t)
-split (suc k) {s} {at} {rows} {used} {octets} {e = e} (more {l = l} q t d) =
-    let (i, is) = an-item (l .element) t in
-    let far = split k d in
-    let goes = goes-over s at rows octets used k i q is in
-    record {
-      front = record { place = at; element = l .element } ∷ far .front;
-      rest = far .rest;
-      joined = ap (λ (ps : List Placed). record { place = at; element = l .element } ∷ ps) (far .joined);
-      passes = subst (Passes s at rows octets used (record { place = at; element = l .element } ∷ far .front)) (sym goes) (by.one q is (far .passes));
-      onward = subst (λ (p : Passed). BySteps s (p .next) (p .rows) (p .octets) (p .used) (far .rest) e) (sym goes) (far .onward);
-    }
-
--- One run of a reading, where all that is shorter is read by runs.
-abbrev Again : List ℕ → ℕ → Ending → Type 0
-Again s n e = (at rows : ℕ) (octets : List ℕ) (used : ℕ) (ps : List Placed) → length ps < n → BySteps s at rows octets used ps e → ByRuns s at rows octets used ps e
-
-turn : {s : List ℕ} {at rows used : ℕ} {octets : List ℕ} {ps : List Placed} {e : Ending} → BySteps s at rows octets used ps e → Again s (length ps) e → ByRuns s at rows octets used ps e
-turn {s} {at} {rows} {used} {octets} (stop {n = n} {p} q) again = by.refuse (asked-no s at rows octets used n p (over-no s at rows octets used q))
-turn {s} {at} {rows} {used} {octets} (last {next = next} q t) again =
-    let (st, e₁, is) = over-ok s at rows octets used q in
-    by.end (asked-ok s at rows octets used st next e₁) (ap (λ (p : Passed). length (p .words)) (last-over s at rows octets used 4096 q t)) q
-turn {s} {at} {rows} {used} {octets} {e = e} (more {next = next} {l = l} q t d) again =
-    let (i, is) = an-item (l .element) t in
-    let (st, e₁, _) = over-ok s at rows octets used q in
-    let far = split 4095 d in
-    let goes = goes-over s at rows octets used 4095 i q is in
-    let onward = again _ _ _ _ (far .rest) (omega (arith, ap length (far .joined), length-append (far .front) (far .rest))) (far .onward) in
-    subst (λ (ps : List Placed). ByRuns s at rows octets used (record { place = at; element = l .element } ∷ ps) e) (sym (far .joined))
-    (by.go (asked-ok s at rows octets used st next e₁ ∙ ap (λ (p : Passed). ok p (p .next)) goes) (by.one q is (far .passes)) onward)
-
-bounded : (n : ℕ) (s : List ℕ) (e : Ending) → Again s n e
-bounded zero s e at rows octets used ps h d = absurd (omega arith)
-bounded (suc n) s e at rows octets used ps h d = turn d λ at₁ rows₁ octets₁ used₁ rest h₁. bounded n s e at₁ rows₁ octets₁ used₁ rest (omega arith)
-
--- A run that passed fewer items than it may has stopped.
-abbrev Stopped : List ℕ → Passed → Type 0
-Stopped s q = isItem (stepAt s (q .next) (q .rows) (q .octets) (q .used)) ≡ false
-
-abbrev Fewer : ℕ → List ℕ → Type 0
-Fewer k s = (at rows : ℕ) (octets : List ℕ) (used : ℕ) → length (runFrom k s at rows octets used .words) < k → Stopped s (runFrom k s at rows octets used)
-
-fewer : (k : ℕ) (s : List ℕ) → Fewer k s
-fewer zero s at rows octets used h = absurd (omega arith)
-fewer (suc k) s at rows octets used h = go (fewer k s) (stepAt s at rows octets used) refl
+-- A walk that paused met as many items as it had turns.
+paused : {X : Type 0} (turn : X → Turn X) (k : ℕ) (x : X) → walk turn k x .stop ≡ none → length (walk turn k x .seen) ≡ k
+unfolding walk
+paused turn zero x h = refl
+paused turn (suc k) x h = by (turn x) h (λ y. paused turn k y)
   where
-    stops : isItem (stepAt s at rows octets used) ≡ false → Stopped s (runFrom (suc k) s at rows octets used)
-    stops no-more = subst (Stopped s) (sym (run-stops (suc k) s at rows octets used no-more)) no-more
+    by : (t : Turn _) → onward x t (walk turn k) .stop ≡ none → ((y : _) → walk turn k y .stop ≡ none → length (walk turn k y .seen) ≡ k) → length (onward x t (walk turn k) .seen) ≡ suc k
+    by (goes p y) h again = ap (λ (n : ℕ). suc n) (again y h)
+    by (stops e) h again = absurd (let z : _≡_ {A = ℕ} 0 1 = cc in omega arith)
 
-    of : Fewer k s → (st : Stepped) (next : ℕ) → stepAt s at rows octets used ≡ ok st next → (x : Element) → st .element ≡ x → Stopped s (runFrom (suc k) s at rows octets used)
-    of behind-it st next e (item i) t =
-        let goes = run-goes k s at rows octets used st i next e t in
-        subst (Stopped s) (sym goes) (behind-it next (st .rows) (holding (st .book) octets) (length (bookImage (st .book))) (omega (arith, h, ap (λ (q : Passed). length (q .words)) goes)))
-    of behind-it st next e (finish n u) t = stops (ap isItem e ∙ ap (λ (x : Element). ofItem x (λ _. true) false) t)
+-- What a run is asked.
+module _ (s : List ℕ) (x : Lent) where
+  abbrev step : Read Stepped
+  step = stepAt s (x .at) (x .rows) (x .octets) (x .used)
 
-    go : Fewer k s → (r : Read Stepped) → stepAt s at rows octets used ≡ r → Stopped s (runFrom (suc k) s at rows octets used)
-    go behind-it (no n p) e = stops (ap isItem e)
-    go behind-it (ok st next) e = of behind-it st next e (st .element) refl
+  asked-first : {n p : ℕ} → runAsked s x ≡ no n p → step ≡ no n p
+  unfolding runAsked
+  asked-first {n} {p} e = by step e
+    where
+      by : (r : Read Stepped) → (r then λ _ _. ok (walk (turnOver s) 4096 x) (walk (turnOver s) 4096 x .spot .at)) ≡ no n p → r ≡ no n p
+      by (no m q) e = let a : m ≡ n = cc in let b : q ≡ p = cc in cc
+      by (ok st next) e = absurd (no-ok e refl)
 
-pub read-by-runs : ReadByRuns
-read-by-runs =
-    record {
-      steps = steps;
-      runs = λ {s} {at} {rows} {used} {octets} {ps} {e} d. turn d (bounded (length ps) s e);
-      stands = λ s at rows octets used q k e h.
-          subst (λ (p : Passed). length (p .words) < 4096 → Stopped s p) (sym (asked-is s at rows octets used e)) (fewer 4096 s at rows octets used) h;
-    }
+  asked-is : {w : Walk Lent} {k : ℕ} → runAsked s x ≡ ok w k → (w ≡ walk (turnOver s) 4096 x) × ((st : Stepped) × (next : ℕ) × (step ≡ ok st next))
+  unfolding runAsked
+  asked-is {w} {k} e = by step refl e
+    where
+      by : (r : Read Stepped) → step ≡ r → (r then λ _ _. ok (walk (turnOver s) 4096 x) (walk (turnOver s) 4096 x .spot .at)) ≡ ok w k
+          → (w ≡ walk (turnOver s) 4096 x) × ((st : Stepped) × (next : ℕ) × (step ≡ ok st next))
+      by (no m q) f e = absurd (no-ok refl e)
+      by (ok st next) f e = (ok-value e refl, (st, next, f))
+
+  asked-way : {w : Walk Lent} {k : ℕ} → runAsked s x ≡ ok w k → Path (turnOver s) x (w .seen) (w .spot)
+  asked-way e = rw (asked-is e .0) (walk-path (turnOver s) 4096 x)
+
+module _ (s : List ℕ) (o : Each Octet s) where
+  -- Steps behind a way.
+  onto : (seen : List Seen) (x y : Lent) {rest : List Placed} {e : Ending} → Path (turnOver s) x seen y → BySteps s y rest e → BySteps s x (placedAll seen ++ rest) e
+  onto seen x y h d =
+      let all = over-path s o seen x y h in
+      record {
+        stop = d .stop;
+        comes = ap (λ (w : Walk Lent). w .stop) all ∙ d .comes;
+        gives =
+            ap (λ (w : Walk Lent). elementsOf (w .seen) (w .spot .at) (some (d .stop))) all
+            ∙ (elements-behind seen (throughOver s y .seen) (throughOver s y .spot .at) (some (d .stop)) ∙ ap (λ (ps : List Placed). placedAll seen ++ ps) (d .gives));
+        ends = d .ends;
+      }
+
+  -- Steps that stop at once.
+  at-once : (x : Lent) (e : Stop) → turnOver s x ≡ stops e → BySteps s x (elementsOf [] (x .at) (some e)) (endingOf e)
+  at-once x e h =
+      let all = over-stops s o x e h in
+      record { stop = e; comes = ap (λ (w : Walk Lent). w .stop) all; gives = ap (λ (w : Walk Lent). elementsOf (w .seen) (w .spot .at) (some e)) all; ends = refl }
+
+  -- A run that passed none stands at the end.
+  at-end : (x : Lent) {w : Walk Lent} {k next : ℕ} {st : Stepped} → runAsked s x ≡ ok w k → length (w .seen) ≡ 0 → step s x ≡ ok st next
+      → BySteps s x (record { place = x .at; element = st .element } ∷ []) (endingOf (walk.ended 0 0 next))
+  at-end x {w} {k} {next} {st} e empty f = by (st .element) refl
+    where
+      by : (d : Element) → st .element ≡ d → BySteps s x (record { place = x .at; element = st .element } ∷ []) (endingOf (walk.ended 0 0 next))
+      by (item i) q =
+          let more = walk-goes (turnOver s) 4095 x _ _ (turn-item (lentOf (x .octets)) (x .at) (step s x) st next i f q) in
+          absurd (omega (arith, empty, ap (λ (v : Walk Lent). length (v .seen)) (asked-is s x e .0 ∙ more)))
+      by (finish n t) q = rw q (at-once x (walk.ended n t next) (turn-end (lentOf (x .octets)) (x .at) (step s x) st next n t f q))
+
+  steps-of : {x : Lent} {ps : List Placed} {e : Ending} → ByRuns s x ps e → BySteps s x ps e
+  steps-of {x} (refuse {n = n} {p} e) = at-once x (walk.refused n p) (turn-no (lentOf (x .octets)) (x .at) (step s x) n p (asked-first s x e))
+  steps-of {x} (end e empty f) = at-end x e empty f
+  steps-of {x} (go {w = w} e some-passed d) = onto (w .seen) x (w .spot) (asked-way s x e) (steps-of d)
+
+  -- There is a reading by runs from every spot: each run that goes on comes further.
+  further : (seen : List Seen) (x y : Lent) → Path (turnOver s) x seen y → 0 < length seen → (x .at < y .at) × (y .at ≤ length s)
+  further [] x y h some-passed = absurd (omega arith)
+  further (p ∷ []) x y h some-passed = let m = over-moves s x o p (h .0) (h .1) in rw (← h .2) (omega arith, m .1)
+  further (p ∷ q ∷ ps) x y h some-passed = let m = over-moves s x o p (h .0) (h .1) in let n = further (q ∷ ps) (h .0) y (h .2) (omega arith) in (omega arith, n .1)
+
+  abbrev Read-on : Lent → Type 0
+  Read-on x = (ps : List Placed) × (e : Ending) × ByRuns s x ps e
+
+  reads : (k : ℕ) (x : Lent) → length s - x .at < k → Read-on x
+  reads zero x h = absurd (omega arith)
+  reads (suc k) x h = by (runAsked s x) refl (λ y. reads k y)
+    where
+      by : (r : Read (Walk Lent)) → runAsked s x ≡ r → ((y : Lent) → length s - y .at < k → Read-on y) → Read-on x
+      by (no n p) e again = ([], refused n p, refuse e)
+      by (ok w j) e again = of (length (w .seen)) refl
+        where
+          of : (m : ℕ) → length (w .seen) ≡ m → Read-on x
+          of zero empty = let (st, next, f) = asked-is s x e .1 in (_, _, end e empty f)
+          of (suc m) q =
+              let more : 0 < length (w .seen) = omega arith in
+              let on = further (w .seen) x (w .spot) (asked-way s x e) more in
+              let (ps, f, d) = again (w .spot) (omega arith) in
+              (placedAll (w .seen) ++ ps, f, go e more d)
+
+  runs-of : {x : Lent} {ps : List Placed} {e : Ending} → BySteps s x ps e → ByRuns s x ps e
+  runs-of {x} {ps} {e} d =
+      let (qs, f, r) = reads (length s + 1) x (omega arith) in
+      let (a, b) = once (steps-of r) ps e d in
+      rw (a, b) r
+
+  pub read-by-runs : ReadByRuns s
+  read-by-runs = record { steps = steps-of; runs = runs-of; stands = stands }
+    where
+      stands : (x : Lent) (w : Walk Lent) (k : ℕ) → runAsked s x ≡ ok w k → length (w .seen) < 4096 → (e : Stop) × (turnOver s (w .spot) ≡ stops e)
+      stands x w k e few =
+          let is = asked-is s x e .0 in
+          rw is (by (walk (turnOver s) 4096 x .stop) refl)
+        where
+          by : (d : Option Stop) → walk (turnOver s) 4096 x .stop ≡ d → (e : Stop) × (turnOver s (walk (turnOver s) 4096 x .spot) ≡ stops e)
+          by (some d) q = (d, walk-at-stop (turnOver s) 4096 x d q)
+          by none q = absurd (omega (arith, few, paused (turnOver s) 4096 x q, ap (λ (v : Walk Lent). length (v .seen)) (asked-is s x e .0)))

@@ -4,37 +4,37 @@ use mathlib.Core.Path.{_≡_, refl, sym, ap, _∙_, subst}
 use mathlib.Core.List.{List, _∷_, _++_, append-assoc}
 use native.Mathlib.Omega.{arith}
 use lib.ListN.{length}
-use Rattle.octets.specs.Reading.{Read, ok, no, _then_, number}
+use Rattle.octets.specs.Reading.{Read, ok, number}
 use Rattle.octets.specs.Writing.{Each, Octet}
 use Rattle.octets.proofs.Inverse.{ok-value, ok-place}
 use Rattle.layouts.specs.Book.{Book}
 use Rattle.headers.specs.Header.{headerAt}
-use Rattle.elements.specs.Element.{Stepped}
-use Rattle.elements.specs.Steps.{Placed, stepAt, Reading, rowsOf}
+use Rattle.elements.specs.Walk.{lentAt}
+use Rattle.elements.specs.Reading.{Placed, Reading, headed, rowsOf}
 use Rattle.questions.proofs.Line.{field-unasked}
 use Rattle.questions.proofs.After.{row-kind, row-refused}
-use Rattle.promises.specs.BySteps.{left, stepOver, Ending, ended, refused, BySteps, answer, FromFirst, no-header, then-steps, Carries, Given}
+use Rattle.promises.specs.BySteps.{Ending, ended, refused, BySteps, answer, FromFirst, no-header, then-steps, Carries}
 use Rattle.promises.specs.Resume.{CutAt, Taken, FirstLacking, Resumed}
 use Rattle.promises.proofs.Over.{one-first, meets}
 use Rattle.promises.proofs.Store.{demand-3}
 use Rattle.promises_questions.specs.Answered.{FirstAsked, LackingAsked, ResumedAsked}
-use Rattle.promises_questions.proofs.Answered.{stepped, asked, header-answered}
+use Rattle.promises_questions.proofs.Answered.{asked, header-answered}
 use Rattle.promises_questions.proofs.Alike.{alike}
 
 -- The chain of an accepted document's reading.
 accepted : {s octets : List ℕ} {x : Read Reading} → FromFirst s octets x → (r : Reading) (end : ℕ) → x ≡ ok r end
-    → (next : ℕ) × (headerAt s ≡ ok (r .header) next) × BySteps s next 0 octets 0 (r .elements) (ended end)
+    → (next : ℕ) × (headerAt s ≡ ok (r .header) next) × BySteps s (lentAt next 0 octets 0) (r .elements) (ended end)
 accepted (no-header e) r end is = absurd (let z : _≡_ {A = ℕ} 0 1 = cc in omega arith)
 accepted {s} {octets} (then-steps {h} {next} {elements} {e} e₁ d q) r end is = go e d (sym q ∙ is)
   where
-    go : (e : Ending) → BySteps s next 0 octets 0 elements e → (answer elements e then λ all last. ok (record { header = h; elements = all }) last) ≡ ok r end
-        → (n : ℕ) × (headerAt s ≡ ok (r .header) n) × BySteps s n 0 octets 0 (r .elements) (ended end)
+    go : (e : Ending) → BySteps s (lentAt next 0 octets 0) elements e → headed h (answer elements e) ≡ ok r end
+        → (n : ℕ) × (headerAt s ≡ ok (r .header) n) × BySteps s (lentAt n 0 octets 0) (r .elements) (ended end)
     go (ended p) c z =
         let same : _≡_ {A = Reading} (record { header = h; elements = elements }) r = ok-value refl z in
         let place : p ≡ end = ok-place refl z in (
           next,
           e₁ ∙ ap (λ (x : Reading). ok (x .header) next) same,
-          subst (λ (x : Reading). BySteps s next 0 octets 0 (x .elements) (ended end)) same (subst (λ (n : ℕ). BySteps s next 0 octets 0 elements (ended n)) place c),
+          subst (λ (x : Reading). BySteps s (lentAt next 0 octets 0) (x .elements) (ended end)) same (subst (λ (n : ℕ). BySteps s (lentAt next 0 octets 0) elements (ended n)) place c),
         )
     go (refused n p) c z = absurd (let w : _≡_ {A = ℕ} 0 1 = cc in omega arith)
 
@@ -45,15 +45,6 @@ first-asked s o octets room =
       met = λ h next e elements z d. asked d;
       all = λ r end e. let (next, h, d) = accepted (one-first s o octets room .steps) r end e in (next, h, asked d);
     }
-
--- A refused step, as the element over the book that was lent.
-unstepped : (s : List ℕ) (at : ℕ) (g : Given) (n p : ℕ) → stepOver s at (g .rows) (g .octets) (g .used) ≡ no n p → stepAt s at (g .rows) (g .octets) (g .used) ≡ no n p
-unfolding stepOver
-unstepped s at g n p e = go (stepAt s at (g .rows) (g .octets) (g .used)) e
-  where
-    go : (r : Read Stepped) → (r then λ st next. ok (left (g .octets) st) next) ≡ no n p → r ≡ no n p
-    go (ok st next) e = absurd (let z : _≡_ {A = ℕ} 0 1 = cc in omega arith)
-    go (no m q) e = let number-is : m ≡ n = cc in let place : q ≡ p = cc in cc
 
 pub resumed-asked : (s : List ℕ) → Each Octet s → (before : List Placed) (here : Placed) (behind : List Placed) (end : ℕ) → CutAt s before here behind end
     → (book : Book) → Taken (before ++ here ∷ behind) book → (octets : List ℕ) (used : ℕ) → Carries octets used book
@@ -77,15 +68,16 @@ resumed-asked s o before here behind end cut book taken octets used carries =
         ap (λ (x : List Placed). before ++ x) (lack .split) ∙ sym (append-assoc before met (p ∷ lack .others)) in
         let m = meets (before ++ met) p (lack .others) steps split in
         let g = m .given in
-        stepped s (p .place) g (m .left) (m .next) (m .steps) λ st e same.
-        row-kind s (p .place) (g .rows) (g .octets) (g .used) st (m .next) e (lack .lacking .its) (same ∙ (m .element ∙ lack .lacking .is-row))
+        subst (λ (a : ℕ). number 4 s a ≡ ok 2 (a + 4)) (m .there)
+        (row-kind s (g .at) (g .rows) (g .octets) (g .used) (m .stepped) (m .next) (m .steps) (lack .lacking .its) (m .element ∙ lack .lacking .is-row))
 
-    lacking : (met : List Placed) (p : Placed) → FirstLacking book (here ∷ behind) met p → LackingAsked s (here .place) (rowsOf before) octets used met p
+    lacking : (met : List Placed) (p : Placed) → FirstLacking book (here ∷ behind) met p → LackingAsked s (lentAt (here .place) (rowsOf before) octets used) met p
     lacking met p lack =
         let stop = d .there met p lack in
         let g = stop .given in
         record {
           stops = stop;
-          refused = λ n. field-unasked s (p .place) (g .rows) (g .octets) (g .used) n 12 (p .place + 4)
-              (row-refused s (p .place) (g .rows) (g .octets) (g .used) 12 (p .place + 4) (row-there met p lack) (unstepped s (p .place) g 12 (p .place + 4) (stop .refuses)));
+          refused = λ n. field-unasked s (g .at) (g .rows) (g .octets) (g .used) n 12 (p .place + 4)
+              (row-refused s (g .at) (g .rows) (g .octets) (g .used) 12 (p .place + 4)
+              (subst (λ (a : ℕ). number 4 s a ≡ ok 2 (a + 4)) (sym (stop .there)) (row-there met p lack)) (stop .refuses));
         }

@@ -4,7 +4,8 @@ use mathlib.Core.Path.{_≡_, refl, _∙_}
 use mathlib.Core.List.{List, [], _∷_}
 use Rattle.octets.specs.Reading.{Read, ok, no, _then_}
 use Rattle.elements.specs.Steps.{stepAt}
-use Rattle.runs.specs.Runs.{runFrom, runAsked}
+use Rattle.elements.specs.Walk.{walk, Lent, lentAt, turnOver}
+use Rattle.runs.specs.Runs.{runAsked}
 use Rattle.promises.specs.Refusals.{refusalOf, refusalsOf, Gives, stepNumbers, Inputs}
 use Rattle.promises.proofs.Numbers.{taken, only-then}
 use Rattle.promises.proofs.Given.{refusals}
@@ -26,9 +27,11 @@ module _ {I A B : Type 0} (f : I → Read A) (g : I → B) (place : I → ℕ) w
   gives-further h =
       record { only = λ i. only-then (f i) _ (h .only i) λ _ _. taken (g i) (place i); inputs = h .inputs; each = same (h .inputs) ∙ h .each }
 
-pub run-gives : Gives (λ (i : Inputs). runAsked (i .document) (i .place) (i .rows) (i .octets) (i .used)) stepNumbers
+abbrev lent : Inputs → Lent
+lent i = lentAt (i .place) (i .rows) (i .octets) (i .used)
+
+pub run-gives : Gives (λ (i : Inputs). runAsked (i .document) (lentAt (i .place) (i .rows) (i .octets) (i .used))) stepNumbers
 unfolding runAsked
 run-gives =
-    gives-further (λ (i : Inputs). stepAt (i .document) (i .place) (i .rows) (i .octets) (i .used))
-    (λ (i : Inputs). runFrom 4096 (i .document) (i .place) (i .rows) (i .octets) (i .used))
-    (λ (i : Inputs). runFrom 4096 (i .document) (i .place) (i .rows) (i .octets) (i .used) .next) (refusals .step)
+    gives-further (λ (i : Inputs). stepAt (i .document) (i .place) (i .rows) (i .octets) (i .used)) (λ (i : Inputs). walk (turnOver (i .document)) 4096 (lent i))
+    (λ (i : Inputs). walk (turnOver (i .document)) 4096 (lent i) .spot .at) (refusals .step)

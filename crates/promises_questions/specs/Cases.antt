@@ -11,7 +11,7 @@ use Rattle.kinds.specs.Kinds.{signed}
 use Rattle.layouts.specs.Layout.{Attribute}
 use Rattle.rows.specs.Row.{bits}
 use Rattle.elements.specs.Element.{layout, row, item, finish}
-use Rattle.elements.specs.Steps.{Placed, readingFrom, reading, whole}
+use Rattle.elements.specs.Reading.{Placed, readingFrom, reading, whole}
 use Rattle.questions.specs.Questions.{fieldAsked}
 use Rattle.questions.specs.Answers.{fieldTells}
 use Rattle.questions.specs.declared.Fielded.{Fielded}

@@ -1,6 +1,7 @@
 -- Which refusal numbers a run and the questions give: all of those listed for each, and no other. A run gives a step's, and the header question the header check's.
 use Prim.Native.Nat.{ℕ}
 use mathlib.Core.List.{List, [], _∷_}
+use Rattle.elements.specs.Walk.{lentAt}
 use Rattle.runs.specs.Runs.{runAsked}
 use Rattle.questions.specs.Questions.{fieldAsked, layoutAsked, attributeAsked}
 use Rattle.strings.specs.Strings.{namespaceAsked, serviceAsked}
@@ -32,7 +33,7 @@ pub record Listed : Type 0 where
 
 -- What is promised of the numbers.
 pub record Numbers : Type 0 where
-  pub run : Gives (λ (i : Inputs). runAsked (i .document) (i .place) (i .rows) (i .octets) (i .used)) stepNumbers
+  pub run : Gives (λ (i : Inputs). runAsked (i .document) (lentAt (i .place) (i .rows) (i .octets) (i .used))) stepNumbers
   pub field : Gives (λ (i : Indexed). fieldAsked (i .step .document) (i .step .place) (i .step .rows) (i .step .octets) (i .step .used) (i .index)) fieldNumbers
   pub layout : Gives (λ (i : Inputs). layoutAsked (i .document) (i .place) (i .rows) (i .octets) (i .used)) layoutNumbers
   pub attribute : Gives (λ (i : Indexed). attributeAsked (i .step .document) (i .step .place) (i .step .rows) (i .step .octets) (i .step .used) (i .index)) attributeNumbers
