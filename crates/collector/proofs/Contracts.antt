@@ -7,7 +7,9 @@ use Rattle.octets.specs.Reading.{Read, no}
 use Rattle.octets.specs.Contracts.{SettledLent}
 use Rattle.octets.proofs.Alike.{_also_, put-back, as-it-was}
 use Rattle.headers.specs.Header.{headerAt}
-use Rattle.elements.specs.Steps.{stepAt, leaves, whole}
+use Rattle.elements.specs.Steps.{stepAt, leaves}
+use Rattle.elements.specs.Reading.{whole}
+use Rattle.elements.specs.Walk.{lentAt}
 use Rattle.runs.specs.Runs.{runAsked}
 use Rattle.runs.specs.Answers.{bookLeft, wordsLeft}
 use Rattle.collector.specs.Calls.{answered, headLeaves, stepLeaves, runLeaves, countLeaves}
@@ -47,7 +49,7 @@ contracts =
         λ κs a p x y u v e f.
             (e .0 ∙ sym (f .0), refl also refl also refl also (e .2 ∙ sym (f .2)) also refl also (e .3 ∙ sym (f .3)) also (e .1 ∙ sym (f .1)) also refl),
         λ κs a p x u e h.
-            let r = runAsked (now (a .0)) (a .1 .0) (a .1 .1 .0) (now (a .1 .1 .1 .0)) (a .1 .1 .1 .1 .0) in
+            let r = runAsked (now (a .0)) (lentAt (a .1 .0) (a .1 .1 .0) (now (a .1 .1 .1 .0)) (a .1 .1 .1 .1 .0)) in
             refl also refl also refl also put-back (e .2 ∙ kept (bookLeft _) _ (λ n p. refl) r x (e .0) h) also refl
             also put-back (e .3 ∙ kept (wordsLeft _) _ (λ n p. refl) r x (e .0) h) also put-back (e .1 ∙ kept (runLeaves _) _ (λ n p. refl) r x (e .0) h) also refl,
       );

@@ -20,7 +20,7 @@ use Rattle.reading.specs.declared.Headed.{Headed}
 use Rattle.reading.specs.declared.Headed.the-variants as headed
 use Rattle.reading.specs.declared.Checked.{Checked}
 use Rattle.reading.specs.declared.Checked.the-variants as checked
-use Rattle.runs.specs.Runs.{Passed}
+use Rattle.elements.specs.Walk.{Walk, Lent}
 use Rattle.runs.specs.Answers.{runTells}
 use Rattle.runs.specs.declared.Running.{Running}
 use Rattle.runs.specs.declared.Running.the-variants as running
@@ -53,11 +53,11 @@ step-told words (ok st next) x e timed =
 step-told words (no n p) x e timed = subst (StepTold words (no n p)) (sym e) refl
 
 -- A run: refused, or where it stands.
-abbrev pub RunTold : List ℕ → Read Passed → Running → Type 0
+abbrev pub RunTold : List ℕ → Read (Walk Lent) → Running → Type 0
 RunTold words r (running.Refused n q) = r ≡ no n q
 RunTold words r (running.Went w) = (0 ≡ answered r) × (w .count ∷ w .next ∷ w .rows ∷ w .used ∷ 0 ∷ 0 ∷ 0 ∷ 0 ∷ [] ≡ runLeaves words r)
 
-pub run-told : (words : List ℕ) (r : Read Passed) (x : Running) → x ≡ runTells r → RunTold words r x
+pub run-told : (words : List ℕ) (r : Read (Walk Lent)) (x : Running) → x ≡ runTells r → RunTold words r x
 run-told words (ok p next) x e = subst (RunTold words (ok p next)) (sym e) (refl, refl)
 run-told words (no n q) x e = subst (RunTold words (no n q)) (sym e) refl
 

@@ -10,11 +10,13 @@ use lib.Dec.{leb, lit<}
 use borrow.Author.Tests.{leb-true, leb-false}
 use Rattle.octets.specs.Reading.{Read, ok, no, _then_}
 use Rattle.headers.specs.Header.{headerAt}
-use Rattle.elements.specs.Steps.{stepAt, whole}
+use Rattle.elements.specs.Steps.{stepAt}
+use Rattle.elements.specs.Reading.{whole}
 use Rattle.elements.proofs.Refusing.{Stays, OfHeader, OfElement, header-stays, whole-stays, step-stays}
 use Rattle.elements.proofs.Before.{lent-long, step-refused}
 use Rattle.reading.proofs.Entry.{header-long, whole-refused}
-use Rattle.runs.specs.Runs.{Passed, runFrom, runAsked}
+use Rattle.elements.specs.Walk.{Walk, walk, Lent, lentAt, turnOver}
+use Rattle.runs.specs.Runs.{runAsked}
 use Rattle.collector.specs.Calls.{Packs}
 
 abbrev Positive : ℕ → Type 0
@@ -59,10 +61,10 @@ module _ (s : List ℕ) where
           packs at (stepAt s at rows octets used) small (step-stays Positive s at (omega arith) (lit< tt) (lit< tt) (lit< tt) of-element at rows octets used (le-refl at))
 
   -- A run is refused as its first step is.
-  pub run-packs : (at rows : ℕ) (octets : List ℕ) (used : ℕ) → at < 4294967296 → Packs (runAsked s at rows octets used)
+  pub run-packs : (at rows : ℕ) (octets : List ℕ) (used : ℕ) → at < 4294967296 → Packs (runAsked s (lentAt at rows octets used))
   unfolding runAsked
-  run-packs at rows octets used small = first (stepAt s at rows octets used) (runFrom 4096 s at rows octets used) (step-packs at rows octets used small)
+  run-packs at rows octets used small = first (stepAt s at rows octets used) (walk (turnOver s) 4096 (lentAt at rows octets used)) (step-packs at rows octets used small)
     where
-      first : {A : Type 0} (r : Read A) (p : Passed) → Packs r → Packs (r then λ _ _. ok p (p .next))
+      first : {A : Type 0} (r : Read A) (w : Walk Lent) → Packs r → Packs (r then λ _ _. ok w (w .spot .at))
       first (ok a next) p h = tt
       first (no n q) p h = h

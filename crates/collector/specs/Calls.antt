@@ -10,7 +10,7 @@ use Rattle.headers.specs.Header.{Header}
 use Rattle.elements.specs.Element.{Element, item, layout, row, finish, Stepped}
 use Rattle.elements.specs.declared.Met.{Met}
 use Rattle.elements.specs.declared.Met.the-variants as met
-use Rattle.runs.specs.Runs.{Passed}
+use Rattle.elements.specs.Walk.{Walk, Lent}
 
 -- A refusal as one number: its number times 2^32, and its place.
 abbrev pub packed : ℕ → ℕ → ℕ
@@ -52,8 +52,8 @@ metWords (met.Row number stated count) next rows used = 2 ∷ next ∷ rows ∷ 
 metWords (met.End count time) next rows used = 3 ∷ next ∷ rows ∷ used ∷ count ∷ unsigned 8 time ∷ 0 ∷ 0 ∷ []
 
 -- What a run leaves: how many items it has passed, the place, the row count and the used count behind them.
-abbrev pub runLeaves : List ℕ → Read Passed → List ℕ
-runLeaves words (ok p next) = length (p .words) ∷ p .next ∷ p .rows ∷ p .used ∷ 0 ∷ 0 ∷ 0 ∷ 0 ∷ []
+abbrev pub runLeaves : List ℕ → Read (Walk Lent) → List ℕ
+runLeaves words (ok w next) = length (w .seen) ∷ w .spot .at ∷ w .spot .rows ∷ w .spot .used ∷ 0 ∷ 0 ∷ 0 ∷ 0 ∷ []
 runLeaves words (no n q) = words
 
 -- What the whole check leaves of the lent row count.

@@ -3,7 +3,9 @@
 ghost use mathlib.Core.Path.{_≡_};
 ghost use Prim.Native.Nat.{_<_};
 ghost use Rattle.headers.specs.Header.{headerAt};
-ghost use Rattle.elements.specs.Steps.{stepAt, leaves, whole};
+ghost use Rattle.elements.specs.Steps.{stepAt, leaves};
+ghost use Rattle.elements.specs.Reading.{whole};
+ghost use Rattle.elements.specs.Walk.{lentAt};
 ghost use Rattle.runs.specs.Runs.{runAsked};
 ghost use Rattle.runs.specs.Answers.{bookLeft, wordsLeft};
 ghost use Rattle.collector.specs.Calls.{packed, answered, headLeaves, bit, metWords, stepLeaves, runLeaves, countLeaves};
@@ -106,7 +108,7 @@ pub extern "C" fn ipdr_run<'d, 'b, 'w, 'o>(
     words: &'w mut [u64; 4096],
     out: &'o mut [u64; 8],
 ) -> u64
-    ensures { λ r. ⌜ (r ≡ answered (runAsked (now (doc .entry)) at rows (now (book .entry)) used)) × (now (out .exit) ≡ runLeaves (now (out .entry)) (runAsked (now (doc .entry)) at rows (now (book .entry)) used)) × (now (book .exit) ≡ bookLeft (now (book .entry)) (runAsked (now (doc .entry)) at rows (now (book .entry)) used)) × (now (words .exit) ≡ wordsLeft (now (words .entry)) (runAsked (now (doc .entry)) at rows (now (book .entry)) used)) ⌝ }
+    ensures { λ r. ⌜ (r ≡ answered (runAsked (now (doc .entry)) (lentAt at rows (now (book .entry)) used))) × (now (out .exit) ≡ runLeaves (now (out .entry)) (runAsked (now (doc .entry)) (lentAt at rows (now (book .entry)) used))) × (now (book .exit) ≡ bookLeft (now (book .entry)) (runAsked (now (doc .entry)) (lentAt at rows (now (book .entry)) used))) × (now (words .exit) ≡ wordsLeft (now (words .entry)) (runAsked (now (doc .entry)) (lentAt at rows (now (book .entry)) used))) ⌝ }
 {
     let running = runs::run(doc, at as usize, rows as usize, book, used as usize, words);
     match running {

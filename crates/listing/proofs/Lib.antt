@@ -2,6 +2,5 @@ pub mod Words
 pub mod Stepping
 pub mod Passed
 pub mod Heads
-pub mod Once
 pub mod Specimen
 pub mod Contracts

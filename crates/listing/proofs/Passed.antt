@@ -1,151 +1,184 @@
--- A run over the elements on the way: the lines of those passed are printed, and with the lines from here on they are the lines from the start.
-use Prim.Native.Nat.{ℕ, _+_, _≤_}
+-- A listing on the way: the lines of the items passed are printed, over octets that carry their book, and the lines of the walk are those and what is printed from here on.
+use Prim.Native.Nat.{ℕ, _+_, _≤_, _<_}
 use mathlib.Core.Path.{_≡_, refl, sym, ap, _∙_, subst}
-use mathlib.Core.List.{List, [], _++_, append-assoc, append-nil}
-use mathlib.Core.Bool.{true, false}
-use mathlib.Core.Logic.{⊎-elim}
+use mathlib.Core.List.{List, [], _∷_, _++_, append-assoc, append-nil}
+use mathlib.Core.Option.{some}
 use native.Mathlib.Omega.{arith}
-use lib.ListN.{length, take, drop}
-use lib.Seq.{take-at}
-use Rattle.octets.specs.Reading.{ok, no}
-use Rattle.octets.specs.Writing.{Each, Octet}
-use Rattle.layouts.specs.Layout.{layoutImage}
-use Rattle.layouts.specs.Book.{Book, bookImage, bookOf, bookIn, IsBook}
-use Rattle.layouts.proofs.Books.{GoodBook, Lent, image-snoc}
-use Rattle.layouts.proofs.Growing.{learnt}
+use lib.IntN.{ℤ}
+use lib.ListN.{length, take, replicate, length-replicate}
+use Rattle.octets.specs.Reading.{ok}
+use Rattle.octets.specs.Writing.{images, Each, Octet}
+use Rattle.octets.proofs.Spans.{each-replicate}
+use Rattle.kinds.specs.Kinds.{signed}
+use Rattle.layouts.specs.Layout.{Layout, layoutAt}
+use Rattle.layouts.specs.Book.{bookImage, bookIn}
+use Rattle.layouts.proofs.Books.{Lent}
 use Rattle.layouts.proofs.Lends.{empty-book}
-use Rattle.layouts.proofs.Walks.{lent-book}
-use Rattle.elements.specs.Element.{Stepped, elementAt}
-use Rattle.elements.specs.Steps.{holding, lentBook, stepAt, isLast}
-use Rattle.elements.proofs.Going.{few-rows, element-place, element-book, holding-octets, holding-length, holding-book}
-use Rattle.elements.proofs.Before.{lent-is}
-use Rattle.elements.proofs.Went.{Went, at-layout, at-row, at-finish, went, step-rows}
+use Rattle.elements.specs.Element.{item, Stepped, elementAt}
+use Rattle.elements.specs.Steps.{holding, stepAt}
+use Rattle.elements.specs.Answers.{metOf, Grows}
+use Rattle.elements.specs.Walk.{Stop, ended, refused, Seen, goes, stops, Walk, standing, behind, Path, Spot, spotAt, spotOf, turnAt, through}
+use Rattle.elements.specs.Reading.{Placed, placed, placedAll, elementsOf}
+use Rattle.elements.proofs.Before.{step-is}
+use Rattle.elements.proofs.Behind.{few-rows}
+use Rattle.elements.proofs.Turns.{Took, took-at, turn-rows}
+use Rattle.elements.proofs.Walks.{path-join, path-one}
+use Rattle.elements.proofs.Through.{through-path, through-stops}
+use Rattle.elements.proofs.Readings.{placed-append, elements-behind}
+use Rattle.walks.specs.Kept.{nothing, Keeps}
+use Rattle.walks.specs.Answers.{goneOf, movedOf, Bears}
+use Rattle.walks.specs.declared.Tally.{Tally}
+use Rattle.walks.specs.declared.Gone.{Gone}
+use Rattle.walks.specs.declared.Moved.the-variants as moved
+use Rattle.walks.proofs.Keeping.{kept-none}
+use Rattle.walks.proofs.Moves.{item-spot, item-moves, item-left}
+use Rattle.walks.proofs.Ways.{moved-item, moved-end, moved-refused}
+use Rattle.walks.proofs.Lents.{Carried, carried-lent, carried-bears, carried-old, carried-grows, carried-newly, carried-new}
 use Rattle.printing.specs.Text.{Prints}
-use Rattle.printing.proofs.Puts.{then, nothing}
-use Rattle.listing.specs.Lines.{Puts, refusalText, elementText, LinesFrom, refused, last, more}
+use Rattle.printing.proofs.Puts as puts
+use Rattle.printing.proofs.Puts.{images-append, then, says, images-none, images-one}
+use Rattle.listing.specs.Lines.{endText, refusalText, elementText, stopText, linesOf}
 
--- An element leaves the used octets as they were: a book grows behind them.
-module _ (octets : List ℕ) (used : ℕ) (b : Book) (lent : Lent octets used b) where
-  front : (c : Book) (rest : List ℕ) → bookImage c ≡ bookImage b ++ rest → take used (holding c octets) ≡ take used octets
-  front c rest e =
-      ap (λ (x : List ℕ). take used (x ++ drop (length (bookImage c)) octets)) e ∙ ap (take used) (append-assoc (bookImage b) rest (drop (length (bookImage c)) octets))
-      ∙ take-at (bookImage b) (rest ++ drop (length (bookImage c)) octets) used (lent .size) ∙ lent .image
+abbrev line : Placed → List ℕ
+line p = elementText (p .place) (p .element)
 
-  same-front : (c : Book) → c ≡ b → take used (holding c octets) ≡ take used octets
-  same-front c e = front c [] (ap bookImage e ∙ sym (append-nil (bookImage b)))
-
-  element-front : (s : List ℕ) (at rows : ℕ) (st : Stepped) (next : ℕ) → elementAt s at rows b ≡ ok st next → take used (holding (st .book) octets) ≡ take used octets
-  element-front s at rows st next e = go (went s at rows b st next e)
-    where
-      go : Went s at rows b st next → take used (holding (st .book) octets) ≡ take used octets
-      go (at-layout l x k h m el ro) =
-          ⊎-elim (λ known. same-front (st .book) (known .3)) (λ new. front (st .book) (layoutImage l) (ap bookImage (new .3) ∙ image-snoc b l))
-          (learnt b l (at + 4) (st .book) x m)
-      go (at-row r k h el ro bo) = same-front (st .book) bo
-      go (at-finish n t k h el ro bo) = same-front (st .book) bo
-
--- A step looks at the used octets alone, and at how many are lent.
-kept : (s : List ℕ) (at rows used : ℕ) (octets other : List ℕ) → length other ≡ length octets → take used other ≡ take used octets
-    → stepAt s at rows other used ≡ stepAt s at rows octets used
-unfolding stepAt lentBook bookOf
-kept s at rows used octets other long front = rw (long, front) refl
-
--- Where a listing stands: at a place of the document, over lent octets that hold the book of the elements passed.
-pub record Standing (s octets : List ℕ) (pos rows used : ℕ) : Type 0 where
-  pub inside : pos ≤ length s
-  pub behind : rows ≤ pos
-  pub size : length octets ≡ 32768
-  pub lent : Each Octet octets
-  pub is : IsBook octets used
-
--- A step from there, which the book and the rows do not refuse.
-module _ (s : List ℕ) (short : length s ≤ 1048576) (o : Each Octet s) (octets : List ℕ) (pos rows used : ℕ) (g : Standing s octets pos rows used) where
-  here : stepAt s pos rows octets used ≡ elementAt s pos rows (bookIn octets used)
-  unfolding stepAt
-  here = rw (lent-is s rows octets used short (g .is) (omega (arith, g .behind, g .inside))) refl
-
-  module _ (st : Stepped) (next : ℕ) (e : stepAt s pos rows octets used ≡ ok st next) where
-    read : elementAt s pos rows (bookIn octets used) ≡ ok st next
-    read = sym here ∙ e
-
-    pub further : (pos + 4 ≤ next) × (next ≤ length s)
-    further = element-place s short o pos rows (bookIn octets used) (g .inside) st next read
-
-    -- It is the same step over the octets that it leaves.
-    pub again : (exit : List ℕ) → exit ≡ holding (st .book) octets → length exit ≡ length octets → stepAt s pos rows exit used ≡ ok st next
-    again exit is size =
-        ap (λ (x : List ℕ). stepAt s pos rows x used) is
-        ∙ (kept s pos rows used octets (holding (st .book) octets) (ap length (sym is) ∙ size)
-        (element-front octets used (bookIn octets used) (lent-book octets used (g .lent) (g .is)) s pos rows st next read) ∙ e)
-
-    -- The book behind it.
-    good : GoodBook (st .book)
-    good = element-book s short o pos rows (bookIn octets used) (g .inside) st next read (lent-book octets used (g .lent) (g .is) .good)
-
-    left : bookIn (holding (st .book) octets) (length (bookImage (st .book))) ≡ st .book
-    left = holding-book (st .book) octets good (omega (arith, g .size)) .1
-
-    stands-on : Standing s (holding (st .book) octets) next (st .rows) (length (bookImage (st .book)))
-    stands-on =
-        record {
-          inside = further .1;
-          behind = omega (arith, g .behind, further .0, step-rows s pos rows (bookIn octets used) st next read, few-rows (st .element));
-          size = holding-length (st .book) octets good (omega (arith, g .size)) ∙ g .size;
-          lent = holding-octets (st .book) octets good (omega (arith, g .size)) (g .lent);
-          is = holding-book (st .book) octets good (omega (arith, g .size)) .0;
-        }
+-- The lines of items and then those of a walk behind them.
+lines-behind : (ps : List Seen) (w : Walk Spot) → linesOf (behind ps w) ≡ images line (placedAll ps) ++ linesOf w
+lines-behind ps w =
+    let rest : List Placed = elementsOf (w .seen) (w .spot .at) (w .stop) in
+    rw (elements-behind ps (w .seen) (w .spot .at) (w .stop), images-append line (placedAll ps) rest) (append-assoc (images line (placedAll ps)) (images line rest) (stopText (w .stop)))
 
 -- What holds on the way.
-pub record Passed (s : List ℕ) (at : ℕ) (before : List ℕ) (n : ℕ) (octets : List ℕ) (pos rows used : ℕ) (after : List ℕ) (to : ℕ) : Type 0 where
-  pub stands : Standing s octets pos rows used
-  pub text : List ℕ
-  pub prints : Prints before n text after to
-  pub lines : (rest : List ℕ) → LinesFrom s pos rows (bookIn octets used) rest → LinesFrom s at 0 [] (text ++ rest)
+pub record Passed (s : List ℕ) (at : ℕ) (before : List ℕ) (n : ℕ) (octets numbers places steps : List ℕ) (t : Tally) (pos rows used : ℕ) (after : List ℕ) (to : ℕ) : Type 0 where
+  pub size : length octets ≡ 32768
+  pub carried : Carried octets used numbers places steps t
+  pub inside : pos ≤ length s
+  pub few : rows ≤ pos
+  pub items : List Seen
+  pub path : Path (turnAt s) (spotAt at 0 []) items (spotAt pos rows (bookIn octets used))
+  pub prints : Prints before n (images line (placedAll items)) after to
 
-pub passed-start : (s : List ℕ) (at : ℕ) (before : List ℕ) (n : ℕ) (octets : List ℕ) → at ≤ length s → Each Octet octets → length octets ≡ 32768
-    → Passed s at before n octets at 0 0 before n
-passed-start s at before n octets h o size =
-    let (is, none) = empty-book octets (omega arith) in
+pub passed-start : (s : List ℕ) (at : ℕ) (before : List ℕ) (n : ℕ) → at ≤ length s
+    → Passed s at before n (replicate 32768 0) (replicate 64 0) (replicate 64 0) (replicate 1216 0) nothing at 0 0 before n
+passed-start s at before n inside =
+    let size = length-replicate {A = ℕ} 32768 0 in
+    let (is, none) = empty-book (replicate 32768 0) (omega arith) in
+    let words = length-replicate {A = ℕ} 64 0 in
+    let kept = kept-none (take 0 (replicate 32768 0)) (replicate 64 0) (replicate 64 0) (replicate 1216 0) words words (length-replicate {A = ℕ} 1216 0) in
     record {
-      stands = record { inside = h; behind = omega arith; size = size; lent = o; is = is };
-      text = [];
-      prints = nothing before n;
-      lines = λ rest l. subst (λ (b : Book). LinesFrom s at 0 b rest) none l;
+      size = size;
+      carried = record { octets-are = each-replicate 32768 0 (omega arith); is = is; kept = rw none kept };
+      inside = inside;
+      few = omega arith;
+      items = [];
+      path = ap (spotAt at 0) (sym none);
+      prints = says (sym (images-none line)) (puts.nothing before n);
     }
 
-module _ (s : List ℕ) (short : length s ≤ 1048576) (o : Each Octet s) (at : ℕ) (before : List ℕ) (n : ℕ) (octets : List ℕ) (pos rows used : ℕ) (mid : List ℕ)
-    (m : ℕ) (p : Passed s at before n octets pos rows used mid m) (after : List ℕ) (to : ℕ) where
-  pub passed-refused : (number place : ℕ) → stepAt s pos rows octets used ≡ no number place → Prints mid m (refusalText number place) after to
-      → Puts (LinesFrom s at 0 []) before n after to
-  passed-refused number place e put =
-      record {
-        text = p .text ++ refusalText number place;
-        right = p .lines (refusalText number place) (refused number place (sym (here s short o octets pos rows used (p .stands)) ∙ e));
-        prints = then (p .prints) put;
-      }
+module _ {s : List ℕ} {at : ℕ} {before : List ℕ} {n : ℕ} {octets numbers places steps : List ℕ} {t : Tally} {pos rows used : ℕ} {mid : List ℕ} {m : ℕ}
+    (g : Passed s at before n octets numbers places steps t pos rows used mid m) where
+  abbrev here : Spot
+  here = spotAt pos rows (bookIn octets used)
 
-  module _ (st : Stepped) (next : ℕ) (e : stepAt s pos rows octets used ≡ ok st next) (put : Prints mid m (elementText pos (st .element)) after to) where
-    abbrev line : List ℕ
-    line = elementText pos (st .element)
+  pub passed-lent : Lent octets used (bookIn octets used)
+  passed-lent = carried-lent octets used numbers places steps t (g .carried)
 
-    is : elementAt s pos rows (bookIn octets used) ≡ ok st next
-    is = read s short o octets pos rows used (p .stands) st next e
+  pub passed-bears : Bears (take used octets) used numbers places (t .known) (bookIn octets used)
+  passed-bears = carried-bears octets used numbers places steps t (g .carried)
 
-    pub passed-last : isLast (st .element) ≡ true → Puts (LinesFrom s at 0 []) before n after to
-    passed-last t =
-        record {
-          text = p .text ++ line;
-          right = p .lines line (last st next is t);
-          prints = then (p .prints) put;
-        }
+  module _ (o : Each Octet s) (short : length s ≤ 1048576) where
+    stopped : {after : List ℕ} {to : ℕ} (e : Stop) → turnAt s here ≡ stops e → Prints mid m (linesOf (standing here (some e))) after to
+        → Prints before n (linesOf (through s (spotAt at 0 []))) after to
+    stopped e h put =
+        let whole = through-path s o short (g .items) (spotAt at 0 []) here (g .path) ∙ ap (behind (g .items)) (through-stops s o short here e h) in
+        says (sym (ap linesOf whole ∙ lines-behind (g .items) (standing here (some e)))) (then (g .prints) put)
 
-    pub passed-more : isLast (st .element) ≡ false → Passed s at before n (holding (st .book) octets) next (st .rows) (length (bookImage (st .book))) after to
-    passed-more t =
-        record {
-          stands = stands-on s short o octets pos rows used (p .stands) st next e;
-          text = p .text ++ line;
-          prints = then (p .prints) put;
-          lines = λ rest from.
-              subst (LinesFrom s at 0 []) (sym (append-assoc (p .text) line rest))
-              (p .lines (line ++ rest) (more st next is t (subst (λ (b : Book). LinesFrom s next (st .rows) b rest) (left s short o octets pos rows used (p .stands) st next e) from)));
-        }
+    -- The turn from here told a refusal, or the end: its line is the last.
+    pub passed-refused : (number place : ℕ) {after : List ℕ} {to : ℕ} → movedOf (turnAt s here) ≡ moved.Refused number place → Prints mid m (refusalText number place) after to
+        → Prints before n (linesOf (through s (spotAt at 0 []))) after to
+    unfolding images
+    passed-refused number place e put = stopped (refused number place) (moved-refused (turnAt s here) number place e) put
+
+    pub passed-end : (count next : ℕ) (time : ℤ) {after : List ℕ} {to : ℕ} → movedOf (turnAt s here) ≡ moved.End count time next → Prints mid m (endText pos count time) after to
+        → Prints before n (linesOf (through s (spotAt at 0 []))) after to
+    unfolding images
+    passed-end count next time e put =
+        let (u, is, same) = moved-end (turnAt s here) count next time e in
+        let l : List ℕ = endText pos count (signed 8 u) in
+        stopped (ended count u next) is (says (ap (endText pos count) (sym same) ∙ sym (append-nil (l ++ []) ∙ append-nil l)) put)
+
+    -- An item whose layout is new, and what holds where its line is printed and the layout is put behind the used octets and kept.
+    pub record Grown (gone : Gone) (line : List ℕ) : Type 0 where
+      pub grows : Grows s pos (gone .next) (bookIn octets used)
+      pub layout : Layout
+      pub reads : layoutAt s (pos + 4) ≡ ok layout (gone .next)
+      pub few : length (bookIn octets used) < 64
+      pub on : {exit numbers₁ places₁ steps₁ : List ℕ} {t₁ : Tally} {after : List ℕ} {to : ℕ} → Prints mid m line after to → length exit ≡ length octets
+          → ((rows : ℕ) (st : Stepped) → elementAt s pos rows (bookIn octets used) ≡ ok st (gone .next) → exit ≡ holding (st .book) octets)
+          → Keeps layout used numbers places steps t numbers₁ places₁ steps₁ t₁ → Passed s at before n exit numbers₁ places₁ steps₁ t₁ (gone .next) (gone .rows) (gone .used) after to
+
+    -- An item: the step that reads it, where it ends, and what holds where its line is printed.
+    pub record Goes (gone : Gone) : Type 0 where
+      pub stepped : Stepped
+      pub reads : stepAt s pos rows octets used ≡ ok stepped (gone .next)
+      pub met : metOf (stepped .element) ≡ gone .met
+      pub further : (pos + 4 ≤ gone .next) × (gone .next ≤ length s)
+      pub old : gone .used ≤ used → {after : List ℕ} {to : ℕ} → Prints mid m (elementText pos (stepped .element)) after to
+          → Passed s at before n octets numbers places steps t (gone .next) (gone .rows) (gone .used) after to
+      pub new : used < gone .used → Grown gone (elementText pos (stepped .element))
+
+    module _ (p : Seen) (y : Spot) (e : turnAt s here ≡ goes p y) where
+      took : Took spotOf pos (elementAt s pos rows (bookIn octets used)) p y
+      took = took-at s here p y e
+
+      abbrev text : List ℕ
+      text = elementText pos (took .stepped .element)
+
+      said : text ≡ line (placed p)
+      said = rw (took .is, took .seen) refl
+
+      on : {after : List ℕ} {to : ℕ} → Prints mid m text after to → (octets₁ : List ℕ) (used₁ : ℕ) {numbers₁ places₁ steps₁ : List ℕ} {t₁ : Tally} → length octets₁ ≡ 32768
+          → Carried octets₁ used₁ numbers₁ places₁ steps₁ t₁ → bookIn octets₁ used₁ ≡ y .book → Passed s at before n octets₁ numbers₁ places₁ steps₁ t₁ (p .next) (y .rows) used₁ after to
+      on put octets₁ used₁ size c same =
+          let moves = item-moves s o short pos rows (bookIn octets used) p y e in
+          let spot = item-spot s o short pos rows (bookIn octets used) p y e ∙ ap (spotAt (p .next) (y .rows)) (sym same) in
+          record {
+            size = size;
+            carried = c;
+            inside = moves .1;
+            few = omega (arith, g .few, moves .0, turn-rows s here p y e, few-rows (item (p .which)));
+            items = g .items ++ p ∷ [];
+            path =
+                subst (λ (z : Spot). Path (turnAt s) (spotAt at 0 []) (g .items ++ p ∷ []) z) spot
+                (path-join (turnAt s) (g .items) (p ∷ []) (spotAt at 0 []) here y (g .path) (path-one (turnAt s) p here y e));
+            prints =
+                says (sym (ap (images line) (placed-append (g .items) (p ∷ [])) ∙ images-append line (placedAll (g .items)) (placed p ∷ [])))
+                (then (g .prints) (says (said ∙ sym (images-one line (placed p))) put));
+          }
+
+      item-goes : Goes (goneOf p y)
+      item-goes =
+          record {
+            stepped = took .stepped;
+            reads = step-is s rows octets used pos short (g .carried .is) (omega (arith, g .few, g .inside)) ∙ took .reads;
+            met = ap metOf (took .is);
+            further = item-moves s o short pos rows (bookIn octets used) p y e;
+            old = λ old put.
+                let (same, _, size) = carried-old octets used numbers places steps t (g .carried) s o short pos rows p y e old in
+                rw size (on put octets used (g .size) (g .carried) (sym same));
+            new = λ more.
+                let n = carried-newly octets used numbers places steps t (g .carried) s o short pos rows p y e more in
+                record {
+                  grows = carried-grows octets used numbers places steps t (g .carried) s o short pos rows p y e more;
+                  layout = n .layout;
+                  reads = n .reads;
+                  few = n .few;
+                  on = λ {exit} put long left h.
+                      let is = item-left s o short pos rows (bookIn octets used) p y e (omega (arith, passed-lent .size, more)) octets exit left in
+                      let (c, same) = carried-new octets used numbers places steps t (g .carried) s o short pos rows p y e more exit is h in
+                      on put exit (length (bookImage (y .book))) (long ∙ g .size) c same;
+                };
+          }
+
+    pub passed-item : (gone : Gone) → movedOf (turnAt s here) ≡ moved.Item gone → Goes gone
+    passed-item gone e = let (p, y, is, same) = moved-item (turnAt s here) gone e in subst Goes same (item-goes p y is)

@@ -1,33 +1,27 @@
 -- The listing of a document, line by line, as octets. One space, 32, stands before every field of a line but the first word, and each line ends in 10.
-use Prim.Native.Nat.{ℕ, _≤_, _<_}
-use mathlib.Core.Path.{_≡_}
+use Prim.Native.Nat.{ℕ}
 use mathlib.Core.List.{List, [], _∷_, _++_}
-use mathlib.Core.Bool.{true, false}
+use mathlib.Core.Option.{Option, some, none}
 use lib.ListN.{length}
 use lib.IntN.{ℤ}
-use Rattle.octets.specs.Reading.{ok, no}
+use lib.Dec.{leb}
+use Rattle.octets.specs.Reading.{Read, ok, no, choose}
 use Rattle.octets.specs.Writing.{images}
 use Rattle.kinds.specs.Kinds as kinds
 use Rattle.kinds.specs.declared.Form.{Form}
 use Rattle.kinds.specs.declared.Form.the-variants as form
 use Rattle.layouts.specs.Layout.{Layout}
-use Rattle.layouts.specs.Book.{Book}
 use Rattle.rows.specs.Row.{Field, Row}
 use Rattle.headers.specs.Header.{Header, headerAt}
-use Rattle.elements.specs.Element.{Element, item, layout, row, finish, Stepped, elementAt}
-use Rattle.elements.specs.Steps.{isLast}
+use Rattle.elements.specs.Element.{Element, item, layout, row, finish}
+use Rattle.elements.specs.Walk.{Stop, ended, refused, Walk, Spot, spotAt, through}
+use Rattle.elements.specs.Reading.{elementsOf}
 use Rattle.questions.specs.Answers.{valueOf, octetsOf}
 use Rattle.kinds.specs.declared.Value.{Value}
 use Rattle.values.specs.Values.{valueText}
-use Rattle.printing.specs.Text.{Prints, spelt, showing, decimal, signed, refusal}
+use Rattle.printing.specs.Text.{spelt, showing, decimal, signed, refusal}
 use Rattle.printing.specs.declared.Show.the-variants.{Hex, Escaped}
 use Rattle.dates.specs.Times.{timeText}
-
--- What it is to print a text that is right.
-pub record Puts (Right : List ℕ → Type 0) (before : List ℕ) (n : ℕ) (after : List ℕ) (r : ℕ) : Type 0 where
-  pub text : List ℕ
-  pub right : Right text
-  pub prints : Prints before n text after r
 
 -- The version and the start time.
 abbrev pub headerText : ℤ → List ℕ
@@ -78,25 +72,28 @@ elementText at (item (layout l)) = layoutText at l
 elementText at (item (row r)) = rowText at r
 elementText at (finish n t) = endText at n (kinds.signed 8 t)
 
--- The lines from a place on, told the rows passed and over a book: up to the end, or to a refusal, which is the last line.
-pub data LinesFrom (s : List ℕ) : ℕ → ℕ → Book → List ℕ → Type 0 where
-  refused : {at rows : ℕ} {book : Book} (n p : ℕ) → elementAt s at rows book ≡ no n p → LinesFrom s at rows book (refusalText n p)
-  last : {at rows : ℕ} {book : Book} (st : Stepped) (next : ℕ) → elementAt s at rows book ≡ ok st next → isLast (st .element) ≡ true
-      → LinesFrom s at rows book (elementText at (st .element))
-  more : {at rows : ℕ} {book : Book} {rest : List ℕ} (st : Stepped) (next : ℕ) → elementAt s at rows book ≡ ok st next → isLast (st .element) ≡ false
-      → LinesFrom s next (st .rows) (st .book) rest → LinesFrom s at rows book (elementText at (st .element) ++ rest)
+-- What stands behind the elements' lines: that of a refusal, or nothing.
+abbrev pub stopText : Option Stop → List ℕ
+stopText none = []
+stopText (some (ended n t next)) = []
+stopText (some (refused n p)) = refusalText n p
+
+-- The lines of a walk: a line for each element met, and the refusal that it came to as the last.
+abbrev pub linesOf : Walk Spot → List ℕ
+linesOf w = images (λ p. elementText (p .place) (p .element)) (elementsOf (w .seen) (w .spot .at) (w .stop)) ++ stopText (w .stop)
 
 -- The listing of a document: the header's line and those of the elements from an empty book, or the header's refusal.
-pub data Listing (s : List ℕ) : List ℕ → Type 0 where
-  unheaded : (n p : ℕ) → headerAt s ≡ no n p → Listing s (refusalText n p)
-  headed : {rest : List ℕ} (h : Header) (next : ℕ) → headerAt s ≡ ok h next → LinesFrom s next 0 [] rest
-      → Listing s (headerText (kinds.signed 8 (h .start)) ++ rest)
+abbrev pub listingBy : List ℕ → Read Header → List ℕ
+listingBy s (ok h next) = headerText (kinds.signed 8 (h .start)) ++ linesOf (through s (spotAt next 0 []))
+listingBy s (no n p) = refusalText n p
+
+abbrev pub listing : List ℕ → List ℕ
+listing s = listingBy s (headerAt s)
 
 -- The only line of an input over the limit.
 abbrev pub tooLongText : List ℕ
 tooLongText = spelt "input too long\n"
 
 -- What the program prints of its input: the listing of a document of at most 65,536 octets.
-pub data Listed (s : List ℕ) : List ℕ → Type 0 where
-  long : 65536 < length s → Listed s tooLongText
-  short : {text : List ℕ} → length s ≤ 65536 → Listing s text → Listed s text
+abbrev pub listed : List ℕ → List ℕ
+listed s = choose (leb (length s) 65536) (λ _. listing s) (λ _. tooLongText)

@@ -9,18 +9,19 @@ ghost use Rattle.layouts.specs.Layout.{Layout};
 ghost use Rattle.rows.specs.Row.{Field, Row};
 ghost use Rattle.elements.specs.Element.{Stepped};
 ghost use Rattle.elements.specs.Steps.{stepAt};
-ghost use Rattle.elements.specs.Answers.{metOf, isLastMet};
+ghost use Rattle.elements.specs.Answers.{metOf};
+ghost use Rattle.elements.specs.Walk.{spotAt, through};
 ghost use Rattle.questions.specs.Questions.{rowAsked, fieldAsked, layoutAsked, partOf};
 ghost use Rattle.questions.specs.Answers.{octetsOf};
 ghost use Rattle.printing.specs.Text.{Prints};
-ghost use Rattle.listing.specs.Lines.{Puts, headerText, numbered, stringText, octetsText, wordText, fieldText, layoutText, rowText, endText, refusalText, elementText, LinesFrom, Listing, Listed};
+ghost use Rattle.listing.specs.Lines.{headerText, numbered, stringText, octetsText, wordText, fieldText, layoutText, rowText, endText, refusalText, elementText, linesOf, listing, listed};
 use elements::Met;
-use elements::Stepping;
 use kinds::Form;
 use kinds::Value;
 use printing::Show;
 use questions::Fielded;
 use reading::Headed;
+use walks::Moved;
 
 // The version and the start time.
 fn header_line(out: &mut [u8], start: i64) -> usize
@@ -197,17 +198,6 @@ fn element_line<'d, 'b, 'o>(
     }
 }
 
-// Whether an element is the end.
-fn is_end(met: Met) -> bool
-    ensures { λ r. ⌜ r ≡ isLastMet met ⌝ }
-{
-    match met {
-        Met::Layout(number, count) => false,
-        Met::Row(number, stated, count) => false,
-        Met::End(count, time) => true,
-    }
-}
-
 // A refusal as the last line.
 fn refused_line(out: &mut [u8], n: usize, number: u32, place: usize) -> usize
     ensures { λ r. ⌜ Prints (now (out .entry)) n (refusalText number place) (now (out .exit)) r ⌝ }
@@ -219,28 +209,53 @@ fn refused_line(out: &mut [u8], n: usize, number: u32, place: usize) -> usize
 // The lines of the elements from a place on, up to the end or a refusal.
 fn element_lines<'d, 'o>(doc: &'d [u8], at: usize, out: &'o mut [u8], n: usize) -> usize
     requires { ⌜ (at ≤ length (now doc)) × (length (now doc) ≤ 1048576) ⌝ }
-    ensures { λ r. ⌜ Puts (LinesFrom (now (doc .entry)) at 0 []) (now (out .entry)) n (now (out .exit)) r ⌝ }
+    ensures { λ r. ⌜ Prints (now (out .entry)) n (linesOf (through (now (doc .entry)) (spotAt at 0 []))) (now (out .exit)) r ⌝ }
 {
     let mut book = [0u8; 32768];
+    let mut numbers = [0u64; 64];
+    let mut places = [0usize; 64];
+    let mut steps = [0u16; 1216];
+    let mut tally = walks::nothing();
     let mut pos = at;
     let mut rows: usize = 0;
     let mut used: usize = 0;
     let mut to = n;
     loop {
-        let one = reading::step(doc, pos, rows, &mut book, used);
-        match one {
-            Stepping::Refused(number, place) => {
+        let moved = walks::turn(
+            doc,
+            pos,
+            rows,
+            &book[..used],
+            used,
+            &numbers,
+            &places,
+            tally.known,
+        );
+        match moved {
+            Moved::Refused(number, place) => {
                 return refused_line(out, to, number, place);
             }
-            Stepping::Done(step) => {
-                let met = step.met;
+            Moved::End(count, time, next) => {
+                return end_line(out, to, pos, count, time);
+            }
+            Moved::Item(gone) => {
+                let met = gone.met;
                 to = element_line(doc, pos, rows, &book, used, met, out, to);
-                if is_end(met) {
-                    return to;
+                if used < gone.used {
+                    elements::grow(doc, pos, gone.next, &mut book, used);
+                    tally = walks::keep(
+                        doc,
+                        pos + 4,
+                        used,
+                        &mut numbers,
+                        &mut places,
+                        &mut steps,
+                        tally,
+                    );
                 }
-                pos = step.next;
-                rows = step.rows;
-                used = step.used;
+                pos = gone.next;
+                rows = gone.rows;
+                used = gone.used;
             }
         }
     }
@@ -248,7 +263,7 @@ fn element_lines<'d, 'o>(doc: &'d [u8], at: usize, out: &'o mut [u8], n: usize) 
 
 // The lines of a document.
 fn lines<'d, 'o>(doc: &'d [u8], out: &'o mut [u8]) -> usize
-    ensures { λ r. ⌜ Puts (Listing (now (doc .entry))) (now (out .entry)) 0 (now (out .exit)) r ⌝ }
+    ensures { λ r. ⌜ Prints (now (out .entry)) 0 (listing (now (doc .entry))) (now (out .exit)) r ⌝ }
 {
     let headed = reading::header(doc);
     match headed {
@@ -263,7 +278,7 @@ fn lines<'d, 'o>(doc: &'d [u8], out: &'o mut [u8]) -> usize
 
 // What is printed of the input: its listing, or that it is too long to be listed.
 fn listed<'d, 'o>(doc: &'d [u8], out: &'o mut [u8]) -> usize
-    ensures { λ r. ⌜ Puts (Listed (now (doc .entry))) (now (out .entry)) 0 (now (out .exit)) r ⌝ }
+    ensures { λ r. ⌜ Prints (now (out .entry)) 0 (listed (now (doc .entry))) (now (out .exit)) r ⌝ }
 {
     if 65536 < doc.len() {
         return printing::show_all(out, 0, Show::Plain, b"input too long\n");

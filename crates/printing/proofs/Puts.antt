@@ -45,7 +45,7 @@ module _ (out : List ℕ) (n : ℕ) where
 
 -- One item more of a list of which each is shown.
 module _ {A : Type 0} (f : A → List ℕ) where
-  images-append : (xs ys : List A) → images f (xs ++ ys) ≡ images f xs ++ images f ys
+  pub images-append : (xs ys : List A) → images f (xs ++ ys) ≡ images f xs ++ images f ys
   unfolding images
   images-append [] ys = refl
   images-append (x ∷ xs) ys = ap (λ (l : List ℕ). f x ++ l) (images-append xs ys) ∙ sym (append-assoc (f x) (images f xs) (images f ys))

@@ -12,8 +12,7 @@ use borrow.Author.Tests.{eqb-true, eqb-false}
 use Rattle.octets.specs.Reading.{Read, choose}
 use Rattle.octets.specs.Writing.{images, Text}
 use Rattle.layouts.specs.Layout.{Layout, GoodLayout}
-use Rattle.layouts.specs.Book.{Book, find, bookImage}
-use Rattle.layouts.proofs.Books.{GoodBook}
+use Rattle.layouts.specs.Book.{Book, find, bookImage, GoodBook}
 use Rattle.rows.specs.Row.{Row, FieldsOf}
 use Rattle.headers.specs.Header.{Header, headerImage, GoodHeader}
 use Rattle.elements.specs.Element.{Item}

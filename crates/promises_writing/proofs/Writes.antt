@@ -15,13 +15,12 @@ use Rattle.kinds.specs.declared.Form.{Form}
 use Rattle.kinds.specs.declared.Form.the-variants as form
 use Rattle.kinds.specs.Kinds.{formOf}
 use Rattle.layouts.specs.Layout.{Layout, Attribute, GoodAttribute}
-use Rattle.layouts.specs.Book.{Book, find, isNone, bookImage, learn}
-use Rattle.layouts.proofs.Books.{GoodBook}
+use Rattle.layouts.specs.Book.{Book, find, isNone, bookImage, learn, GoodBook}
 use Rattle.layouts.proofs.Growing.{Learnt, learnt, grown, good-nil}
 use Rattle.rows.specs.Row.{Value, bits, held, Field, GoodValue, FieldsOf}
 use Rattle.headers.specs.Header.{headerImage, GoodNamespace}
 use Rattle.elements.specs.Element.{Item, layout, row}
-use Rattle.elements.specs.Steps.{reading}
+use Rattle.elements.specs.Reading.{reading}
 use Rattle.elements.specs.Document.{Document, itemImage, rowCount, image, GoodItems, Good, readingOf}
 use Rattle.promises.proofs.Documents.{complete, few}
 use Rattle.writing.specs.declared.Turn.the-variants as wants

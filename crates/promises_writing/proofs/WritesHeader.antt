@@ -10,10 +10,9 @@ use lib.Dec.{leb, eqb, eqb·suc-zero}
 use borrow.Author.Tests.{le-leb, eq-eqb}
 use Rattle.octets.specs.Reading.{Read, isOk}
 use Rattle.octets.specs.Writing.{word, textImage, images}
-use Rattle.layouts.specs.Book.{Book, bookImage}
-use Rattle.layouts.proofs.Books.{GoodBook}
+use Rattle.layouts.specs.Book.{Book, bookImage, GoodBook}
 use Rattle.headers.specs.Header.{Namespace, Header, namespaceImage, headerImage, GoodHeader}
-use Rattle.elements.proofs.Going.{holding-of}
+use Rattle.elements.proofs.Behind.{holding-of}
 use Rattle.writing.specs.declared.Turn.{Turn}
 use Rattle.writing.specs.declared.Turn.the-variants as wants
 use Rattle.writing.specs.Writer.{Call, recorder, startTime, defaultNamespace, namespaceCount, uri, shortName, serviceCount, service, documentId, Written, room, rule, fine, unless, put, turnAt, does}

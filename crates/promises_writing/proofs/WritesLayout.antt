@@ -16,12 +16,11 @@ use Rattle.kinds.specs.declared.Kind.{Kind}
 use Rattle.kinds.specs.Kinds.{numberOf, kindOf}
 use Rattle.kinds.proofs.Table.{code-known, kind-some}
 use Rattle.layouts.specs.Layout.{Attribute, Layout, attributeImage, layoutImage, GoodAttribute, GoodLayout}
-use Rattle.layouts.specs.Book.{Book, bookImage, learn}
-use Rattle.layouts.proofs.Books.{GoodBook}
+use Rattle.layouts.specs.Book.{Book, bookImage, learn, GoodBook}
 use Rattle.layouts.proofs.Growing.{learnt}
 use Rattle.elements.specs.Element.{layout}
 use Rattle.elements.specs.Document.{itemImage}
-use Rattle.elements.proofs.Going.{holding-of}
+use Rattle.elements.proofs.Behind.{holding-of}
 use Rattle.writing.specs.declared.Turn.{Turn}
 use Rattle.writing.specs.declared.Turn.the-variants as wants
 use Rattle.writing.specs.Writer.{Call, openLayout, typeName, attributeCount, attributeName, attributeType, rule, fine, unless, attributes, does}

@@ -17,13 +17,12 @@ use Rattle.kinds.specs.declared.Form.{Form}
 use Rattle.kinds.specs.declared.Form.the-variants as form
 use Rattle.kinds.specs.Kinds.{codeOf, formOf}
 use Rattle.layouts.specs.Layout.{Attribute, Layout, GoodLayout}
-use Rattle.layouts.specs.Book.{Book, find, bookImage}
-use Rattle.layouts.proofs.Books.{GoodBook}
+use Rattle.layouts.specs.Book.{Book, find, bookImage, GoodBook}
 use Rattle.layouts.proofs.Finding.{each-find}
 use Rattle.rows.specs.Row.{Value, bits, held, Field, Row, valueImage, fieldImage, lengthImage, GoodValue, FieldsOf}
 use Rattle.elements.specs.Element.{row}
 use Rattle.elements.specs.Document.{itemImage}
-use Rattle.elements.proofs.Going.{holding-of}
+use Rattle.elements.proofs.Behind.{holding-of}
 use Rattle.writing.specs.declared.Turn.the-variants as wants
 use Rattle.writing.specs.Writer.{openRow, value, closeRow, room, fine, unless, known, rowLayout, suits, isNext, does}
 use Rattle.writing.proofs.Values.{length-size}

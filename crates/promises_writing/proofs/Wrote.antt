@@ -15,9 +15,9 @@ use Rattle.octets.proofs.Spans.{length-word, word-octets, each-front, each-drop
 use Rattle.octets.proofs.Inverse.{after}
 use Rattle.layouts.specs.Book.{Book, bookImage, bookOf}
 use Rattle.layouts.proofs.Growing.{good-nil}
-use Rattle.elements.specs.Steps.{reading}
+use Rattle.elements.specs.Reading.{reading}
 use Rattle.elements.specs.Document.{Document, rowCount, image, readingOf}
-use Rattle.elements.proofs.Going.{holding-of}
+use Rattle.elements.proofs.Behind.{holding-of}
 use Rattle.promises.proofs.Documents.{one-meaning}
 use Rattle.writing.specs.declared.Turn.{Turn}
 use Rattle.writing.specs.declared.Turn.the-variants as wants

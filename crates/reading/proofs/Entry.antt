@@ -1,15 +1,16 @@
 -- The equations of the entry points: the header of a document, and what the whole check answers behind it.
 use Prim.Native.Nat.{ℕ, _+_, _≤_, _<_}
-use mathlib.Core.Path.{_≡_, refl, ap}
+use mathlib.Core.Path.{_≡_, refl, ap, _∙_}
 use mathlib.Core.List.{List, []}
-use native.Mathlib.Omega.{arith}
 use lib.ListN.{length}
 use borrow.Author.Tests.{le-leb, lt-leb}
 use Rattle.octets.specs.Reading.{Read, ok, no, _then_, isOk, be, number}
 use Rattle.octets.proofs.Inverse.{ok-value}
 use Rattle.octets.proofs.Ends.{number-ok, number-room}
 use Rattle.headers.specs.Header.{Header, headerFrom, headerAt}
-use Rattle.elements.specs.Steps.{Placed, Reading, elementsFrom, reading, rowsOf, counted, whole}
+use Rattle.elements.specs.Walk.{spotAt, through}
+use Rattle.elements.specs.Reading.{rowsRead, reading, whole}
+use Rattle.elements.proofs.Readings.{whole-through}
 
 -- The header of a document, too long or not.
 module _ (s : List ℕ) where
@@ -26,16 +27,8 @@ module _ (s : List ℕ) where
   unfolding whole reading
   whole-refused n p e = rw e refl
 
-  pub whole-from : (h : Header) (next : ℕ) → headerAt s ≡ ok h next → whole s ≡ counted 0 (elementsFrom (length s + 1) s next 0 [])
-  unfolding whole reading
-  whole-from h next e = rw e (go (elementsFrom (length s + 1) s next 0 []))
-    where
-      none : (n : ℕ) → n ≡ 0 + n
-      none n = omega arith
-
-      go : (r : Read (List Placed)) → ((r then λ elements end. ok (record { header = h; elements = elements }) end) then λ (x : Reading) end. ok (rowsOf (x .elements)) end) ≡ counted 0 r
-      go (ok elements end) = ap (λ (n : ℕ). ok n end) (none (rowsOf elements))
-      go (no n p) = refl
+  pub whole-from : (h : Header) (next : ℕ) → headerAt s ≡ ok h next → whole s ≡ rowsRead (through s (spotAt next 0 []))
+  whole-from h next e = whole-through s ∙ ap (λ (r : Read Header). r then λ _ place. rowsRead (through s (spotAt place 0 []))) e
 
   -- A number that is read where it stands.
   pub number-is : (w at n next : ℕ) → number w s at ≡ ok n next → (at + w ≤ length s) × (be w s at ≡ n)

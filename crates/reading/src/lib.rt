@@ -2,12 +2,13 @@
 
 ghost use mathlib.Core.Path.{_≡_};
 ghost use Rattle.headers.specs.Header.{headerAt};
-ghost use Rattle.elements.specs.Steps.{stepAt, leaves, whole};
+ghost use Rattle.elements.specs.Steps.{stepAt, leaves};
+ghost use Rattle.elements.specs.Reading.{whole};
 ghost use Rattle.elements.specs.Answers.{tells};
 ghost use Rattle.reading.specs.Answers.{headTells, checkTells};
-use elements::Counting;
 use elements::Stepping;
 use headers::Placing;
+use walks::Counting;
 
 // The header's numbers: the start time, how many other namespaces and service definitions there are, and the place behind the header.
 pub struct Head {
@@ -86,7 +87,7 @@ pub fn whole(doc: &[u8]) -> Checked
     match placing {
         Placing::Refused(n, p) => Checked::Refused(n, p),
         Placing::At(places) => {
-            let rows = elements::rows_from(doc, places.end);
+            let rows = walks::rows_from(doc, places.end);
             match rows {
                 Counting::Refused(n, p) => Checked::Refused(n, p),
                 Counting::Rows(n, end) => Checked::Rows(n),

@@ -3,7 +3,7 @@ use Prim.Native.Nat.{ℕ, _/_, _%_, _<_}
 use mathlib.Core.Path.{_≡_}
 use mathlib.Core.Bool.{true, false}
 use native.Mathlib.Omega.{arith}
-use Rattle.plans.specs.Rows.{rowWord}
+use Rattle.walks.specs.Rows.{rowWord}
 use Rattle.runs.specs.Runs.{layoutWord}
 
 -- What is read off a word.

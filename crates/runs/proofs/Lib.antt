@@ -1,8 +1,4 @@
-mod Steps
-mod Mets
+pub mod Apart
+pub mod Over
 pub mod Runs
-mod Rows
-mod Carrying
-pub mod Entry
-mod Apart
 pub mod Contracts

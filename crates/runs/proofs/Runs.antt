@@ -1,96 +1,129 @@
--- A run on its way: what it will have passed in all is what it has passed and what it will pass from here.
+-- A run on its way, and what it answers: refused as its first step is, else by the items of its way and where it stands behind them.
 use Prim.Native.Nat.{ℕ, zero, suc, _+_, _-_, _≤_, _<_}
-use mathlib.Core.Path.{_≡_, refl, sym, ap, _∙_}
-use mathlib.Core.List.{List, [], _∷_, _++_, append-assoc, append-nil}
-use mathlib.Core.Bool.{Bool, true, false, cond}
+use mathlib.Core.Path.{_≡_, refl, sym, ap, _∙_, subst}
+use mathlib.Core.List.{List, [], _∷_, _++_, append-nil}
+use mathlib.Core.Option.{Option, some, none}
 use native.Mathlib.Omega.{arith}
 use lib.ListN.{length, set, length-append}
-use Rattle.octets.specs.Reading.{Read, ok, no}
-use Rattle.octets.proofs.Ends.{left-suc}
-use Rattle.layouts.specs.Book.{bookImage}
-use Rattle.elements.specs.Element.{Item, Element, item, finish, Stepped}
-use Rattle.elements.specs.Steps.{holding, stepAt}
-use Rattle.plans.specs.Rows.{laid}
-use Rattle.plans.proofs.Rows.{laid-more}
-use Rattle.runs.specs.Runs.{itemWord, Passed, stopped, behind, ofItem, onItem, runFrom}
-use Rattle.runs.specs.Answers.{isItem, wentOf}
+use Rattle.octets.specs.Reading.{ok, no}
+use Rattle.elements.specs.Element.{Stepped}
+use Rattle.elements.specs.Steps.{stepAt}
+use Rattle.elements.specs.Walk.{Stop, ended, refused, Seen, goes, stops, behind, walk, Path, Lent, lentOf, turnOver}
+use Rattle.elements.proofs.Walks.{walk-none, walk-stops, path-walk, path-join, path-one}
+use Rattle.elements.proofs.Turns.{took-over, refuses, ends}
+use Rattle.walks.specs.Rows.{laid}
+use Rattle.walks.proofs.Rows.{laid-both}
+use Rattle.runs.specs.Runs.{itemWord, wordsOf, runAsked}
+use Rattle.runs.specs.Answers.{Ran}
 use Rattle.runs.specs.declared.Went.{Went}
+use Rattle.runs.specs.declared.Running.the-variants as running
 
--- What follows a step that reads no item.
-stops : {A : Type 0} (r : Read Stepped) (f : Stepped → Item → ℕ → A) (d : A) → isItem r ≡ false → onItem r f d ≡ d
-stops (no n p) f d h = refl
-stops (ok st next) f d h = go (st .element) h
-  where
-    go : (x : Element) → ofItem x (λ _. true) false ≡ false → ofItem x (λ i. f st i next) d ≡ d
-    go (item i) h = absurd (let z : _≡_ {A = ℕ} 1 0 = ap (λ (b : Bool). cond b 1 0) h in omega arith)
-    go (finish n t) h = refl
+words-append : (ps qs : List Seen) → wordsOf (ps ++ qs) ≡ wordsOf ps ++ wordsOf qs
+words-append [] qs = refl
+words-append (p ∷ ps) qs = ap (λ (ws : List ℕ). itemWord (p .which) (p .next) ∷ ws) (words-append ps qs)
 
-pub run-stops : (k : ℕ) (s : List ℕ) (at rows : ℕ) (octets : List ℕ) (used : ℕ) → isItem (stepAt s at rows octets used) ≡ false
-    → runFrom k s at rows octets used ≡ stopped at rows octets used
-unfolding runFrom
-run-stops zero s at rows octets used h = refl
-run-stops (suc k) s at rows octets used h = stops (stepAt s at rows octets used) _ (stopped at rows octets used) h
-
-pub run-none : (s : List ℕ) (at rows : ℕ) (octets : List ℕ) (used : ℕ) → runFrom 0 s at rows octets used ≡ stopped at rows octets used
-unfolding runFrom
-run-none s at rows octets used = refl
-
-pub run-goes : (k : ℕ) (s : List ℕ) (at rows : ℕ) (octets : List ℕ) (used : ℕ) (st : Stepped) (i : Item) (next : ℕ) → stepAt s at rows octets used ≡ ok st next
-    → st .element ≡ item i
-    → runFrom (suc k) s at rows octets used ≡ behind (itemWord i next ∷ []) (runFrom k s next (st .rows) (holding (st .book) octets) (length (bookImage (st .book))))
-unfolding runFrom
-run-goes k s at rows octets used st i next e t = rw (e, t) refl
-
-behind-more : (xs ys : List ℕ) (p : Passed) → behind (xs ++ ys) p ≡ behind xs (behind ys p)
-behind-more xs ys p =
-    ap (λ (ws : List ℕ). record { words = ws; next = p .next; rows = p .rows; octets = p .octets; used = p .used }) (append-assoc xs ys (p .words))
+words-length : (ps : List Seen) → length (wordsOf ps) ≡ length ps
+words-length [] = refl
+words-length (p ∷ ps) = ap (λ (n : ℕ). suc n) (words-length ps)
 
 -- A run that began over some octets and words and is now at a place, n items further on.
-pub record OnWay (s : List ℕ) (at rows : ℕ) (entry : List ℕ) (used : ℕ) (lent words octets : List ℕ) (pos passed filled n : ℕ) : Type 0 where
-  pub told : List ℕ
-  pub count : length told ≡ n
+pub record OnRun (s : List ℕ) (x : Lent) (lent words : List ℕ) (n : ℕ) (here : Lent) : Type 0 where
+  pub passed : List Seen
+  pub count : length passed ≡ n
   pub few : n ≤ 4096
-  pub put : words ≡ laid 0 told lent
-  pub same : runFrom 4096 s at rows entry used ≡ behind told (runFrom (4096 - n) s pos passed octets filled)
+  pub put : words ≡ laid 0 (wordsOf passed) lent
+  pub path : Path (turnOver s) x passed here
 
-module _ (s : List ℕ) (at rows : ℕ) (entry : List ℕ) (used : ℕ) (lent : List ℕ) where
-  pub started : OnWay s at rows entry used lent lent entry at rows used 0
-  started = record { told = []; count = refl; few = omega arith; put = refl; same = refl }
+module _ (s : List ℕ) (x : Lent) (lent : List ℕ) where
+  pub run-start : OnRun s x lent lent 0 x
+  run-start = record { passed = []; count = refl; few = omega arith; put = refl; path = refl }
 
-  module _ {words octets : List ℕ} {pos passed filled n : ℕ} (w : OnWay s at rows entry used lent words octets pos passed filled n) where
-    pub goes : (st : Stepped) (i : Item) (next : ℕ) → n < 4096 → stepAt s pos passed octets filled ≡ ok st next → st .element ≡ item i
-        → OnWay s at rows entry used lent (set words n (itemWord i next)) (holding (st .book) octets) next (st .rows) (length (bookImage (st .book))) (n + 1)
-    goes st i next h e t =
+  module _ {words : List ℕ} {n : ℕ} {here : Lent} (w : OnRun s x lent words n here) where
+    -- A way further on, with its words.
+    pub run-path : (seen : List Seen) (there : Lent) → Path (turnOver s) here seen there → n + length seen ≤ 4096
+        → OnRun s x lent (laid n (wordsOf seen) words) (n + length seen) there
+    run-path seen there h room =
+        let long : n ≡ 0 + length (wordsOf (w .passed)) = omega (arith, w .count, words-length (w .passed)) in
         record {
-          told = w .told ++ itemWord i next ∷ [];
-          count = length-append (w .told) (itemWord i next ∷ []) ∙ ap (λ (k : ℕ). k + 1) (w .count);
-          few = omega arith;
+          passed = w .passed ++ seen;
+          count = length-append (w .passed) seen ∙ ap (λ (k : ℕ). k + length seen) (w .count);
+          few = room;
           put =
-              ap (λ (xs : List ℕ). set xs n (itemWord i next)) (w .put) ∙ ap (λ (k : ℕ). set (laid 0 (w .told) lent) k (itemWord i next)) behind-told
-              ∙ sym (laid-more 0 (w .told) (itemWord i next) lent);
-          same =
-              w .same
-              ∙ (ap (behind (w .told)) (ap (λ (k : ℕ). runFrom k s pos passed octets filled) (left-suc 4096 n h) ∙ run-goes (4096 - (n + 1)) s pos passed octets filled st i next e t)
-              ∙ sym (behind-more (w .told) (itemWord i next ∷ []) (runFrom (4096 - (n + 1)) s next (st .rows) (holding (st .book) octets) (length (bookImage (st .book))))));
+              ap (laid n (wordsOf seen)) (w .put) ∙ (ap (λ (k : ℕ). laid k (wordsOf seen) (laid 0 (wordsOf (w .passed)) lent)) long
+              ∙ (sym (laid-both 0 (wordsOf (w .passed)) (wordsOf seen) lent) ∙ ap (λ (ws : List ℕ). laid 0 ws lent) (sym (words-append (w .passed) seen))));
+          path = path-join (turnOver s) (w .passed) seen x here there (w .path) h;
         }
+
+    pub run-item : (p : Seen) (there : Lent) → turnOver s here ≡ goes p there → n < 4096 → OnRun s x lent (set words n (itemWord (p .which) (p .next))) (n + 1) there
+    run-item p there e h = run-path (p ∷ []) there (path-one (turnOver s) p here there e) (omega arith)
+
+    -- What the walk is where the run stops, and where it is full.
+    pub run-stops : (e : Stop) → turnOver s here ≡ stops e → n < 4096 → walk (turnOver s) 4096 x ≡ record { seen = w .passed; spot = here; stop = some e }
+    run-stops e h room =
+        ap (λ (k : ℕ). walk (turnOver s) k x) (let sum : 4096 ≡ length (w .passed) + suc (4095 - n) = omega (arith, w .count) in sum)
+        ∙ (path-walk (turnOver s) (w .passed) (suc (4095 - n)) x here (w .path) ∙ (ap (behind (w .passed)) (walk-stops (turnOver s) (4095 - n) here e h)
+        ∙ ap (λ (ps : List Seen). record { seen = ps; spot = here; stop = some e }) (append-nil (w .passed))))
+
+    pub run-full : n ≡ 4096 → walk (turnOver s) 4096 x ≡ record { seen = w .passed; spot = here; stop = none }
+    run-full h =
+        ap (λ (k : ℕ). walk (turnOver s) k x) (let sum : 4096 ≡ length (w .passed) + 0 = omega (arith, w .count) in sum)
+        ∙ (path-walk (turnOver s) (w .passed) 0 x here (w .path) ∙ (ap (behind (w .passed)) (walk-none (turnOver s) here)
+        ∙ ap (λ (ps : List Seen). record { seen = ps; spot = here; stop = none }) (append-nil (w .passed))))
+
+    -- The first step is read where an item was passed.
+    first-read : 0 < n → (st : Stepped) × (next : ℕ) × (stepAt s (x .at) (x .rows) (x .octets) (x .used) ≡ ok st next)
+    first-read h = go (w .passed) (w .path) (omega (arith, w .count))
       where
-        behind-told : n ≡ 0 + length (w .told)
-        behind-told = omega (arith, w .count)
+        go : (ps : List Seen) → Path (turnOver s) x ps here → 0 < length ps → (st : Stepped) × (next : ℕ) × (stepAt s (x .at) (x .rows) (x .octets) (x .used) ≡ ok st next)
+        go [] q h = absurd (omega arith)
+        go (p ∷ ps) q h = let t = took-over s x p (q .0) (q .1) in (t .stepped, p .next, t .reads)
 
-    -- A run that stops here.
-    all : runFrom (4096 - n) s pos passed octets filled ≡ stopped pos passed octets filled
-        → runFrom 4096 s at rows entry used ≡ record { words = w .told; next = pos; rows = passed; octets = octets; used = filled }
-    all stop =
-        w .same
-        ∙ (ap (behind (w .told)) stop
-        ∙ ap (λ (ws : List ℕ). record { words = ws; next = pos; rows = passed; octets = octets; used = filled }) (append-nil (w .told)))
+    none-passed : n ≡ 0 → x ≡ here
+    none-passed h = go (w .passed) (w .path) (w .count ∙ h)
+      where
+        go : (ps : List Seen) → Path (turnOver s) x ps here → length ps ≡ 0 → x ≡ here
+        go [] q z = q
+        go (p ∷ ps) q z = absurd (omega arith)
 
-    pub answered : runFrom (4096 - n) s pos passed octets filled ≡ stopped pos passed octets filled
-        → (_≡_ {A = Went} (record { count = n; next = pos; rows = passed; used = filled }) (wentOf (runFrom 4096 s at rows entry used)))
-        × (octets ≡ runFrom 4096 s at rows entry used .octets) × (words ≡ laid 0 (runFrom 4096 s at rows entry used .words) lent)
-    answered stop =
-        let whole = all stop in (
-          ap (λ (k : ℕ). record { count = k; next = pos; rows = passed; used = filled }) (sym (w .count)) ∙ sym (ap wentOf whole),
-          sym (ap (λ (p : Passed). p .octets) whole),
-          w .put ∙ sym (ap (λ (p : Passed). laid 0 (p .words) lent) whole),
-        )
+    -- What is answered.
+    answer : (st : Stepped) (next : ℕ) → stepAt s (x .at) (x .rows) (x .octets) (x .used) ≡ ok st next → (e : Option Stop)
+        → walk (turnOver s) 4096 x ≡ record { seen = w .passed; spot = here; stop = e }
+        → Ran (x .octets) lent (runAsked s x) (here .octets) words (running.Went (record { count = n; next = here .at; rows = here .rows; used = here .used }))
+    unfolding runAsked
+    answer st next first e is =
+        rw (first, is)
+        (ap (λ (k : ℕ). running.Went (record { count = k; next = here .at; rows = here .rows; used = here .used })) (sym (w .count)), refl, w .put)
+
+    pub went-some : 0 < n → (e : Option Stop) → walk (turnOver s) 4096 x ≡ record { seen = w .passed; spot = here; stop = e }
+        → Ran (x .octets) lent (runAsked s x) (here .octets) words (running.Went (record { count = n; next = here .at; rows = here .rows; used = here .used }))
+    went-some h e is = let (st, next, first) = first-read h in answer st next first e is
+
+    pub went-end : (m t next : ℕ) → turnOver s here ≡ stops (ended m t next) → n < 4096
+        → Ran (x .octets) lent (runAsked s x) (here .octets) words (running.Went (record { count = n; next = here .at; rows = here .rows; used = here .used }))
+    went-end m t next h room = go n refl
+      where
+        go : (k : ℕ) → n ≡ k → Ran (x .octets) lent (runAsked s x) (here .octets) words (running.Went (record { count = n; next = here .at; rows = here .rows; used = here .used }))
+        go (suc k) q = went-some (omega arith) (some (ended m t next)) (run-stops (ended m t next) h room)
+        go zero q =
+            let y : Lent = here in
+            let (st, reads, _) = ends (lentOf (y .octets)) (y .at) (stepAt s (y .at) (y .rows) (y .octets) (y .used)) m t next h in
+            answer st next (subst (λ (z : Lent). stepAt s (z .at) (z .rows) (z .octets) (z .used) ≡ ok st next) (sym (none-passed q)) reads) (some (ended m t next))
+            (run-stops (ended m t next) h room)
+
+    pub went-refused : (m p : ℕ) → turnOver s here ≡ stops (refused m p) → n ≡ 0 → Ran (x .octets) lent (runAsked s x) (here .octets) words (running.Refused m p)
+    unfolding runAsked
+    went-refused m p h q =
+        let y : Lent = here in
+        let same = none-passed q in
+        let reads = refuses (lentOf (y .octets)) (y .at) (stepAt s (y .at) (y .rows) (y .octets) (y .used)) m p h in
+        let first : stepAt s (x .at) (x .rows) (x .octets) (x .used) ≡ no m p = subst (λ (z : Lent). stepAt s (z .at) (z .rows) (z .octets) (z .used) ≡ no m p) (sym same) reads in
+        rw first (refl, ap (λ (z : Lent). z .octets) (sym same), w .put ∙ nothing (w .passed) (w .count ∙ q))
+      where
+        nothing : (ps : List Seen) → length ps ≡ 0 → laid 0 (wordsOf ps) lent ≡ lent
+        nothing [] z = refl
+        nothing (r ∷ ps) z = absurd (omega arith)
+
+  -- A run whose first step is refused.
+  pub asked-no : (n p : ℕ) → stepAt s (x .at) (x .rows) (x .octets) (x .used) ≡ no n p → runAsked s x ≡ no n p
+  unfolding runAsked
+  asked-no n p e = rw e refl

@@ -3,28 +3,13 @@
 ghost use mathlib.Core.Path.{_≡_};
 ghost use Prim.Native.Nat.{_≤_, _<_};
 ghost use lib.ListN.{length};
-ghost use Rattle.layouts.specs.Book.{IsBook};
+ghost use Rattle.layouts.specs.Book.{Book, IsBook};
+ghost use Rattle.elements.specs.Walk.{spotAt, turnAt, lentAt};
+ghost use Rattle.walks.specs.Answers.{movedOf, Bears, Borne};
 ghost use Rattle.runs.specs.Runs.{layoutWord, runAsked, reachOf};
-ghost use Rattle.runs.specs.Answers.{Carried, Turns, Ran, runTells, bookLeft, wordsLeft};
+ghost use Rattle.runs.specs.Answers.{metWord, boundTurn, Ran, runTells, bookLeft, wordsLeft};
 use elements::Met;
-use elements::Stepping;
-use plans::Tally;
-
-// One step of a run: its item's word, the next place, the rows passed, the octets of the book that are used, and the tally of its layouts.
-pub struct Gone {
-    pub word: u64,
-    pub next: usize,
-    pub rows: usize,
-    pub used: usize,
-    pub tally: Tally,
-}
-
-// What stands at a place: an item, the end, or what the step there refuses.
-pub enum Turn {
-    Item(Gone),
-    End,
-    Refused(u32, usize),
-}
+use walks::Moved;
 
 // How many items a run has passed, and where it stands then.
 pub struct Went {
@@ -47,109 +32,36 @@ fn layout_word(number: u32, next: usize) -> u64
     (number as u64) * 4294967296 + (next as u64)
 }
 
-// The item at a place by the exact reader; a layout that the book grows by is kept by its place there, with a plan if there is room.
-fn exact_item<'d, 'b, 'n, 'l, 't, 'p>(
-    doc: &'d [u8],
-    at: usize,
-    rows: usize,
-    book: &'b mut [u8],
-    used: usize,
-    numbers: &'n mut [u32; 64],
-    places: &'l mut [usize; 64],
-    titles: &'t mut [u32; 64],
-    steps: &'p mut [u16; 1216],
-    tally: Tally,
-) -> Turn
-    requires { ⌜ (at ≤ length (now doc)) × (length (now doc) ≤ 1048576) × (rows ≤ 1048576) × IsBook (now book) used × Carried (now book) used (now numbers) (now places) (now titles) (now steps) tally ⌝ }
-    ensures { λ r. ⌜ Turns (now (doc .entry)) at rows (now (book .entry)) used (now (book .exit)) (now (numbers .exit)) (now (places .exit)) (now (titles .exit)) (now (steps .exit)) r ⌝ }
+// An item in one number, by what is told of it.
+fn item_word(met: Met, next: usize) -> u64
+    requires { ⌜ next < 1073741824 ⌝ }
+    ensures { λ r. ⌜ r ≡ metWord met next ⌝ }
 {
-    let looked = plans::look_up(
-        numbers,
-        places,
-        tally.known,
-        elements::number_behind(doc, at),
-    );
-    let one = elements::element_by(doc, at, rows, book, used, looked);
-    match one {
-        Stepping::Refused(n, p) => Turn::Refused(n, p),
-        Stepping::Done(step) => {
-            let met = step.met;
-            let next = step.next;
-            let filled = step.used;
-            match met {
-                Met::End(count, time) => Turn::End,
-                Met::Layout(number, count) => {
-                    let word = layout_word(number, next);
-                    if used < filled {
-                        let more = plans::keep(
-                            doc,
-                            at + 4,
-                            used,
-                            numbers,
-                            places,
-                            titles,
-                            steps,
-                            tally,
-                        );
-                        return Turn::Item(Gone {
-                            word,
-                            next,
-                            rows: step.rows,
-                            used: filled,
-                            tally: more,
-                        });
-                    }
-                    Turn::Item(Gone {
-                        word,
-                        next,
-                        rows: step.rows,
-                        used: filled,
-                        tally,
-                    })
-                }
-                Met::Row(number, stated, count) => Turn::Item(Gone {
-                    word: plans::row_word(number, stated, next),
-                    next,
-                    rows: step.rows,
-                    used: filled,
-                    tally,
-                }),
-            }
-        }
+    match met {
+        Met::Layout(number, count) => layout_word(number, next),
+        Met::Row(number, stated, count) => walks::row_word(number, stated, next),
+        Met::End(count, time) => 0,
     }
 }
 
-// The item at a place by the exact reader, unless the rows passed are too many for a step.
-fn next_item<'d, 'b, 'n, 'l, 't, 'p>(
+// One turn of a run, unless the rows passed are too many for a step.
+fn next_turn<'d, 's, 'n, 'l>(
     doc: &'d [u8],
     at: usize,
     rows: usize,
-    book: &'b mut [u8],
+    shelf: &'s [u8],
     used: usize,
-    numbers: &'n mut [u32; 64],
-    places: &'l mut [usize; 64],
-    titles: &'t mut [u32; 64],
-    steps: &'p mut [u16; 1216],
-    tally: Tally,
-) -> Turn
-    requires { ⌜ (at ≤ length (now doc)) × (length (now doc) ≤ 1048576) × IsBook (now book) used × Carried (now book) used (now numbers) (now places) (now titles) (now steps) tally ⌝ }
-    ensures { λ r. ⌜ Turns (now (doc .entry)) at rows (now (book .entry)) used (now (book .exit)) (now (numbers .exit)) (now (places .exit)) (now (titles .exit)) (now (steps .exit)) r ⌝ }
+    numbers: &'n [u64; 64],
+    places: &'l [usize; 64],
+    known: usize,
+) -> Moved
+    requires { ⌜ (length (now doc) ≤ 1048576) × (length (now shelf) ≤ 1048576) × Borne (now shelf) used (now numbers) (now places) known ⌝ }
+    ensures { λ r. ⌜ ((book : Book) → Bears (now (shelf .entry)) used (now (numbers .entry)) (now (places .entry)) known book → r ≡ movedOf (boundTurn rows (turnAt (now (doc .entry)) (spotAt at rows book)))) ⌝ }
 {
     if 1048576 < rows {
-        return Turn::Refused(17, 0);
+        return Moved::Refused(17, 0);
     }
-    exact_item(
-        doc,
-        at,
-        rows,
-        book,
-        used,
-        numbers,
-        places,
-        titles,
-        steps,
-        tally,
-    )
+    walks::turn(doc, at, rows, shelf, used, numbers, places, known)
 }
 
 // The index up to which rows may follow one another behind so many items and so many rows: no step is told more than 1,048,576 rows.
@@ -177,44 +89,45 @@ fn items<'d, 'b, 'w>(
     words: &'w mut [u64; 4096],
 ) -> Running
     requires { ⌜ (at ≤ length (now doc)) × (length (now doc) ≤ 1048576) × (rows ≤ 1048576) × IsBook (now book) used ⌝ }
-    ensures { λ r. ⌜ Ran (now (book .entry)) (now (words .entry)) (runAsked (now (doc .entry)) at rows (now (book .entry)) used) (now (book .exit)) (now (words .exit)) r ⌝ }
+    ensures { λ r. ⌜ Ran (now (book .entry)) (now (words .entry)) (runAsked (now (doc .entry)) (lentAt at rows (now (book .entry)) used)) (now (book .exit)) (now (words .exit)) r ⌝ }
 {
-    let mut numbers = [0u32; 64];
+    let mut numbers = [0u64; 64];
     let mut places = [0usize; 64];
-    let mut titles = [0u32; 64];
     let mut steps = [0u16; 1216];
-    let mut tally = plans::index(
-        &book[..used],
-        &mut numbers,
-        &mut places,
-        &mut titles,
-        &mut steps,
-    );
+    let mut tally = walks::index(&book[..used], &mut numbers, &mut places, &mut steps);
     let mut pos = at;
     let mut passed = rows;
     let mut filled = used;
     let mut n: usize = 0;
     while n < 4096 {
         let to = reach(n, passed);
-        let stretch = plans::quick_rows(doc, pos, &titles, &steps, tally.plans, words, n, to);
+        let stretch = walks::rows_on(
+            doc,
+            pos,
+            &numbers,
+            &steps,
+            tally.known,
+            &numbers,
+            words,
+            n,
+            to,
+        );
         pos = stretch.next;
         passed += stretch.count - n;
         n = stretch.count;
         if n < 4096 {
-            let turn = next_item(
+            let moved = next_turn(
                 doc,
                 pos,
                 passed,
-                book,
+                &book[..filled],
                 filled,
-                &mut numbers,
-                &mut places,
-                &mut titles,
-                &mut steps,
-                tally,
+                &numbers,
+                &places,
+                tally.known,
             );
-            match turn {
-                Turn::Refused(number, place) => {
+            match moved {
+                Moved::Refused(number, place) => {
                     if n == 0 {
                         return Running::Refused(number, place);
                     }
@@ -225,7 +138,7 @@ fn items<'d, 'b, 'w>(
                         used: filled,
                     });
                 }
-                Turn::End => {
+                Moved::End(count, time, next) => {
                     return Running::Went(Went {
                         count: n,
                         next: pos,
@@ -233,13 +146,25 @@ fn items<'d, 'b, 'w>(
                         used: filled,
                     });
                 }
-                Turn::Item(gone) => {
-                    words[n] = gone.word;
+                Moved::Item(gone) => {
+                    let met = gone.met;
+                    words[n] = item_word(met, gone.next);
                     n += 1;
+                    if filled < gone.used {
+                        elements::grow(doc, pos, gone.next, book, filled);
+                        tally = walks::keep(
+                            doc,
+                            pos + 4,
+                            filled,
+                            &mut numbers,
+                            &mut places,
+                            &mut steps,
+                            tally,
+                        );
+                    }
                     pos = gone.next;
                     passed = gone.rows;
                     filled = gone.used;
-                    tally = gone.tally;
                 }
             }
         }
@@ -261,7 +186,7 @@ pub fn run<'d, 'b, 'w>(
     used: usize,
     words: &'w mut [u64; 4096],
 ) -> Running
-    ensures { λ r. ⌜ (r ≡ runTells (runAsked (now (doc .entry)) at rows (now (book .entry)) used)) × (now (book .exit) ≡ bookLeft (now (book .entry)) (runAsked (now (doc .entry)) at rows (now (book .entry)) used)) × (now (words .exit) ≡ wordsLeft (now (words .entry)) (runAsked (now (doc .entry)) at rows (now (book .entry)) used)) ⌝ }
+    ensures { λ r. ⌜ (r ≡ runTells (runAsked (now (doc .entry)) (lentAt at rows (now (book .entry)) used))) × (now (book .exit) ≡ bookLeft (now (book .entry)) (runAsked (now (doc .entry)) (lentAt at rows (now (book .entry)) used))) × (now (words .exit) ≡ wordsLeft (now (words .entry)) (runAsked (now (doc .entry)) (lentAt at rows (now (book .entry)) used))) ⌝ }
 {
     if 1048576 < doc.len() {
         return Running::Refused(2, 0);

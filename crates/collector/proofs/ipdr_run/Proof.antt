@@ -6,7 +6,8 @@ use Prim.Native.Nat.{ℕ}
 use mathlib.Core.Path.{_≡_, sym, ap, _∙_, subst}
 use mathlib.Core.List.{List}
 use Rattle.octets.specs.Reading.{Read}
-use Rattle.runs.specs.Runs.{Passed, runAsked}
+use Rattle.elements.specs.Walk.{Walk, Lent, lentAt}
+use Rattle.runs.specs.Runs.{runAsked}
 use Rattle.runs.specs.declared.Running.{Running}
 use Rattle.collector.specs.Calls.{answered, Packs, runLeaves}
 use Rattle.collector.proofs.Stays.{run-packs}
@@ -22,8 +23,8 @@ abbrev Start : Answered → tie.Start
 Start v = v .before .before .before .before .before
 
 module _ (v : Answered) where
-  abbrev asked : Read Passed
-  asked = let a = Start v .args in runAsked (now (a .doc)) (a .at) (a .rows) (now (a .book)) (a .used)
+  abbrev asked : Read (Walk Lent)
+  asked = let a = Start v .args in runAsked (now (a .doc)) (lentAt (a .at) (a .rows) (now (a .book)) (a .used))
 
   abbrev out : List ℕ
   out = now (Start v .args .out)

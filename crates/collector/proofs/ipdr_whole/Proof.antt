@@ -4,7 +4,7 @@ use denote.Ref.{now}
 use Prim.Native.Nat.{ℕ}
 use mathlib.Core.Path.{_≡_, sym, ap, _∙_, subst}
 use mathlib.Core.List.{List}
-use Rattle.elements.specs.Steps.{whole}
+use Rattle.elements.specs.Reading.{whole}
 use Rattle.reading.specs.declared.Checked.{Checked}
 use Rattle.collector.specs.Calls.{answered, Packs, countLeaves}
 use Rattle.collector.proofs.Stays.{whole-packs}

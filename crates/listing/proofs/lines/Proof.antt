@@ -1,7 +1,7 @@
 -- `listing::lines` meets its contract: the listing of the document. Assumes nothing.
 use borrow.Author.Needs.{needs}
 use mathlib.Core.Path.{_≡_, sym, ap, _∙_, subst}
-use mathlib.Core.List.{List, [], _++_}
+use mathlib.Core.List.{List, []}
 use Prim.Native.Nat.{ℕ, _≤_}
 use lib.ListN.{length}
 use mir.Syntax.{w64}
@@ -9,12 +9,12 @@ use mir.Facts.{toZ-ofZ}
 use denote.Ref.{now}
 use Rattle.octets.specs.Reading.{ok}
 use Rattle.octets.proofs.Spans.{each-octet}
-use Rattle.kinds.specs.Kinds.{signed}
 use Rattle.headers.specs.Header.{Header, headerAt}
+use Rattle.elements.specs.Walk.{spotAt, through}
 use Rattle.reading.specs.Answers.{headOf}
 use Rattle.reading.specs.declared.Head.{Head}
 use Rattle.printing.proofs.Puts.{then, says}
-use Rattle.listing.specs.Lines.{headerText, refusalText, LinesFrom, unheaded, headed}
+use Rattle.listing.specs.Lines.{headerText, linesOf, listingBy}
 use Rattle.listing.proofs.Heads.{headed-as, unheaded-as, header-place}
 use Rattle.listing.proofs.lines.Statement.{statement}
 use Rattle.listing.proofs.lines.Tie as tie
@@ -22,14 +22,10 @@ use Rattle.listing.proofs.lines.Tie as tie
 returns : tie.Need-returns
 returns c =
     let line = c .before .before in
-    let no = line .before .before .before .headed .given in
+    let told = line .before .before .before .headed .given in
     let v = line .before .before .before .before .before in
     let s = now (v .before .before .before .args .doc) in
-    record {
-      text = refusalText (no .0 .0) (no .0 .1 .0);
-      right = unheaded _ _ (unheaded-as (headerAt s) _ _ (sym (v .header .ensures) ∙ no .1));
-      prints = line .refused-line .ensures;
-    }
+    says (ap (listingBy s) (sym (unheaded-as (headerAt s) _ _ (sym (v .header .ensures) ∙ told .1)))) (line .refused-line .ensures)
 
 -- The header is accepted.
 abbrev Told : Type 0
@@ -58,14 +54,11 @@ returns-2 c =
     let rest = c .before .before in
     let line = rest .before .before .before .before in
     let k = line .before .before .before in
-    let from = rest .element-lines .ensures in
     let (h, next, is, same) = told k in
     let exact = toZ-ofZ {w = w64} (record { sfits = line .before .struct-told .given .0 .1 }) in
-    record {
-      text = headerText (signed 8 (h .start)) ++ from .text;
-      right = headed h next is (subst (λ (x : Head). LinesFrom (doc k) (x .next) 0 [] (from .text)) (sym same) (from .right));
-      prints = then (says (ap headerText (exact ∙ sym (ap (λ (x : Head). x .start) same))) (line .header-line .ensures)) (from .prints);
-    }
+    says (ap (listingBy (doc k)) (sym is))
+    (then (says (ap headerText (exact ∙ sym (ap (λ (x : Head). x .start) same))) (line .header-line .ensures))
+    (says (ap (λ (x : Head). linesOf (through (doc k) (spotAt (x .next) 0 []))) (sym same)) (rest .element-lines .ensures)))
 
 pub lines-spec : {M : Type 1} → statement M
 lines-spec =

@@ -1,6 +1,9 @@
 -- `listing::listed` meets its contract, by the input's length. Assumes nothing.
 use borrow.Author.Needs.{needs}
-use Rattle.listing.specs.Lines.{tooLongText, long, short}
+use borrow.Author.Tests.{le-leb, lt-leb}
+use denote.Ref.{now}
+use lib.ListN.{length}
+use Rattle.listing.specs.Lines.{tooLongText}
 use Rattle.listing.proofs.Words.{word}
 use Rattle.listing.proofs.listed.Statement.{statement}
 use Rattle.listing.proofs.listed.Tie as tie
@@ -8,13 +11,14 @@ use Rattle.listing.proofs.listed.Tie as tie
 returns : tie.Need-returns
 returns c =
     let line = c .before .before in
-    record { text = tooLongText; right = long (line .before .before .before .if1 .taken); prints = word tooLongText (line .show-all .ensures) }
+    let test = line .before .before .before in
+    rw (lt-leb (length (now (test .before .before .before .args .doc))) 65536 (test .if1 .taken)) (word tooLongText (line .show-all .ensures))
 
 returns-2 : tie.Need-returns-2
 returns-2 c =
     let all = c .before .before in
-    let put = all .lines .ensures in
-    record { text = put .text; right = short (all .before .before .if1 .left) (put .right); prints = put .prints }
+    let test = all .before .before in
+    rw (le-leb (length (now (test .before .before .before .args .doc))) 65536 (test .if1 .left)) (all .lines .ensures)
 
 pub listed-spec : {M : Type 1} → statement M
 listed-spec = tie.close (tie.spec (λ c. search needs) (λ c κs. search needs) (λ c. search needs) returns (λ c κs. search needs) (λ c. search needs) returns-2)

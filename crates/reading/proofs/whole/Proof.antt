@@ -9,9 +9,9 @@ use Rattle.octets.proofs.Spans.{each-octet}
 use Rattle.headers.specs.Answers.{Accepted, Locates}
 use Rattle.headers.specs.declared.Placing.{Placing}
 use Rattle.headers.proofs.Headers.{header-inverse}
-use Rattle.elements.specs.Steps.{whole}
-use Rattle.elements.specs.declared.Counting.{Counting}
-use Rattle.elements.specs.Answers.{countSays}
+use Rattle.elements.specs.Reading.{whole}
+use Rattle.walks.specs.Answers.{countSays}
+use Rattle.walks.specs.declared.Counting.{Counting}
 use Rattle.reading.specs.Answers.{checkTells}
 use Rattle.reading.proofs.Entry.{header-long, header-short, whole-refused, whole-from}
 use Rattle.reading.proofs.whole.Statement.{statement}

@@ -16,11 +16,12 @@ use Rattle.layouts.proofs.Checks.{good-book}
 use Rattle.elements.specs.Steps.{lentBook, stepAt}
 use Rattle.elements.proofs.Before.{lent-long, lent-unbooked, lent-many, step-refused, step-is}
 use Rattle.elements.proofs.Told.{element-cut}
-use Rattle.runs.specs.Runs.{Passed, runAsked}
+use Rattle.elements.specs.Walk.{Walk, Lent, lentAt}
+use Rattle.runs.specs.Runs.{runAsked}
 use Rattle.runs.specs.Answers.{runTells, bookLeft, wordsLeft}
 use Rattle.runs.specs.declared.Running.{Running}
 use Rattle.runs.specs.declared.Running.the-variants as running
-use Rattle.runs.proofs.Entry.{asked-no}
+use Rattle.runs.proofs.Runs.{asked-no}
 use Rattle.runs.proofs.run.Statement.{statement}
 use Rattle.runs.proofs.run.Tie as tie
 
@@ -47,15 +48,15 @@ module _ (k : Known) where
   abbrev words : List ℕ
   words = now (k .before .before .args .words)
 
-  abbrev asked : Read Passed
-  asked = runAsked doc at rows lent used
+  abbrev asked : Read (Walk Lent)
+  asked = runAsked doc (lentAt at rows lent used)
 
   abbrev Left : Running → Type 0
   Left r = (r ≡ runTells asked) × (lent ≡ bookLeft lent asked) × (words ≡ wordsLeft words asked)
 
   -- A run whose first step is refused.
   refused : (n p : ℕ) → stepAt doc at rows lent used ≡ no n p → Left (running.Refused n p)
-  refused n p e = let is = asked-no doc at rows lent used n p e in (sym (ap runTells is), sym (ap (bookLeft lent) is), sym (ap (wordsLeft words) is))
+  refused n p e = let is = asked-no doc (lentAt at rows lent used) words n p e in (sym (ap runTells is), sym (ap (bookLeft lent) is), sym (ap (wordsLeft words) is))
 
   -- One that is refused before every step.
   unlent : (n p : ℕ) → lentBook doc rows lent used ≡ no n p → Left (running.Refused n p)

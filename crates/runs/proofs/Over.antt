@@ -1,0 +1,151 @@
+-- Turns over a book in hand are turns over the lent octets that hold it: an item leaves its book in them, rows leave them as they are, and behind more rows than a step is told nothing goes on.
+use Prim.Native.Nat.{ℕ, _+_, _%_, _≤_, _<_}
+use mathlib.Core.Path.{_≡_, refl, sym, ap, _∙_, subst}
+use mathlib.Core.List.{List, [], _∷_}
+use mathlib.Core.Bool.{Bool, true, false}
+use native.Mathlib.Omega.{arith}
+use native.Mathlib.Nat.{add-zero}
+use lib.ListN.{length, getD}
+use lib.Dec.{leb}
+use borrow.Author.Tests.{leb-true, leb-false}
+use Rattle.octets.specs.Reading.{Read, ok, no, choose}
+use Rattle.octets.specs.Writing.{Each, Octet}
+use Rattle.layouts.specs.Book.{Book, bookImage, bookIn, IsBook}
+use Rattle.layouts.proofs.Walks.{lent-book}
+use Rattle.elements.specs.Element.{Item, layout, row, Element, item, finish, Stepped, elementAt}
+use Rattle.elements.specs.Steps.{holding}
+use Rattle.elements.specs.Document.{GoodItems}
+use Rattle.elements.specs.Reading.{asRow, placedAll, rowsOf}
+use Rattle.elements.specs.Walk.{Stop, refused, Seen, Turn, goes, stops, Path, numberOf, turnBy, turnOf, Spot, spotAt, spotOf, turnAt, Lent, lentAt, lentOf, turnOver}
+use Rattle.elements.proofs.Before.{lent-many, step-refused, step-is}
+use Rattle.elements.proofs.Told.{holding-same}
+use Rattle.elements.proofs.Went.{Went, at-layout, at-row, at-finish, went}
+use Rattle.elements.proofs.Items.{itemsOf}
+use Rattle.elements.proofs.Behind.{few-rows}
+use Rattle.elements.proofs.Turns.{Took, took-at, turn-item, turn-rows}
+use Rattle.elements.proofs.Through.{rows-few}
+use Rattle.walks.specs.Rows.{wordsBy, HasPlan}
+use Rattle.runs.specs.Runs.{wordsOf}
+use Rattle.runs.specs.Answers.{boundTurn}
+
+-- The lent octets behind an item.
+abbrev pub leftBy : List ℕ → Seen → Spot → Lent
+leftBy octets p y = lentAt (p .next) (y .rows) (holding (y .book) octets) (length (bookImage (y .book)))
+
+module _ (s : List ℕ) (short : length s ≤ 1048576) (octets : List ℕ) (used : ℕ) (is : IsBook octets used) where
+  abbrev held : Book
+  held = bookIn octets used
+
+  module _ (at rows : ℕ) where
+    -- A step that is told rows within the limit, and one that is not.
+    same-turn : rows ≤ 1048576 → (r : Read Stepped) → elementAt s at rows held ≡ r → turnOver s (lentAt at rows octets used) ≡ turnOf (lentOf octets) at r
+    same-turn few r e = rw (step-is s rows octets used at short is few, e) refl
+
+    item-turn : rows ≤ 1048576 → (p : Seen) (y : Spot) (t : Took spotOf at (elementAt s at rows held) p y) → turnOver s (lentAt at rows octets used) ≡ goes p (lentOf octets (t .stepped) (p .next))
+    item-turn few p y t =
+        same-turn few (ok (t .stepped) (p .next)) (t .reads)
+        ∙ (turn-item (lentOf octets) at (ok (t .stepped) (p .next)) (t .stepped) (p .next) (p .which) refl (t .is) ∙ ap (λ (q : Seen). goes q (lentOf octets (t .stepped) (p .next))) (sym (t .seen)))
+
+    many : 1048576 < rows → turnOver s (lentAt at rows octets used) ≡ stops (refused 17 0)
+    many h = rw (step-refused s rows octets used at 17 0 (lent-many s rows octets used short is h)) refl
+
+    pub record Goes (p : Seen) (y : Spot) : Type 0 where
+      pub few : rows ≤ 1048576
+      pub at-book : turnAt s (spotAt at rows held) ≡ goes p y
+      pub over : turnOver s (lentAt at rows octets used) ≡ goes p (leftBy octets p y)
+
+    pub over-goes : (p : Seen) (y : Spot) → boundTurn rows (turnAt s (spotAt at rows held)) ≡ goes p y → Goes p y
+    over-goes p y e = go (leb rows 1048576) refl e
+      where
+        go : (b : Bool) → leb rows 1048576 ≡ b → choose b (λ _. turnAt s (spotAt at rows held)) (λ _. stops (refused 17 0)) ≡ goes p y → Goes p y
+        go false h e = absurd (let z : _≡_ {A = ℕ} 0 1 = cc in omega arith)
+        go true h e =
+            let few = leb-true rows 1048576 h in
+            let t = took-at s (spotAt at rows held) p y e in
+            record { few = few; at-book = e; over = item-turn few p y t ∙ ap (λ (z : Spot). goes p (leftBy octets p z)) (sym (t .spot)) }
+
+    pub over-stops : (e : Stop) → boundTurn rows (turnAt s (spotAt at rows held)) ≡ stops e → turnOver s (lentAt at rows octets used) ≡ stops e
+    over-stops e h = go (leb rows 1048576) refl h
+      where
+        stopped : (r : Read Stepped) → turnOf spotOf at r ≡ stops e → turnOf (lentOf octets) at r ≡ stops e
+        stopped (no n p) h = let same : refused n p ≡ e = cc in ap (λ (x : Stop). stops x) same
+        stopped (ok st next) h = by (st .element) h
+          where
+            by : (x : Element) → turnBy spotOf at st next x ≡ stops e → turnBy (lentOf octets) at st next x ≡ stops e
+            by (item i) h = absurd (let z : _≡_ {A = ℕ} 0 1 = cc in omega arith)
+            by (finish n t) h = let same : _≡_ {A = Turn Spot} (turnBy spotOf at st next (finish n t)) (stops e) = h in ends n t (let q : _≡_ {A = Stop} _ e = cc in q)
+              where
+                ends : (n t : ℕ) {x : Stop} → x ≡ e → _≡_ {A = Turn Lent} (stops x) (stops e)
+                ends n t q = ap (λ (x : Stop). stops x) q
+
+        go : (b : Bool) → leb rows 1048576 ≡ b → choose b (λ _. turnAt s (spotAt at rows held)) (λ _. stops (refused 17 0)) ≡ stops e → turnOver s (lentAt at rows octets used) ≡ stops e
+        go false h e = many (leb-false rows 1048576 h) ∙ (let same : refused 17 0 ≡ _ = cc in ap (λ (x : Stop). stops x) same)
+        go true h e = same-turn (leb-true rows 1048576 h) (elementAt s at rows held) refl ∙ stopped (elementAt s at rows held) e
+
+  module _ (o : Each Octet octets) where
+    -- A row leaves the lent octets as they are.
+    row-turn : (at rows : ℕ) (p : Seen) (y : Spot) → rows ≤ 1048576 → asRow (item (p .which)) ≡ 1 → turnAt s (spotAt at rows held) ≡ goes p y
+        → (y ≡ spotAt (p .next) (rows + 1) held) × (turnOver s (lentAt at rows octets used) ≡ goes p (lentAt (p .next) (rows + 1) octets used))
+    row-turn at rows p y few one e = (spot, step ∙ ap (λ (z : Lent). goes p z) left)
+      where
+        t : Took spotOf at (elementAt s at rows held) p y
+        t = took-at s (spotAt at rows held) p y e
+
+        same : t .stepped .book ≡ held
+        same = go (went s at rows held (t .stepped) (p .next) (t .reads))
+          where
+            go : Went s at rows held (t .stepped) (p .next) → t .stepped .book ≡ held
+            go (at-layout l x k h g el ro) = absurd (let q : p .which ≡ layout l = cc (t .is) in let z = ap (λ (i : Item). asRow (item i)) q in omega arith)
+            go (at-row r k h el ro bo) = bo
+            go (at-finish n u k h el ro bo) = bo
+
+        counted : y .rows ≡ rows + 1
+        counted = omega (arith, turn-rows s (spotAt at rows held) p y e)
+
+        spot : y ≡ spotAt (p .next) (rows + 1) held
+        spot =
+            ap (λ (z : Spot). spotAt (z .at) (y .rows) (y .book)) (t .spot)
+            ∙ (ap (λ (n : ℕ). spotAt (p .next) n (y .book)) counted ∙ ap (spotAt (p .next) (rows + 1)) (ap (λ (z : Spot). z .book) (t .spot) ∙ same))
+
+        step : turnOver s (lentAt at rows octets used) ≡ goes p (lentOf octets (t .stepped) (p .next))
+        step = item-turn at rows few p y t
+
+        left : lentOf octets (t .stepped) (p .next) ≡ lentAt (p .next) (rows + 1) octets used
+        left =
+            rw (same, holding-same octets used o is, lent-book octets used o is .size)
+            (ap (λ (n : ℕ). lentAt (p .next) n octets used) (ap (λ (z : Spot). z .rows) (sym (t .spot)) ∙ counted))
+
+    -- So does a stretch of rows.
+    pub over-rows : (seen : List Seen) (at rows next : ℕ) → (0 < length seen → rows + length seen ≤ 1048577) → rowsOf (placedAll seen) ≡ length seen
+        → Path (turnAt s) (spotAt at rows held) seen (spotAt next (rows + length seen) held)
+        → Path (turnOver s) (lentAt at rows octets used) seen (lentAt next (rows + length seen) octets used)
+    over-rows [] at rows next few all h = rw (ap (λ (z : Spot). z .at) h, add-zero rows) refl
+    over-rows (p ∷ ps) at rows next few all h =
+        let one = few-rows (item (p .which)) in
+        let rest = rows-few ps in
+        let bound : rows + length (p ∷ ps) ≤ 1048577 = few (omega arith) in
+        let (spot, over) = row-turn at rows p (h .0) (omega arith) (omega arith) (h .1) in
+        let sum : rows + 1 + length ps ≡ rows + length (p ∷ ps) = omega arith in
+        let path : Path (turnAt s) (spotAt (p .next) (rows + 1) held) ps (spotAt next (rows + 1 + length ps) held) =
+        subst (λ (n : ℕ). Path (turnAt s) (spotAt (p .next) (rows + 1) held) ps (spotAt next n held)) (sym sum)
+        (subst (λ (z : Spot). Path (turnAt s) z ps (spotAt next (rows + length (p ∷ ps)) held)) spot (h .2)) in
+        let more = over-rows ps (p .next) (rows + 1) next (λ _. omega arith) (omega arith) path in (
+          lentAt (p .next) (rows + 1) octets used,
+          over,
+          subst (λ (n : ℕ). Path (turnOver s) (lentAt (p .next) (rows + 1) octets used) ps (lentAt next n octets used)) sum more,
+        )
+
+-- The word of a row passed by its plan is that with its layout's number.
+pub words-same : (numbers : List ℕ) (book : Book) (seen : List Seen) → GoodItems book (itemsOf seen) → rowsOf (placedAll seen) ≡ length seen → Each (HasPlan numbers) seen
+    → wordsBy numbers seen ≡ wordsOf seen
+words-same numbers book [] good all plans = refl
+words-same numbers book (p ∷ ps) good all plans = go (p .which) refl good (λ g h. words-same numbers book ps g h (plans .1))
+  where
+    go : (i : Item) → p .which ≡ i → GoodItems book (i ∷ itemsOf ps) → (GoodItems book (itemsOf ps) → rowsOf (placedAll ps) ≡ length ps → wordsBy numbers ps ≡ wordsOf ps)
+        → wordsBy numbers (p ∷ ps) ≡ wordsOf (p ∷ ps)
+    go (layout l) q good again = absurd (let z = ap (λ (i : Item). asRow (item i)) q in omega (arith, rows-few ps))
+    go (row r) q good again =
+        let number : getD numbers (p .position) 0 ≡ r .number = plans .0 ∙ ap numberOf q in
+        let one = ap (λ (i : Item). asRow (item i)) q in
+        let low : getD numbers (p .position) 0 % 4294967296 ≡ r .number = omega (arith, number, good .0) in
+        rw (q, low, again (good .2) (omega arith)) refl
