@@ -14,7 +14,7 @@ use Rattle.layouts.specs.Layout.{Layout, layoutAt}
 use Rattle.layouts.specs.Book.{Book, find, numbersOf, position}
 use Rattle.layouts.specs.Answers.{Stands}
 use Rattle.layouts.proofs.Positions.{position-found, position-none, lacks-none, at-index}
-use Rattle.walks.specs.Kept.{nothing, marks, asOption, standing, all, Numbered, Shelved, Planned}
+use Rattle.walks.specs.Kept.{nothing, marks, asOption, standing, all, Numbered, Shelved, Planned, Lacks}
 use Rattle.walks.proofs.Marks.{marks-low, Marked, marked-at}
 
 -- What holds of no index below another, nor of that one, holds of none up to it.
@@ -41,6 +41,12 @@ module _ (numbers : List ℕ) (known : ℕ) (book : Book) (k : Numbered numbers 
   pub no-position : (n : ℕ) → ((i : ℕ) → i < known → getD numbers i 0 % 4294967296 ≡ n → ⊥) → known ≡ position n book
   no-position n lacks =
       sym (position-none n book (lacks-none n book (λ i h e. let l : i < known = omega (arith, k .count) in lacks i l (number-at i l ∙ e))) ∙ k .count)
+
+  -- A number that is not known as it is at its position is so nowhere.
+  pub position-lacks : (i n : ℕ) → n < 2 ^ 32 → i ≡ position n book → (i < known → getD numbers i 0 ≡ n → ⊥) → Lacks numbers known n
+  position-lacks i n small is other j h e =
+      let same : i ≡ j = is ∙ sym (at-position j n h (omega (arith, e))) in
+      other (omega arith) (ap (λ (m : ℕ). getD numbers m 0) same ∙ e)
 
 -- A number that is known as it is has a layout with a plan.
 pub plan-at : (numbers steps : List ℕ) (known : ℕ) (book : Book) → Planned numbers steps known book → (i n : ℕ) → i < known → n < 2 ^ 32 → getD numbers i 0 ≡ n → Marked steps 0 book n i

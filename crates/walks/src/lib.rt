@@ -93,10 +93,10 @@ fn position_of(numbers: &[u64; 64], known: usize, number: u32) -> usize
     known
 }
 
-// The index of a number that has a plan: the index that was last, or the one behind it, or the first that is found; all known where there is none.
+// The index of a number that has a plan: the index that was last, or the one behind it, or the number's position; all known where it has none.
 fn index_of(numbers: &[u64; 64], known: usize, last: usize, number: u32) -> usize
     requires { ⌜ known ≤ 64 ⌝ }
-    ensures { λ r. ⌜ (r < known → getD (now (numbers .entry)) r 0 ≡ number) × (known ≤ r → Lacks (now (numbers .entry)) known number) ⌝ }
+    ensures { λ r. ⌜ (r < known → getD (now (numbers .entry)) r 0 ≡ number) × (known ≤ r → (book : Book) → Numbered (now (numbers .entry)) known book → Lacks (now (numbers .entry)) known number) ⌝ }
 {
     let title = number as u64;
     if last < known {
@@ -109,12 +109,11 @@ fn index_of(numbers: &[u64; 64], known: usize, last: usize, number: u32) -> usiz
             }
         }
     }
-    let mut i = 0;
-    while i < known {
+    let i = position_of(numbers, known, number);
+    if i < known {
         if numbers[i] == title {
             return i;
         }
-        i += 1;
     }
     known
 }

@@ -34,7 +34,7 @@ returns-2 c = λ book p i h n k.
     absurd (c .if2 .taken (c .before .u32-at .ensures ∙ ok-value e k))
 
 returns-3 : tie.Need-returns-3
-returns-3 c = λ book p i h n k. absurd (c .before .index-of .ensures .1 (c .if3 .taken) i h (n ∙ sym (c .before .before .u32-at2 .ensures)))
+returns-3 c = λ book p i h n k. absurd (c .before .index-of .ensures .1 (c .if3 .taken) book (p .numbered) i h (n ∙ sym (c .before .before .u32-at2 .ensures)))
 
 -- The index that was found, by names, and the layout that a book has there.
 abbrev Indexed : Type 0
