@@ -213,7 +213,7 @@ fn element_lines<'d, 'o>(doc: &'d [u8], at: usize, out: &'o mut [u8], n: usize) 
 {
     let mut book = [0u8; 32768];
     let mut numbers = [0u64; 64];
-    let mut places = [0usize; 64];
+    let mut places = [0u32; 64];
     let mut steps = [0u16; 1216];
     let mut tally = walks::nothing();
     let mut pos = at;

@@ -1,3 +1,4 @@
 pub mod Walking
 pub mod Making
 pub mod Lasting
+pub mod Contracts

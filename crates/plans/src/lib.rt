@@ -24,7 +24,8 @@ pub enum Put {
     Full,
 }
 
-fn wide(x: u16) -> usize
+// A step as an index or a sum.
+pub fn wide(x: u16) -> usize
     ensures { λ r. ⌜ (r ≡ x) × (r < 65536) ⌝ }
 {
     x as usize

@@ -52,7 +52,7 @@ fn next_turn<'d, 's, 'n, 'l>(
     shelf: &'s [u8],
     used: usize,
     numbers: &'n [u64; 64],
-    places: &'l [usize; 64],
+    places: &'l [u32; 64],
     known: usize,
 ) -> Moved
     requires { ⌜ (length (now doc) ≤ 1048576) × (length (now shelf) ≤ 1048576) × Borne (now shelf) used (now numbers) (now places) known ⌝ }
@@ -92,7 +92,7 @@ fn items<'d, 'b, 'w>(
     ensures { λ r. ⌜ Ran (now (book .entry)) (now (words .entry)) (runAsked (now (doc .entry)) (lentAt at rows (now (book .entry)) used)) (now (book .exit)) (now (words .exit)) r ⌝ }
 {
     let mut numbers = [0u64; 64];
-    let mut places = [0usize; 64];
+    let mut places = [0u32; 64];
     let mut steps = [0u16; 1216];
     let mut tally = walks::index(&book[..used], &mut numbers, &mut places, &mut steps);
     let mut pos = at;

@@ -62,8 +62,8 @@ pub enum Counting {
     Refused(u32, usize),
 }
 
-fn wide(x: u16) -> usize
-    ensures { λ r. ⌜ (r ≡ x) × (r < 65536) ⌝ }
+fn place_of(x: u32) -> usize
+    ensures { λ r. ⌜ r ≡ x ⌝ }
 {
     x as usize
 }
@@ -140,7 +140,7 @@ fn quick_row<'d, 'n, 'p>(
     if known <= i {
         return Quick::Unsure;
     }
-    let passed = plans::values_to(doc, at + 8, steps, wide(steps[i]));
+    let passed = plans::values_to(doc, at + 8, steps, plans::wide(steps[i]));
     match passed {
         Passed::Unsure => Quick::Unsure,
         Passed::To(next) => Quick::Row(next, i),
@@ -216,11 +216,11 @@ pub fn keep<'d, 'n, 'l, 'p>(
     at: usize,
     place: usize,
     numbers: &'n mut [u64; 64],
-    places: &'l mut [usize; 64],
+    places: &'l mut [u32; 64],
     steps: &'p mut [u16; 1216],
     tally: Tally,
 ) -> Tally
-    requires { ⌜ (length (now doc) ≤ 1048576) × (isOk (layoutAt (now doc) at) ≡ true) × (length (now steps) ≡ 1216) × (tally .known < 64) × (64 ≤ tally .filled) × (tally .filled ≤ 704 + tally .known * 8) ⌝ }
+    requires { ⌜ (length (now doc) ≤ 1048576) × (isOk (layoutAt (now doc) at) ≡ true) × (length (now steps) ≡ 1216) × (tally .known < 64) × (64 ≤ tally .filled) × (tally .filled ≤ 704 + tally .known * 8) × (place < 4294967296) ⌝ }
     ensures { λ r. ⌜ ((l : Layout) (end : ℕ) → layoutAt (now (doc .entry)) at ≡ ok l end → Keeps l place (now (numbers .entry)) (now (places .entry)) (now (steps .entry)) tally (now (numbers .exit)) (now (places .exit)) (now (steps .exit)) r) ⌝ }
 {
     let known = tally.known;
@@ -228,7 +228,7 @@ pub fn keep<'d, 'n, 'l, 'p>(
     let number = layouts::layout_number(doc, at) as u64;
     let counted = layouts::attributes_at(doc, at);
     let count = octets::u32_at(doc, counted);
-    places[known] = place;
+    places[known] = place as u32;
     let put = plans::put_plan(doc, counted + 4, count, steps, filled, 712 + known * 8);
     match put {
         Put::Full => {
@@ -253,7 +253,7 @@ pub fn keep<'d, 'n, 'l, 'p>(
 pub fn index<'s, 'n, 'l, 'p>(
     s: &'s [u8],
     numbers: &'n mut [u64; 64],
-    places: &'l mut [usize; 64],
+    places: &'l mut [u32; 64],
     steps: &'p mut [u16; 1216],
 ) -> Tally
     requires { ⌜ (length (now s) ≤ 1048576) × (length (now numbers) ≡ 64) × (length (now places) ≡ 64) × (length (now steps) ≡ 1216) × Images (now s) ⌝ }
@@ -269,14 +269,14 @@ pub fn index<'s, 'n, 'l, 'p>(
 }
 
 // Where a layout stands by its position.
-fn looked_at(places: &[usize; 64], known: usize, i: usize) -> Looked
+fn looked_at(places: &[u32; 64], known: usize, i: usize) -> Looked
     requires { ⌜ known ≤ 64 ⌝ }
     ensures { λ r. ⌜ ((shelf numbers : List ℕ) (number : ℕ) (book : Book) → Numbered numbers known book → Shelved shelf (now (places .entry)) known book → i ≡ position number book → Looks shelf number book r) ⌝ }
 {
     if known <= i {
         return Looked::Missing(known);
     }
-    Looked::There(places[i])
+    Looked::There(place_of(places[i]))
 }
 
 // What a turn tells of a step that was read, with the position of its layout.
@@ -311,7 +311,7 @@ pub fn turn<'d, 's, 'n, 'l>(
     shelf: &'s [u8],
     used: usize,
     numbers: &'n [u64; 64],
-    places: &'l [usize; 64],
+    places: &'l [u32; 64],
     known: usize,
 ) -> Moved
     requires { ⌜ (length (now doc) ≤ 1048576) × (rows ≤ 1048576) × (length (now shelf) ≤ 1048576) × Borne (now shelf) used (now numbers) (now places) known ⌝ }
@@ -332,7 +332,7 @@ pub fn rows_from(doc: &[u8], at: usize) -> Counting
     ensures { λ r. ⌜ countSays r ≡ rowsRead (through (now (doc .entry)) (spotAt at 0 [])) ⌝ }
 {
     let mut numbers = [0u64; 64];
-    let mut places = [0usize; 64];
+    let mut places = [0u32; 64];
     let mut steps = [0u16; 1216];
     let mut tally = nothing();
     let mut pos = at;

@@ -144,7 +144,7 @@ keep-requires c κs =
     let g = c .before .before .before .before .before .before in
     let k = passed (turn g) .carried .kept in
     let (known, start, end) = tally-bounds (turn g .loop .tally) (held (turn g)) (k .tally) in
-    (short (turn g), ap isOk (grown g .reads), k .planned .long, omega (arith, grown g .few), start, end)
+    (short (turn g), ap isOk (grown g .reads), k .planned .long, omega (arith, grown g .few), start, end, omega (arith, passed-lent (passed (turn g)) .most))
 
 loop-again : tie.Need-loop-again Inv-loop μ-loop
 loop-again c =

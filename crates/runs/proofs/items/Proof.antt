@@ -407,7 +407,7 @@ keep-requires c κs =
     let k = carried q .kept in
     let (known, start, end) = tally-bounds (tally q) (book q) (k .tally) in
     let n = newly g in
-    (short q, ap isOk (n .reads), k .planned .long, omega (arith, n .few), start, end)
+    (short q, ap isOk (n .reads), k .planned .long, omega (arith, n .few), start, end, omega (arith, shelf-small q))
 
 loop-again : tie.Need-loop-again Inv-loop μ-loop
 unfolding newly

@@ -51,7 +51,7 @@ keep-requires : tie.Need-keep-requires Inv-loop μ-loop
 keep-requires c κs =
     let t = c .before .before .before in
     let h = held t in
-    (Start t .pre .0, h .accepted, h .bounds .0, h .room, h .bounds .1, h .bounds .2)
+    (Start t .pre .0, h .accepted, h .bounds .0, h .room, h .bounds .1, h .bounds .2, omega (arith, t .loop-test .taken, Start t .pre .0))
 
 layout-skip-requires : tie.Need-layout-skip-requires Inv-loop μ-loop
 layout-skip-requires c κs = let t = c .before .before .before .before in (Start t .pre .0, held t .accepted)

@@ -219,7 +219,7 @@ keep-requires c κs =
     let q = Of (by (g .before)) in
     let k = way q .kept in
     let (known, start, end) = tally-bounds (tally q) (book q) (k .tally) in
-    (short q, ap isOk (newly g .reads), k .planned .long, omega (arith, newly g .few), start, end)
+    (short q, ap isOk (newly g .reads), k .planned .long, omega (arith, newly g .few), start, end, omega (arith, further (g .before), short q))
 
 loop-again : tie.Need-loop-again Inv-loop μ-loop
 loop-again c =
