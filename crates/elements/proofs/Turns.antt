@@ -4,16 +4,18 @@ use mathlib.Core.Path.{_≡_, refl, sym, ap, _∙_, subst}
 use mathlib.Core.List.{List}
 use native.Mathlib.Omega.{arith}
 use lib.ListN.{length}
-use Rattle.octets.specs.Reading.{Read, ok, no}
+use Rattle.octets.specs.Reading.{Read, ok, no, number}
 use Rattle.octets.specs.Writing.{Each, Octet}
 use Rattle.octets.proofs.Inverse.{after}
-use Rattle.elements.specs.Element.{Item, Element, item, finish, Stepped, elementAt}
+use Rattle.layouts.specs.Book.{Book}
+use Rattle.rows.specs.Row.{Row, rowAt}
+use Rattle.elements.specs.Element.{Item, layout, row, Element, item, finish, Stepped, elementAt}
 use Rattle.elements.specs.Steps.{lentBook, stepAt}
 use Rattle.elements.specs.Reading.{asRow}
-use Rattle.elements.specs.Walk.{ended, refused, Seen, goes, stops, seenAt, turnBy, turnOf, Spot, spotOf, turnAt, Lent, lentOf, turnOver}
+use Rattle.elements.specs.Walk.{ended, refused, Seen, goes, stops, seenAt, turnBy, turnOf, Spot, spotAt, spotOf, turnAt, Lent, lentOf, turnOver}
 use Rattle.elements.proofs.Before.{lent-short}
 use Rattle.elements.proofs.Behind.{element-place}
-use Rattle.elements.proofs.Went.{step-rows}
+use Rattle.elements.proofs.Went.{Went, at-layout, at-row, at-finish, went, step-rows}
 
 -- What a turn that goes on has read, and what one that stops.
 pub record Took {X : Type 0} (to : Stepped → ℕ → X) (at : ℕ) (r : Read Stepped) (p : Seen) (y : X) : Type 0 where
@@ -75,6 +77,25 @@ module _ (s : List ℕ) (x : Spot) where
       let t = took-at p y e in
       ap (λ (z : Spot). z .rows) (t .spot)
       ∙ (step-rows s (x .at) (x .rows) (x .book) (t .stepped) (p .next) (t .reads) ∙ ap (λ (d : Element). x .rows + asRow d) (t .is))
+
+-- What a turn by a row has read: it is counted, and leaves the book.
+pub record TookRow (s : List ℕ) (at rows : ℕ) (b : Book) (p : Seen) (y : Spot) : Type 0 where
+  pub read : Row
+  pub is : p .which ≡ row read
+  pub kind : number 4 s at ≡ ok 2 (at + 4)
+  pub reads : rowAt b s (at + 4) ≡ ok read (p .next)
+  pub spot : y ≡ spotAt (p .next) (rows + 1) b
+
+pub took-row : (s : List ℕ) (at rows : ℕ) (b : Book) (p : Seen) (y : Spot) → asRow (item (p .which)) ≡ 1 → turnAt s (spotAt at rows b) ≡ goes p y → TookRow s at rows b p y
+took-row s at rows b p y one e = go (went s at rows b (t .stepped) (p .next) (t .reads))
+  where
+    t : Took spotOf at (elementAt s at rows b) p y
+    t = took-at s (spotAt at rows b) p y e
+
+    go : Went s at rows b (t .stepped) (p .next) → TookRow s at rows b p y
+    go (at-layout l x k h g el ro) = absurd (let q : p .which ≡ layout l = cc (t .is) in let z = ap (λ (i : Item). asRow (item i)) q in omega arith)
+    go (at-row r k h el ro bo) = record { read = r; is = cc (t .is); kind = k; reads = h; spot = t .spot ∙ rw (ro, bo) refl }
+    go (at-finish n u k h el ro bo) = absurd (let z : item (p .which) ≡ finish n u = cc (t .is) in let w : _≡_ {A = ℕ} 0 1 = cc in omega arith)
 
 -- Over lent octets too.
 module _ (s : List ℕ) (x : Lent) where

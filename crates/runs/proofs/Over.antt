@@ -19,10 +19,9 @@ use Rattle.elements.specs.Reading.{asRow, placedAll, rowsOf}
 use Rattle.elements.specs.Walk.{Stop, refused, Seen, Turn, goes, stops, Path, numberOf, turnBy, turnOf, Spot, spotAt, spotOf, turnAt, Lent, lentAt, lentOf, turnOver}
 use Rattle.elements.proofs.Before.{lent-many, step-refused, step-is}
 use Rattle.elements.proofs.Told.{holding-same}
-use Rattle.elements.proofs.Went.{Went, at-layout, at-row, at-finish, went}
 use Rattle.elements.proofs.Items.{itemsOf}
 use Rattle.elements.proofs.Behind.{few-rows}
-use Rattle.elements.proofs.Turns.{Took, took-at, turn-item, turn-rows}
+use Rattle.elements.proofs.Turns.{Took, took-at, took-row, turn-item}
 use Rattle.elements.proofs.Through.{rows-few}
 use Rattle.walks.specs.Rows.{wordsBy, HasPlan}
 use Rattle.runs.specs.Runs.{wordsOf}
@@ -86,34 +85,16 @@ module _ (s : List ℕ) (short : length s ≤ 1048576) (octets : List ℕ) (used
     -- A row leaves the lent octets as they are.
     row-turn : (at rows : ℕ) (p : Seen) (y : Spot) → rows ≤ 1048576 → asRow (item (p .which)) ≡ 1 → turnAt s (spotAt at rows held) ≡ goes p y
         → (y ≡ spotAt (p .next) (rows + 1) held) × (turnOver s (lentAt at rows octets used) ≡ goes p (lentAt (p .next) (rows + 1) octets used))
-    row-turn at rows p y few one e = (spot, step ∙ ap (λ (z : Lent). goes p z) left)
+    row-turn at rows p y few one e = (spot, item-turn at rows few p y t ∙ ap (λ (z : Lent). goes p z) left)
       where
         t : Took spotOf at (elementAt s at rows held) p y
         t = took-at s (spotAt at rows held) p y e
 
-        same : t .stepped .book ≡ held
-        same = go (went s at rows held (t .stepped) (p .next) (t .reads))
-          where
-            go : Went s at rows held (t .stepped) (p .next) → t .stepped .book ≡ held
-            go (at-layout l x k h g el ro) = absurd (let q : p .which ≡ layout l = cc (t .is) in let z = ap (λ (i : Item). asRow (item i)) q in omega arith)
-            go (at-row r k h el ro bo) = bo
-            go (at-finish n u k h el ro bo) = bo
-
-        counted : y .rows ≡ rows + 1
-        counted = omega (arith, turn-rows s (spotAt at rows held) p y e)
-
         spot : y ≡ spotAt (p .next) (rows + 1) held
-        spot =
-            ap (λ (z : Spot). spotAt (z .at) (y .rows) (y .book)) (t .spot)
-            ∙ (ap (λ (n : ℕ). spotAt (p .next) n (y .book)) counted ∙ ap (spotAt (p .next) (rows + 1)) (ap (λ (z : Spot). z .book) (t .spot) ∙ same))
-
-        step : turnOver s (lentAt at rows octets used) ≡ goes p (lentOf octets (t .stepped) (p .next))
-        step = item-turn at rows few p y t
+        spot = took-row s at rows held p y one e .spot
 
         left : lentOf octets (t .stepped) (p .next) ≡ lentAt (p .next) (rows + 1) octets used
-        left =
-            rw (same, holding-same octets used o is, lent-book octets used o is .size)
-            (ap (λ (n : ℕ). lentAt (p .next) n octets used) (ap (λ (z : Spot). z .rows) (sym (t .spot)) ∙ counted))
+        left = ap (leftBy octets p) (sym (t .spot) ∙ spot) ∙ rw (holding-same octets used o is, lent-book octets used o is .size) refl
 
     -- So does a stretch of rows.
     pub over-rows : (seen : List Seen) (at rows next : ℕ) → (0 < length seen → rows + length seen ≤ 1048577) → rowsOf (placedAll seen) ≡ length seen

@@ -6,4 +6,5 @@ pub mod Indexing
 pub mod Moves
 pub mod Ways
 pub mod Lents
+pub mod Stretches
 pub mod Contracts
