@@ -8,6 +8,7 @@ use native.Mathlib.Nat.{le-refl}
 use lib.ListN.{length}
 use lib.Dec.{leb, lit<}
 use borrow.Author.Tests.{leb-true, leb-false}
+use Rattle.octets.specs.Limits.{longest}
 use Rattle.octets.specs.Reading.{Read, ok, no, _then_}
 use Rattle.headers.specs.Header.{headerAt}
 use Rattle.elements.specs.Steps.{stepAt}
@@ -34,12 +35,12 @@ packs end (no n p) small h = (h .0, omega arith)
 
 module _ (s : List ℕ) where
   -- A document over the limit is refused at 0, whatever is asked.
-  limited : {A : Type 0} (r : Read A) → (1048576 < length s → r ≡ no 2 0) → (length s ≤ 1048576 → Packs r) → Packs r
-  limited {A} r long short = go (leb (length s) 1048576) refl
+  limited : {A : Type 0} (r : Read A) → (longest < length s → r ≡ no 2 0) → (length s ≤ longest → Packs r) → Packs r
+  limited {A} r long short = go (leb (length s) longest) refl
     where
-      go : (t : Bool) → leb (length s) 1048576 ≡ t → Packs r
-      go true e = short (leb-true (length s) 1048576 e)
-      go false e = subst (Packs {A = A}) (sym (long (leb-false (length s) 1048576 e))) (lit< tt, lit< tt)
+      go : (t : Bool) → leb (length s) longest ≡ t → Packs r
+      go true e = short (leb-true (length s) longest e)
+      go false e = subst (Packs {A = A}) (sym (long (leb-false (length s) longest e))) (lit< tt, lit< tt)
 
   pub header-packs : Packs (headerAt s)
   header-packs = limited (headerAt s) (header-long s) λ h. packs (length s) (headerAt s) (omega arith) (header-stays Positive s (length s) (le-refl (length s)) (lit< tt) of-header)
@@ -53,7 +54,7 @@ module _ (s : List ℕ) where
   step-packs at rows octets used small =
       limited (stepAt s at rows octets used) (λ h. step-refused s rows octets used at 2 0 (lent-long s rows octets used h)) λ h. go (leb at (length s)) refl h
     where
-      go : (t : Bool) → leb at (length s) ≡ t → length s ≤ 1048576 → Packs (stepAt s at rows octets used)
+      go : (t : Bool) → leb at (length s) ≡ t → length s ≤ longest → Packs (stepAt s at rows octets used)
       go true e h =
           packs (length s) (stepAt s at rows octets used) (omega arith) (step-stays Positive s (length s) (le-refl (length s)) (lit< tt) (lit< tt) (lit< tt) of-element at rows octets used (leb-true at (length s) e))
       go false e h =

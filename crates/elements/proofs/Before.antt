@@ -6,6 +6,7 @@ use mathlib.Core.Bool.{false}
 use lib.ListN.{length}
 use lib.Dec.{leb}
 use borrow.Author.Tests.{le-leb, lt-leb, leb-true}
+use Rattle.octets.specs.Limits.{longest, mostRows}
 use Rattle.octets.specs.Reading.{ok, no, isOk}
 use Rattle.octets.specs.Writing.{Each, Octet}
 use Rattle.octets.proofs.Inverse.{after, chosen}
@@ -15,35 +16,35 @@ use Rattle.elements.specs.Element.{elementAt}
 use Rattle.elements.specs.Steps.{lentBook, stepAt}
 
 module _ (s : List ℕ) (rows : ℕ) (octets : List ℕ) (used : ℕ) where
-  pub lent-long : 1048576 < length s → lentBook s rows octets used ≡ no 2 0
+  pub lent-long : longest < length s → lentBook s rows octets used ≡ no 2 0
   unfolding lentBook
-  lent-long h = rw (lt-leb (length s) 1048576 h) refl
+  lent-long h = rw (lt-leb (length s) longest h) refl
 
-  module _ (short : length s ≤ 1048576) where
+  module _ (short : length s ≤ longest) where
     pub lent-unbooked : isOk (bookOf octets used) ≡ false → lentBook s rows octets used ≡ no 17 0
     unfolding lentBook
-    lent-unbooked e = rw (le-leb (length s) 1048576 short, bad-book octets used e) refl
+    lent-unbooked e = rw (le-leb (length s) longest short, bad-book octets used e) refl
 
-    pub lent-many : IsBook octets used → 1048576 < rows → lentBook s rows octets used ≡ no 17 0
+    pub lent-many : IsBook octets used → mostRows < rows → lentBook s rows octets used ≡ no 17 0
     unfolding lentBook
-    lent-many e h = rw (le-leb (length s) 1048576 short, e, lt-leb rows 1048576 h) refl
+    lent-many e h = rw (le-leb (length s) longest short, e, lt-leb rows mostRows h) refl
 
-    pub lent-is : IsBook octets used → rows ≤ 1048576 → lentBook s rows octets used ≡ ok (bookIn octets used) used
+    pub lent-is : IsBook octets used → rows ≤ mostRows → lentBook s rows octets used ≡ ok (bookIn octets used) used
     unfolding lentBook
-    lent-is e h = rw (le-leb (length s) 1048576 short, e, le-leb rows 1048576 h) refl
+    lent-is e h = rw (le-leb (length s) longest short, e, le-leb rows mostRows h) refl
 
-  pub lent-short : {book : Book} {end : ℕ} → lentBook s rows octets used ≡ ok book end → length s ≤ 1048576
+  pub lent-short : {book : Book} {end : ℕ} → lentBook s rows octets used ≡ ok book end → length s ≤ longest
   unfolding lentBook
-  lent-short e = let (t, _) = chosen (leb (length s) 1048576) _ 2 0 e in leb-true (length s) 1048576 t
+  lent-short e = let (t, _) = chosen (leb (length s) longest) _ 2 0 e in leb-true (length s) longest t
 
   pub lent-forth : {book : Book} {end : ℕ} → Each Octet octets → lentBook s rows octets used ≡ ok book end
-      → (length s ≤ 1048576) × (rows ≤ 1048576) × IsBook octets used
+      → (length s ≤ longest) × (rows ≤ mostRows) × IsBook octets used
   unfolding lentBook
   lent-forth o e =
-      let (t, e₁) = chosen (leb (length s) 1048576) _ 2 0 e in
+      let (t, e₁) = chosen (leb (length s) longest) _ 2 0 e in
       after (bookOf octets used) _ e₁ λ book end e₂ e₃.
-      let (t₁, e₄) = chosen (leb rows 1048576) (λ _. ok book end) 17 0 e₃ in
-      (leb-true (length s) 1048576 t, leb-true rows 1048576 t₁, good-book octets used o (ap isOk e₂))
+      let (t₁, e₄) = chosen (leb rows mostRows) (λ _. ok book end) 17 0 e₃ in
+      (leb-true (length s) longest t, leb-true rows mostRows t₁, good-book octets used o (ap isOk e₂))
 
   module _ (at : ℕ) where
     pub step-refused : (n p : ℕ) → lentBook s rows octets used ≡ no n p → stepAt s at rows octets used ≡ no n p
@@ -54,5 +55,5 @@ module _ (s : List ℕ) (rows : ℕ) (octets : List ℕ) (used : ℕ) where
     unfolding stepAt
     step-read book end e = rw e refl
 
-    pub step-is : length s ≤ 1048576 → IsBook octets used → rows ≤ 1048576 → stepAt s at rows octets used ≡ elementAt s at rows (bookIn octets used)
+    pub step-is : length s ≤ longest → IsBook octets used → rows ≤ mostRows → stepAt s at rows octets used ≡ elementAt s at rows (bookIn octets used)
     step-is short is few = step-read (bookIn octets used) used (lent-is short is few)

@@ -6,6 +6,7 @@ use mathlib.Core.Option.{none}
 use mathlib.Core.Logic.{inl, inr}
 use native.Mathlib.Omega.{arith}
 use lib.ListN.{length, drop, length-append, length-drop}
+use Rattle.octets.specs.Limits.{longest, bookRoom, mostLayouts}
 use Rattle.octets.specs.Reading.{ok, isOk}
 use Rattle.octets.specs.Writing.{word, Each, Octet}
 use Rattle.octets.proofs.Ends.{number-room}
@@ -46,7 +47,7 @@ element-inside s at rows book st next e = go (went s at rows book st next e)
     go (at-row r k h el ro bo) = number-room s at 4 (ap isOk k)
     go (at-finish n t k h el ro bo) = number-room s at 4 (ap isOk k)
 
-module _ (s : List ℕ) (short : length s ≤ 1048576) (o : Each Octet s) (at rows : ℕ) (book : Book) (st : Stepped) (next : ℕ) (e : elementAt s at rows book ≡ ok st next) where
+module _ (s : List ℕ) (short : length s ≤ longest) (o : Each Octet s) (at rows : ℕ) (book : Book) (st : Stepped) (next : ℕ) (e : elementAt s at rows book ≡ ok st next) where
   came : Came s at rows book st next
   came = element-forth s short at rows book o (omega (arith, element-inside s at rows book st next e)) e
 
@@ -61,7 +62,7 @@ image-octets : (book : Book) → Each GoodLayout book → Each Octet (bookImage 
 image-octets [] g = rw image-nil tt
 image-octets (l ∷ rest) g = rw (image-cons l rest) (each-append (layoutImage l) (bookImage rest) (layout-octets l (g .0)) (image-octets rest (g .1)))
 
-module _ (book : Book) (octets : List ℕ) (good : GoodBook book) (long : 32768 ≤ length octets) where
+module _ (book : Book) (octets : List ℕ) (good : GoodBook book) (long : bookRoom ≤ length octets) where
   pub holding-octets : Each Octet octets → Each Octet (holding book octets)
   holding-octets o = each-append (bookImage book) (drop (length (bookImage book)) octets) (image-octets book (good .good)) (each-drop Octet (length (bookImage book)) octets o)
 
@@ -88,8 +89,8 @@ module _ (s : List ℕ) (o : Each Octet s) (at rows : ℕ) (b : Book) (st : Step
     pub layout : Layout
     pub reads : layoutAt s (at + 4) ≡ ok layout next
     pub fresh : find (layout .number) b ≡ none
-    pub few : length b < 64
-    pub small : length (bookImage b) + length (layoutImage layout) ≤ 32768
+    pub few : length b < mostLayouts
+    pub small : length (bookImage b) + length (layoutImage layout) ≤ bookRoom
     pub is : st .book ≡ b ++ layout ∷ []
 
   longer : (l : Layout) → st .book ≡ b ++ l ∷ [] → length (bookImage b) < length (bookImage (st .book))

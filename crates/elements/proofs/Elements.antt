@@ -8,6 +8,7 @@ use native.Mathlib.Omega.{arith}
 use lib.ListN.{length}
 use lib.Dec.{leb, ltb, eqb, lit<}
 use borrow.Author.Tests.{eqb-true, eq-eqb}
+use Rattle.octets.specs.Limits.{longest, bookRoom, mostLayouts}
 use Rattle.octets.specs.Reading.{ok, no, choose, number, same}
 use Rattle.octets.specs.Writing.{word, images, Each, Octet}
 use Rattle.layouts.specs.Layout.{Layout, layoutAt, layoutImage, GoodLayout}
@@ -32,7 +33,7 @@ learn-anywhere book l p q {b} {n} e = go (find (l .number) book) e
   where
     go : (o : Option Layout) → learnAt book l p o ≡ ok b n → learnAt book l q o ≡ ok b q
     go (some m) r = choose-anywhere (same (layoutImage m) (layoutImage l)) book p q 10 r
-    go none r = choose-anywhere (ltb (length book) 64 && leb (length (bookImage book) + length (layoutImage l)) 32768) (book ++ l ∷ []) p q 11 r
+    go none r = choose-anywhere (ltb (length book) mostLayouts && leb (length (bookImage book) + length (layoutImage l)) bookRoom) (book ++ l ∷ []) p q 11 r
 
 -- The end's octets.
 abbrev pub endImage : ℕ → ℕ → List ℕ
@@ -51,7 +52,7 @@ pub data Came (s : List ℕ) (at rows : ℕ) (book : Book) : Stepped → ℕ →
 abbrev Ended : List ℕ → ℕ → ℕ → Element → ℕ → Type 0
 Ended s rows at f end = (time : ℕ) × (time < 2 ^ 64) × (end ≡ length s) × Spans s (length s) at end (word 4 rows ++ word 8 time) × (f ≡ finish rows time)
 
-module _ (s : List ℕ) (short : length s ≤ 1048576) where
+module _ (s : List ℕ) (short : length s ≤ longest) where
   finish-back : (rows time : ℕ) {at next : ℕ} → rows < 2 ^ 32 → time < 2 ^ 64 → next ≡ length s → Spans s (length s) at next (word 4 rows ++ word 8 time)
       → finishAt rows s at ≡ ok (finish rows time) next
   unfolding finishAt

@@ -5,6 +5,7 @@ use mathlib.Core.List.{List, [], _∷_, _++_, append-nil}
 use native.Mathlib.Omega.{arith}
 use native.Mathlib.Nat.{add-zero, add-assoc}
 use lib.ListN.{length, length-append}
+use Rattle.octets.specs.Limits.{longest}
 use Rattle.octets.specs.Reading.{ok}
 use Rattle.octets.specs.Writing.{images, Each, Octet}
 use Rattle.octets.proofs.Spans.{Spans, none-spans, join, middle}
@@ -33,7 +34,7 @@ placed-from at rows end [] = rw (add-zero at) refl
 placed-from at rows end (i ∷ rest) =
     rw (placed-from (at + length (itemImage i)) rows end rest, length-append (itemImage i) (images itemImage rest), add-assoc at (length (itemImage i)) (length (images itemImage rest))) refl
 
-module _ (s : List ℕ) (short : length s ≤ 1048576) where
+module _ (s : List ℕ) (short : length s ≤ longest) where
   -- What a way passes: good items, and just the octets of their image.
   pub record Way (x : Spot) (ps : List Seen) (y : Spot) : Type 0 where
     pub good : GoodItems (x .book) (itemsOf ps)

@@ -4,6 +4,7 @@ use mathlib.Core.Path.{_≡_, refl, _∙_}
 use mathlib.Core.List.{List}
 use native.Mathlib.Omega.{arith}
 use lib.ListN.{length}
+use Rattle.octets.specs.Limits.{longest, mostRows, bookRoom}
 use Rattle.octets.specs.Reading.{Read, ok, no}
 use Rattle.octets.specs.Writing.{Each, Octet}
 use Rattle.layouts.specs.Book.{bookIn, IsBook, GoodBook}
@@ -15,13 +16,13 @@ use Rattle.elements.proofs.Behind.{few-rows, element-place, element-boo
 use Rattle.elements.proofs.Went.{step-rows}
 use Rattle.elements.proofs.Walks.{Agree, Alike, walk-alike}
 
-module _ (s : List ℕ) (o : Each Octet s) (short : length s ≤ 1048576) where
+module _ (s : List ℕ) (o : Each Octet s) (short : length s ≤ longest) where
   -- Lent octets that hold a good book, and rows that stay within the limit whatever follows.
   pub record Holds (x : Lent) (y : Spot) : Type 0 where
     pub at : x .at ≡ y .at
     pub rows : x .rows ≡ y .rows
-    pub few : x .rows + (length s - x .at) ≤ 1048576
-    pub room : 32768 ≤ length (x .octets)
+    pub few : x .rows + (length s - x .at) ≤ mostRows
+    pub room : bookRoom ≤ length (x .octets)
     pub is : IsBook (x .octets) (x .used)
     pub book : bookIn (x .octets) (x .used) ≡ y .book
     pub good : GoodBook (y .book)

@@ -8,6 +8,7 @@ use native.Mathlib.Omega.{arith}
 use lib.ListN.{length, take}
 use lib.Dec.{leb, ltb, eqb}
 use borrow.Author.Tests.{leb-true}
+use Rattle.octets.specs.Limits.{longest, mostRows, bookRoom, mostLayouts, mostAttributes, mostListed}
 use Rattle.octets.specs.Reading.{Read, ok, no, _then_, choose, isOk, Room, document, stated, reach, overrun, numberIn, octetsIn, textIn, number, text, count, exactly, run, same}
 use Rattle.kinds.specs.declared.Basic.{Basic}
 use Rattle.kinds.specs.declared.Form.{Form}
@@ -142,9 +143,9 @@ module _ (P : ℕ → Type 0) (s : List ℕ) (end : ℕ) (long : length s ≤ en
         stays-then (text s a) _ (text-stays a b₁) λ recorder b b₂.
         stays-then (number 8 s b) _ (number-stays 8 b b₂) λ start c b₃.
         stays-then (text s c) _ (text-stays c b₃) λ default d b₄.
-        stays-then (count 16 s d) _ (count-stays 16 d four b₄) λ k e b₅.
+        stays-then (count mostListed s d) _ (count-stays mostListed d four b₄) λ k e b₅.
         stays-then (run (namespaceAt s) k e) _ (stays-run (namespaceAt s) namespace-stays k e b₅) λ others f b₆.
-        stays-then (count 16 s f) _ (count-stays 16 f four b₆) λ m g b₇.
+        stays-then (count mostListed s f) _ (count-stays mostListed f four b₆) λ m g b₇.
         stays-then (run (text s) m g) _ (stays-run (text s) text-stays m g b₇) λ services h b₈.
         stays-then (idAt s h) _ (id-stays five h b₈) λ id i b₉.
         stays-then (exactly 0xffffffff 6 s i) _ (exactly-stays 0xffffffff 6 i six b₉) λ _ last b₁₀. b₁₀
@@ -171,7 +172,7 @@ module _ (P : ℕ → Type 0) (s : List ℕ) (end : ℕ) (long : length s ≤ en
       layout-stays at b =
           stays-then (number 4 s at) _ (number-stays 4 at b) λ n a b₁.
           stays-then (text s a) _ (text-stays a b₁) λ name b b₂.
-          stays-then (count 64 s b) _ (count-stays 64 b four b₂) λ k c b₃.
+          stays-then (count mostAttributes s b) _ (count-stays mostAttributes b four b₂) λ k c b₃.
           stays-then (run (attributeAt s) k c) _ (stays-run (attributeAt s) attribute-stays k c b₃) λ attributes last d. d
 
     pub learn-stays : P 10 → P 11 → (book : Book) (l : Layout) (at : ℕ) → at ≤ end → Stays P end (learn book l at)
@@ -180,7 +181,7 @@ module _ (P : ℕ → Type 0) (s : List ℕ) (end : ℕ) (long : length s ≤ en
       where
         go : (o : Option Layout) → Stays P end (learnAt book l at o)
         go (some m) = stays-choose (same (layoutImage m) (layoutImage l)) _ _ (λ _. b) (ten, b)
-        go none = stays-choose (ltb (length book) 64 && leb (length (bookImage book) + length (layoutImage l)) 32768) _ _ (λ _. b) (eleven, b)
+        go none = stays-choose (ltb (length book) mostLayouts && leb (length (bookImage book) + length (layoutImage l)) bookRoom) _ _ (λ _. b) (eleven, b)
 
     -- A row.
     module _ (thirteen : P 13) (fourteen : P 14) where
@@ -256,7 +257,7 @@ module _ (P : ℕ → Type 0) (s : List ℕ) (end : ℕ) (long : length s ≤ en
 
     pub header-stays : OfHeader P → Stays P end (headerAt s)
     unfolding headerAt
-    header-stays all = stays-choose (leb (length s) 1048576) _ _ (λ _. fields-stay all 0 (omega arith)) (all .0, omega arith)
+    header-stays all = stays-choose (leb (length s) longest) _ _ (λ _. fields-stay all 0 (omega arith)) (all .0, omega arith)
 
     pub whole-stays : OfHeader P → OfElement P → Stays P end (whole s)
     unfolding whole reading through
@@ -272,7 +273,7 @@ module _ (P : ℕ → Type 0) (s : List ℕ) (end : ℕ) (long : length s ≤ en
         → Stays P end (lentBook s rows octets used then f)
     unfolding lentBook bookOf
     lent-stays two seventeen rows octets used f h =
-        go (leb (length s) 1048576) (leb 32768 (length octets) && leb used 32768) (layoutsAt 64 [] (take used octets) 0) (leb rows 1048576)
+        go (leb (length s) longest) (leb bookRoom (length octets) && leb used bookRoom) (layoutsAt mostLayouts [] (take used octets) 0) (leb rows mostRows)
       where
         start : 0 ≤ end
         start = omega arith

@@ -6,6 +6,7 @@ use mathlib.Core.Option.{some}
 use native.Mathlib.Omega.{arith}
 use native.Mathlib.Nat.{add-zero}
 use lib.ListN.{length}
+use Rattle.octets.specs.Limits.{longest}
 use Rattle.octets.specs.Writing.{Each, Octet}
 use Rattle.elements.specs.Element.{item}
 use Rattle.elements.specs.Reading.{placedAll, rowsOf}
@@ -25,7 +26,7 @@ path-rows s [] x y h = rw (← h) (sym (add-zero (x .rows)))
 path-rows s (p ∷ ps) x y h = omega (arith, turn-rows s x p (h .0) (h .1), path-rows s ps (h .0) y (h .2))
 
 module _ (s : List ℕ) (o : Each Octet s) where
-  module _ (short : length s ≤ 1048576) where
+  module _ (short : length s ≤ longest) where
     abbrev left : Spot → ℕ
     left x = length s - x .at
 

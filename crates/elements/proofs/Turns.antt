@@ -4,6 +4,7 @@ use mathlib.Core.Path.{_≡_, refl, sym, ap, _∙_, subst}
 use mathlib.Core.List.{List}
 use native.Mathlib.Omega.{arith}
 use lib.ListN.{length}
+use Rattle.octets.specs.Limits.{longest}
 use Rattle.octets.specs.Reading.{Read, ok, no, number}
 use Rattle.octets.specs.Writing.{Each, Octet}
 use Rattle.octets.proofs.Inverse.{after}
@@ -67,7 +68,7 @@ module _ (s : List ℕ) (x : Spot) where
   pub took-at : (p : Seen) (y : Spot) → turnAt s x ≡ goes p y → Took spotOf (x .at) (elementAt s (x .at) (x .rows) (x .book)) p y
   took-at p y e = took spotOf (x .at) (elementAt s (x .at) (x .rows) (x .book)) p y e
 
-  pub turn-moves : Each Octet s → length s ≤ 1048576 → (p : Seen) (y : Spot) → turnAt s x ≡ goes p y → (x .at + 4 ≤ y .at) × (y .at ≤ length s)
+  pub turn-moves : Each Octet s → length s ≤ longest → (p : Seen) (y : Spot) → turnAt s x ≡ goes p y → (x .at + 4 ≤ y .at) × (y .at ≤ length s)
   turn-moves o short p y e =
       let t = took-at p y e in
       subst (λ (z : Spot). (x .at + 4 ≤ z .at) × (z .at ≤ length s)) (sym (t .spot)) (element-place s short o (x .at) (x .rows) (x .book) (t .stepped) (p .next) (t .reads))

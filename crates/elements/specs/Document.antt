@@ -4,6 +4,7 @@ use mathlib.Core.Path.{_≡_}
 use mathlib.Core.List.{List, [], _∷_, _++_}
 use mathlib.Core.Option.{some}
 use lib.ListN.{length}
+use Rattle.octets.specs.Limits.{longest}
 use Rattle.octets.specs.Reading.{ok}
 use Rattle.octets.specs.Writing.{word, images}
 use Rattle.layouts.specs.Layout.{Layout, layoutImage, GoodLayout}
@@ -45,7 +46,7 @@ pub record Good (d : Document) : Type 0 where
   pub header : GoodHeader (d .header)
   pub items : GoodItems [] (d .items)
   pub end : d .end < 2 ^ 64
-  pub fits : length (image d) ≤ 1048576
+  pub fits : length (image d) ≤ longest
 
 -- The items with their places, and the end behind them.
 abbrev pub placedFrom : ℕ → ℕ → ℕ → List Item → List Placed

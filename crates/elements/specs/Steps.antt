@@ -3,6 +3,7 @@ use Prim.Native.Nat.{ℕ}
 use mathlib.Core.List.{List, _++_}
 use lib.ListN.{length, drop}
 use lib.Dec.{leb}
+use Rattle.octets.specs.Limits.{longest, mostRows}
 use Rattle.octets.specs.Reading.{Read, ok, no, _then_, choose}
 use Rattle.layouts.specs.Book.{Book, bookImage, bookOf}
 use Rattle.elements.specs.Element.{Stepped, elementAt}
@@ -19,8 +20,8 @@ leaves octets (no n p) = octets
 -- What stands before every step: 2 for the document, then 17 for the book and the rows passed.
 unfoldable pub lentBook : List ℕ → ℕ → List ℕ → ℕ → Read Book
 lentBook s rows octets used =
-    choose (leb (length s) 1048576)
-    (λ _. bookOf octets used then λ book end. choose (leb rows 1048576) (λ _. ok book end) (λ _. no 17 0))
+    choose (leb (length s) longest)
+    (λ _. bookOf octets used then λ book end. choose (leb rows mostRows) (λ _. ok book end) (λ _. no 17 0))
     (λ _. no 2 0)
 
 -- One step: a document, a place, the rows passed, a lent book and how much of it is used.

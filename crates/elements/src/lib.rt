@@ -4,6 +4,7 @@ ghost use mathlib.Core.Path.{_≡_};
 ghost use mathlib.Core.Bool.{true};
 ghost use Prim.Native.Nat.{ℕ, _+_, _≤_, _<_};
 ghost use lib.ListN.{length};
+ghost use Rattle.octets.specs.Limits.{longest, mostRows, bookRoom};
 ghost use Rattle.octets.specs.Reading.{ok, isOk, be};
 ghost use Rattle.layouts.specs.Layout.{Layout, layoutAt};
 ghost use Rattle.layouts.specs.Book.{Book, bookImage, IsBook, bookIn};
@@ -38,7 +39,7 @@ pub enum Stepping {
 
 // The end from its count on: its count is that of the rows passed, and nothing follows it.
 fn end_step(doc: &[u8], at: usize, rows: usize, used: usize) -> Stepping
-    requires { ⌜ (at ≤ length (now doc)) × (length (now doc) ≤ 1048576) ⌝ }
+    requires { ⌜ (at ≤ length (now doc)) × (length (now doc) ≤ longest) ⌝ }
     ensures { λ r. ⌜ ((book : Book) → length (bookImage book) ≡ used → r ≡ tells (endElement (now (doc .entry)) at rows book)) ⌝ }
 {
     if doc.len() < at + 4 {
@@ -73,7 +74,7 @@ fn row_step<'d, 's>(
     looked: Looked,
     used: usize,
 ) -> Stepping
-    requires { ⌜ (at ≤ length (now doc)) × (length (now doc) ≤ 1048576) × (rows ≤ 1048576) × (length (now s) ≤ 1048576) × Stood (now s) looked ⌝ }
+    requires { ⌜ (at ≤ length (now doc)) × (length (now doc) ≤ longest) × (rows ≤ mostRows) × (length (now s) ≤ longest) × Stood (now s) looked ⌝ }
     ensures { λ r. ⌜ ((b : Book) → Over (now (doc .entry)) at (now (s .entry)) looked used b → r ≡ tells (rowElement (now (doc .entry)) at rows b)) ⌝ }
 {
     if doc.len() < at + 4 {
@@ -98,7 +99,7 @@ fn row_step<'d, 's>(
 
 // What a layout that was read says.
 fn layout_told(doc: &[u8], at: usize, next: usize, rows: usize, used: usize) -> Step
-    requires { ⌜ (length (now doc) ≤ 1048576) × (isOk (layoutAt (now doc) at) ≡ true) ⌝ }
+    requires { ⌜ (length (now doc) ≤ longest) × (isOk (layoutAt (now doc) at) ≡ true) ⌝ }
     ensures { λ r. ⌜ ((l : Layout) (end : ℕ) → layoutAt (now (doc .entry)) at ≡ ok l end → (b : Book) → length (bookImage b) ≡ used → r ≡ stepOf (record { element = item (layout l); rows = rows; book = b }) next) ⌝ }
 {
     Step {
@@ -121,7 +122,7 @@ fn layout_step<'d, 's>(
     looked: Looked,
     used: usize,
 ) -> Stepping
-    requires { ⌜ (at ≤ length (now doc)) × (length (now doc) ≤ 1048576) × (length (now s) ≤ 1048576) × (used ≤ 32768) × Stood (now s) looked ⌝ }
+    requires { ⌜ (at ≤ length (now doc)) × (length (now doc) ≤ longest) × (length (now s) ≤ longest) × (used ≤ bookRoom) × Stood (now s) looked ⌝ }
     ensures { λ r. ⌜ ((b : Book) → Over (now (doc .entry)) at (now (s .entry)) looked used b → r ≡ tells (layoutElement (now (doc .entry)) at rows b)) ⌝ }
 {
     let end = layouts::layout_end(doc, at);
@@ -147,7 +148,7 @@ pub fn element_over<'d, 's>(
     looked: Looked,
     used: usize,
 ) -> Stepping
-    requires { ⌜ (length (now doc) ≤ 1048576) × (rows ≤ 1048576) × (length (now s) ≤ 1048576) × (used ≤ 32768) × Stood (now s) looked ⌝ }
+    requires { ⌜ (length (now doc) ≤ longest) × (rows ≤ mostRows) × (length (now s) ≤ longest) × (used ≤ bookRoom) × Stood (now s) looked ⌝ }
     ensures { λ r. ⌜ ((b : Book) → Over (now (doc .entry)) (at + 4) (now (s .entry)) looked used b → r ≡ tells (elementAt (now (doc .entry)) at rows b)) ⌝ }
 {
     if doc.len() < at {
@@ -171,7 +172,7 @@ pub fn element_over<'d, 's>(
 
 // The number behind the kind at a place; 0 where the document ends before it.
 pub fn number_behind(doc: &[u8], at: usize) -> u32
-    requires { ⌜ length (now doc) ≤ 1048576 ⌝ }
+    requires { ⌜ length (now doc) ≤ longest ⌝ }
     ensures { λ r. ⌜ (at + 4 + 4 ≤ length (now (doc .entry)) → r ≡ be 4 (now (doc .entry)) (at + 4)) × (length (now (doc .entry)) < at + 4 + 4 → r ≡ 0) ⌝ }
 {
     if doc.len() < at {
@@ -185,7 +186,7 @@ pub fn number_behind(doc: &[u8], at: usize) -> u32
 
 // The layout that an element was read as, put behind the used octets of the book that it is new to.
 pub fn grow<'d, 'b>(doc: &'d [u8], at: usize, next: usize, book: &'b mut [u8], used: usize)
-    requires { ⌜ (length (now doc) ≤ 1048576) × IsBook (now book) used × Grows (now doc) at next (bookIn (now book) used) ⌝ }
+    requires { ⌜ (length (now doc) ≤ longest) × IsBook (now book) used × Grows (now doc) at next (bookIn (now book) used) ⌝ }
     ensures { λ _. ⌜ ((rows : ℕ) (st : Stepped) → elementAt (now (doc .entry)) at rows (bookIn (now (book .entry)) used) ≡ ok st next → now (book .exit) ≡ holding (st .book) (now (book .entry))) ⌝ }
 {
     let start = at + 4;
@@ -200,7 +201,7 @@ pub fn element<'d, 'b>(
     book: &'b mut [u8],
     used: usize,
 ) -> Stepping
-    requires { ⌜ (length (now doc) ≤ 1048576) × (rows ≤ 1048576) × IsBook (now book) used ⌝ }
+    requires { ⌜ (length (now doc) ≤ longest) × (rows ≤ mostRows) × IsBook (now book) used ⌝ }
     ensures { λ r. ⌜ (r ≡ tells (elementAt (now (doc .entry)) at rows (bookIn (now (book .entry)) used))) × (now (book .exit) ≡ leaves (now (book .entry)) (elementAt (now (doc .entry)) at rows (bookIn (now (book .entry)) used))) ⌝ }
 {
     let looked = layouts::look_in(&book[..used], number_behind(doc, at));

@@ -9,6 +9,7 @@ use lib.ListN.{length, take, drop, length-append, length-drop, List·getD-append
 use lib.Seq.{take-add, drop-drop, length-take-le}
 use lib.Dec.{leb, ltb, eqb}
 use borrow.Author.Tests.{leb-true, lt-ltb, le-ltb}
+use Rattle.octets.specs.Limits.{longest, bookRoom, mostLayouts}
 use Rattle.octets.specs.Reading.{ok, choose, be, same}
 use Rattle.octets.specs.Writing.{Each, Octet}
 use Rattle.octets.proofs.Copies.{same-lengths}
@@ -23,13 +24,13 @@ use Rattle.fields.specs.Answers.{learningFor, learning, added}
 
 -- The used octets of a book.
 module _ (octets : List ℕ) (used : ℕ) (o : Each Octet octets) (is : IsBook octets used) where
-  pub used-room : (32768 ≤ length octets) × (used ≤ 32768)
+  pub used-room : (bookRoom ≤ length octets) × (used ≤ bookRoom)
   used-room = let l = lent-book octets used o is in (l .room, l .most)
 
   pub used-length : length (take used octets) ≡ used
   used-length = let r = used-room in length-take-le used octets (omega arith)
 
-  pub used-small : length (take used octets) ≤ 1048576
+  pub used-small : length (take used octets) ≤ longest
   used-small = let r = used-room in let l = used-length in omega arith
 
   pub used-image : Image (take used octets) (bookIn octets used)
@@ -94,34 +95,34 @@ module _ (book : Book) (used : ℕ) (xs : List ℕ) where
   learning-other m e h = rw (e, h) refl
 
   module _ (e : find (be 4 xs 0) book ≡ none) where
-    pub learning-many : 64 ≤ length book → learning book used xs ≡ Refused 11
+    pub learning-many : mostLayouts ≤ length book → learning book used xs ≡ Refused 11
     unfolding learning
-    learning-many h = rw (e, le-ltb (length book) 64 h) refl
+    learning-many h = rw (e, le-ltb (length book) mostLayouts h) refl
 
-    module _ (f : length book < 64) where
-      pub learning-long : leb (used + length xs) 32768 ≡ false → learning book used xs ≡ Refused 11
+    module _ (f : length book < mostLayouts) where
+      pub learning-long : leb (used + length xs) bookRoom ≡ false → learning book used xs ≡ Refused 11
       unfolding learning
-      learning-long h = rw (e, lt-ltb (length book) 64 f, h) refl
+      learning-long h = rw (e, lt-ltb (length book) mostLayouts f, h) refl
 
-      pub learning-new : leb (used + length xs) 32768 ≡ true → learning book used xs ≡ New (used + length xs)
+      pub learning-new : leb (used + length xs) bookRoom ≡ true → learning book used xs ≡ New (used + length xs)
       unfolding learning
-      learning-new h = rw (e, lt-ltb (length book) 64 f, h) refl
+      learning-new h = rw (e, lt-ltb (length book) mostLayouts f, h) refl
 
 -- What the book takes stays inside its limit.
-pub added-fits : (book : Book) (used : ℕ) (xs : List ℕ) → used ≤ 32768 → used + length (added (learning book used xs) xs) ≤ 32768
+pub added-fits : (book : Book) (used : ℕ) (xs : List ℕ) → used ≤ bookRoom → used + length (added (learning book used xs) xs) ≤ bookRoom
 unfolding learning
 added-fits book used xs h = go (find (be 4 xs 0) book)
   where
-    known : (t : Bool) → used + length (added (choose t (λ _. Known) (λ _. Refused 10)) xs) ≤ 32768
+    known : (t : Bool) → used + length (added (choose t (λ _. Known) (λ _. Refused 10)) xs) ≤ bookRoom
     known true = omega arith
     known false = omega arith
 
-    new : (t u : Bool) → leb (used + length xs) 32768 ≡ u → used + length (added (choose (t && u) (λ _. New (used + length xs)) (λ _. Refused 11)) xs) ≤ 32768
-    new true true e = leb-true (used + length xs) 32768 e
+    new : (t u : Bool) → leb (used + length xs) bookRoom ≡ u → used + length (added (choose (t && u) (λ _. New (used + length xs)) (λ _. Refused 11)) xs) ≤ bookRoom
+    new true true e = leb-true (used + length xs) bookRoom e
     new true false e = omega arith
     new false true e = omega arith
     new false false e = omega arith
 
-    go : (o : Option Layout) → used + length (added (learningFor book used xs o) xs) ≤ 32768
+    go : (o : Option Layout) → used + length (added (learningFor book used xs o) xs) ≤ bookRoom
     go (some m) = known (same (layoutImage m) xs)
-    go none = new (ltb (length book) 64) (leb (used + length xs) 32768) refl
+    go none = new (ltb (length book) mostLayouts) (leb (used + length xs) bookRoom) refl

@@ -6,6 +6,7 @@ use mathlib.Core.Bool.{true, false, _&&_}
 use mathlib.Core.Option.{Option, some, none}
 use lib.ListN.{length, take, drop}
 use lib.Dec.{leb, ltb}
+use Rattle.octets.specs.Limits.{longest, bookRoom, mostLayouts}
 use Rattle.octets.specs.Reading.{Read, ok, no, choose, be, same}
 use Rattle.octets.specs.Writing.{over}
 use Rattle.layouts.specs.Layout.{Attribute, Layout, layoutImage}
@@ -26,8 +27,8 @@ use Rattle.fields.specs.declared.Counting.the-variants as counting
 -- Octets that fit in the room are laid from the place on; others leave everything.
 abbrev pub Puts : List ℕ → List ℕ → ℕ → List ℕ → Put → Type 0
 Puts buffer after at xs (To next) =
-    (leb (at + length xs) (min (length buffer) 1048576) ≡ true) × (next ≡ at + length xs) × (after ≡ over buffer at xs)
-Puts buffer after at xs Full = (leb (at + length xs) (min (length buffer) 1048576) ≡ false) × (after ≡ buffer)
+    (leb (at + length xs) (min (length buffer) longest) ≡ true) × (next ≡ at + length xs) × (after ≡ over buffer at xs)
+Puts buffer after at xs Full = (leb (at + length xs) (min (length buffer) longest) ≡ false) × (after ≡ buffer)
 
 -- A test passed, or its refusal, which gets its place from the call.
 abbrev pub says : Fault → Read (Unit {0})
@@ -51,7 +52,7 @@ countOf (some l) = counting.Has (length (l .attributes))
 -- What a book says to octets that are to be a layout's: those of its number are the same, or it is 10; a new one that would be the 65th, or pass 32,768 octets, is 11.
 abbrev pub learningFor : Book → ℕ → List ℕ → Option Layout → Learning
 learningFor book used xs (some m) = choose (same (layoutImage m) xs) (λ _. Known) (λ _. Refused 10)
-learningFor book used xs none = choose (ltb (length book) 64 && leb (used + length xs) 32768) (λ _. New (used + length xs)) (λ _. Refused 11)
+learningFor book used xs none = choose (ltb (length book) mostLayouts && leb (used + length xs) bookRoom) (λ _. New (used + length xs)) (λ _. Refused 11)
 
 unfoldable pub learning : Book → ℕ → List ℕ → Learning
 learning book used xs = learningFor book used xs (find (be 4 xs 0) book)

@@ -5,6 +5,7 @@ ghost use mathlib.Core.List.{_++_};
 ghost use Prim.Native.Nat.{ℕ, _+_, _-_, _^_, _≤_, min};
 ghost use lib.ListN.{length, drop, replicate};
 ghost use lib.Dec.{leb, ltb};
+ghost use Rattle.octets.specs.Limits.{longest};
 ghost use Rattle.octets.specs.Reading.{ok, be, same};
 ghost use Rattle.octets.specs.Writing.{word, over};
 ghost use Rattle.layouts.specs.Layout.{Layout, layoutAt, layoutImage};
@@ -122,9 +123,13 @@ pub fn lay3<'h, 'x, 't, 'b>(
 
 // The room in a buffer of so many octets.
 pub fn room_of(len: usize) -> usize
-    ensures { λ r. ⌜ r ≡ min len 1048576 ⌝ }
+    ensures { λ r. ⌜ r ≡ min len longest ⌝ }
 {
-    if len < 1048576 { len } else { 1048576 }
+    if len < octets::LONGEST {
+        len
+    } else {
+        octets::LONGEST
+    }
 }
 
 // Three runs of octets put one behind another at a place, where they fit in the room.
@@ -135,7 +140,7 @@ pub fn put_runs<'b, 'h, 'x, 't>(
     body: &'x [u8],
     tail: &'t [u8],
 ) -> Put
-    requires { ⌜ at ≤ min (length (now buf)) 1048576 ⌝ }
+    requires { ⌜ at ≤ min (length (now buf)) longest ⌝ }
     ensures { λ r. ⌜ Puts (now (buf .entry)) (now (buf .exit)) at (now (head .entry) ++ (now (body .entry) ++ now (tail .entry))) r ⌝ }
 {
     let room = room_of(buf.len());
@@ -167,7 +172,7 @@ pub fn lay_zeros(buf: &mut [u8], at: usize, n: usize)
 
 // Field n of the layout at a place that is known to be accepted.
 fn next_at(s: &[u8], at: usize, n: u32) -> Next
-    requires { ⌜ (length (now s) ≤ 1048576) × Reads (now s) at ⌝ }
+    requires { ⌜ (length (now s) ≤ longest) × Reads (now s) at ⌝ }
     ensures { λ r. ⌜ ((l : Layout) (end : ℕ) → layoutAt (now (s .entry)) at ≡ ok l end → r ≡ firstOf (drop n (l .attributes))) ⌝ }
 {
     if layouts::attribute_count(s, at) <= n {
@@ -240,7 +245,7 @@ pub fn lay_length(buf: &mut [u8], start: usize, end: usize)
 
 // Whether the layout at a place is two runs of octets, one behind the other, compared where they stand.
 fn same_runs<'s, 'f, 'l>(s: &'s [u8], at: usize, front: &'f [u8], last: &'l [u8]) -> bool
-    requires { ⌜ (length (now s) ≤ 1048576) × Reads (now s) at ⌝ }
+    requires { ⌜ (length (now s) ≤ longest) × Reads (now s) at ⌝ }
     ensures { λ r. ⌜ ((m : Layout) (end : ℕ) → layoutAt (now (s .entry)) at ≡ ok m end → r ≡ same (layoutImage m) (now (front .entry) ++ now (last .entry))) ⌝ }
 {
     let end = layouts::layout_skip(s, at);
@@ -270,10 +275,10 @@ pub fn meet<'b, 'f, 'l>(book: &'b [u8], used: usize, front: &'f [u8], last: &'l 
             }
         }
         Looked::Missing(k) => {
-            if 64 <= k {
+            if octets::MOST_LAYOUTS <= k {
                 return Learning::Refused(11);
             }
-            if !fits(32768 - used, front.len(), last.len(), 0) {
+            if !fits(octets::BOOK_ROOM - used, front.len(), last.len(), 0) {
                 return Learning::Refused(11);
             }
             Learning::New(used + front.len() + last.len())
@@ -319,7 +324,7 @@ pub fn complete<'b, 'k, 'l>(
     at: usize,
     last: &'l [u8],
 ) -> Completed
-    requires { ⌜ IsBook (now book) used × (from + 4 ≤ at) × (at ≤ min (length (now buf)) 1048576) ⌝ }
+    requires { ⌜ IsBook (now book) used × (from + 4 ≤ at) × (at ≤ min (length (now buf)) longest) ⌝ }
     ensures { λ r. ⌜ Completes (now (buf .entry)) (now (buf .exit)) (now (book .entry)) (now (book .exit)) used from at (now (last .entry)) r ⌝ }
 {
     let learning = meet(book, used, &buf[from..at], last);

@@ -7,6 +7,7 @@ use native.Mathlib.Nat.{le-refl}
 use lib.ListN.{length}
 use lib.Dec.{leb, lit<}
 use borrow.Author.Tests.{leb-true, le-leb}
+use Rattle.octets.specs.Limits.{mostListed}
 use Rattle.octets.specs.Reading.{ok, part, exactly}
 use Rattle.octets.specs.Writing.{word, Each, Octet}
 use Rattle.headers.specs.Header.{namespaceAt, idAt, headerFrom, namespaceImage, headerImage, GoodNamespace, GoodHeader}
@@ -52,9 +53,9 @@ module _ (s : List ℕ) where
       seq (λ h. h .recorder) (text-whole s) λ recorder _.
       seq (λ h. h .start) (number-whole s 8) λ start _.
       seq (λ h. h .default) (text-whole s) λ default _.
-      seq (λ h. length (h .others)) (count-inverse s 16 (lit< tt)) λ k _.
+      seq (λ h. length (h .others)) (count-inverse s mostListed (lit< tt)) λ k _.
       seqOn (λ h. h .others) (several namespace-inverse k) (λ h f. f .1) λ others n₁ _.
-      seq (λ h. length (h .services)) (count-inverse s 16 (lit< tt)) λ m _.
+      seq (λ h. length (h .services)) (count-inverse s mostListed (lit< tt)) λ m _.
       seqOn (λ h. h .services) (several (text-whole s) m) (λ h f. f .1) λ services n₂ _.
       seq (λ h. h .id) id-inverse λ id _.
       seq (λ h. 0xffffffff) (exactly-inverse s 0xffffffff 6 (lit< tt)) λ _ g₂.

@@ -7,6 +7,7 @@ use native.Mathlib.Nat.{zero-mul, mul-one}
 use lib.ListN.{length}
 use lib.Dec.{leb}
 use borrow.Author.Tests.{le-leb, lt-leb}
+use Rattle.octets.specs.Limits.{mostListed}
 use Rattle.octets.specs.Reading.{Read, ok, no, _then_, choose, ends, part, number, text, count, exactly, run}
 use Rattle.octets.proofs.Inverse.{after, chosen}
 use Rattle.octets.proofs.Ends.{stop, stop-both, ended, run-on, run-stop, run-none, count-is, exactly-place, number-place}
@@ -69,15 +70,15 @@ module _ (s : List ℕ) where
       twice k = omega arith
 
   -- The two lists as the code reads them: a count, and strings.
-  namespaces-list : (at : ℕ) → ends (count 16 s at then λ k next. run (namespaceAt s) k next) ≡ ends (count 16 s at then λ k next. run (text s) (k * 2) next)
-  namespaces-list at = go (count 16 s at)
+  namespaces-list : (at : ℕ) → ends (count mostListed s at then λ k next. run (namespaceAt s) k next) ≡ ends (count mostListed s at then λ k next. run (text s) (k * 2) next)
+  namespaces-list at = go (count mostListed s at)
     where
       go : (r : Read ℕ) → ends (r then λ k next. run (namespaceAt s) k next) ≡ ends (r then λ k next. run (text s) (k * 2) next)
       go (ok k next) = namespaces-texts k next
       go (no n p) = refl
 
-  services-list : (at : ℕ) → ends (count 16 s at then λ k next. run (text s) k next) ≡ ends (count 16 s at then λ k next. run (text s) (k * 1) next)
-  services-list at = go (count 16 s at)
+  services-list : (at : ℕ) → ends (count mostListed s at then λ k next. run (text s) k next) ≡ ends (count mostListed s at then λ k next. run (text s) (k * 1) next)
+  services-list at = go (count mostListed s at)
     where
       go : (r : Read ℕ) → ends (r then λ k next. run (text s) k next) ≡ ends (r then λ k next. run (text s) (k * 1) next)
       go (ok k next) = ap (λ (n : ℕ). ends (run (text s) n next)) (sym (mul-one k))
@@ -86,14 +87,14 @@ module _ (s : List ℕ) where
   -- A list that was read: its count and its items.
   pub record Listed {A : Type 0} (one : ℕ → Read A) (at end : ℕ) : Type 0 where
     pub items : List A
-    pub counts : count 16 s at ≡ ok (length items) (at + 4)
+    pub counts : count mostListed s at ≡ ok (length items) (at + 4)
     pub number : number 4 s at ≡ ok (length items) (at + 4)
     pub reads : run one (length items) (at + 4) ≡ ok items end
 
-  listed : {A : Type 0} (one : ℕ → Read A) (at end : ℕ) → ends (count 16 s at then λ k next. run one k next) ≡ ok end end → Listed one at end
+  listed : {A : Type 0} (one : ℕ → Read A) (at end : ℕ) → ends (count mostListed s at then λ k next. run one k next) ≡ ok end end → Listed one at end
   listed {A} one at end e =
-      let (xs, f) = ended (count 16 s at then λ k next. run one k next) end e in
-      after (count 16 s at) _ f λ k next e₁ e₂.
+      let (xs, f) = ended (count mostListed s at then λ k next. run one k next) end e in
+      after (count mostListed s at) _ f λ k next e₁ e₂.
       let c = count-is s at 16 k next e₁ in
       let long : k ≡ length xs = sym (run-length one k next end xs e₂) in
       record {
@@ -149,26 +150,26 @@ module _ (s : List ℕ) where
         rw (e₁, e₂) (stop-both (number 8 s start) _ _ n p f)
 
     module _ (start namespaces : ℕ) (f : Fronted start namespaces) where
-      pub refused-namespaces : ends (count 16 s namespaces then λ k next. run (text s) (k * 2) next) ≡ no n p → headerFrom s 0 ≡ no n p
+      pub refused-namespaces : ends (count mostListed s namespaces then λ k next. run (text s) (k * 2) next) ≡ no n p → headerFrom s 0 ≡ no n p
       unfolding headerFrom
       refused-namespaces e =
-          rw (f .is-four, f .records, f .starts, f .defaults) (stop-both (count 16 s namespaces) _ _ n p (namespaces-list namespaces ∙ e))
+          rw (f .is-four, f .records, f .starts, f .defaults) (stop-both (count mostListed s namespaces) _ _ n p (namespaces-list namespaces ∙ e))
 
       module _ (services : ℕ) (l : Listed (namespaceAt s) namespaces services) where
-        pub refused-services : ends (count 16 s services then λ k next. run (text s) (k * 1) next) ≡ no n p → headerFrom s 0 ≡ no n p
+        pub refused-services : ends (count mostListed s services then λ k next. run (text s) (k * 1) next) ≡ no n p → headerFrom s 0 ≡ no n p
         unfolding headerFrom
         refused-services e =
-            rw (f .is-four, f .records, f .starts, f .defaults, l .counts, l .reads) (stop-both (count 16 s services) _ _ n p (services-list services ∙ e))
+            rw (f .is-four, f .records, f .starts, f .defaults, l .counts, l .reads) (stop-both (count mostListed s services) _ _ n p (services-list services ∙ e))
 
         pub refused-close : (id : ℕ) → Listed (text s) services id → ends (idAt s id then λ _ next. exactly 0xffffffff 6 s next) ≡ no n p → headerFrom s 0 ≡ no n p
         unfolding headerFrom
         refused-close id m e =
             rw (f .is-four, f .records, f .starts, f .defaults, l .counts, l .reads, m .counts, m .reads) (stop-both (idAt s id) _ _ n p e)
 
-  pub namespaces-listed : (at end : ℕ) → ends (count 16 s at then λ k next. run (text s) (k * 2) next) ≡ ok end end → Listed (namespaceAt s) at end
+  pub namespaces-listed : (at end : ℕ) → ends (count mostListed s at then λ k next. run (text s) (k * 2) next) ≡ ok end end → Listed (namespaceAt s) at end
   namespaces-listed at end e = listed (namespaceAt s) at end (namespaces-list at ∙ e)
 
-  pub services-listed : (at end : ℕ) → ends (count 16 s at then λ k next. run (text s) (k * 1) next) ≡ ok end end → Listed (text s) at end
+  pub services-listed : (at end : ℕ) → ends (count mostListed s at then λ k next. run (text s) (k * 1) next) ≡ ok end end → Listed (text s) at end
   services-listed at end e = listed (text s) at end (services-list at ∙ e)
 
   -- A header whose parts are all accepted.

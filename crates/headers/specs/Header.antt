@@ -4,6 +4,7 @@ use mathlib.Core.Path.{_≡_}
 use mathlib.Core.List.{List, _++_}
 use lib.ListN.{length}
 use lib.Dec.{leb}
+use Rattle.octets.specs.Limits.{longest, mostListed}
 use Rattle.octets.specs.Reading.{Read, ok, no, _then_, choose, part, number, text, count, exactly, run}
 use Rattle.octets.specs.Writing.{word, textImage, images, Each, Octet, Text}
 
@@ -37,9 +38,9 @@ headerFrom s at =
     text s a then λ recorder b.
     number 8 s b then λ start c.
     text s c then λ default d.
-    count 16 s d then λ k e.
+    count mostListed s d then λ k e.
     run (namespaceAt s) k e then λ others f.
-    count 16 s f then λ m g.
+    count mostListed s f then λ m g.
     run (text s) m g then λ services h.
     idAt s h then λ id i.
     exactly 0xffffffff 6 s i then λ _ end.
@@ -47,7 +48,7 @@ headerFrom s at =
 
 -- A document is not too long, else 2 before all; its header stands at 0.
 unfoldable pub headerAt : List ℕ → Read Header
-headerAt s = choose (leb (length s) 1048576) (λ _. headerFrom s 0) (λ _. no 2 0)
+headerAt s = choose (leb (length s) longest) (λ _. headerFrom s 0) (λ _. no 2 0)
 
 unfoldable pub namespaceImage : Namespace → List ℕ
 namespaceImage n = textImage (n .uri) ++ textImage (n .short)
@@ -68,9 +69,9 @@ pub record GoodHeader (h : Header) : Type 0 where
   pub recorder : Text (h .recorder)
   pub start : h .start < 2 ^ 64
   pub default : Text (h .default)
-  pub few-others : length (h .others) ≤ 16
+  pub few-others : length (h .others) ≤ mostListed
   pub others : Each GoodNamespace (h .others)
-  pub few-services : length (h .services) ≤ 16
+  pub few-services : length (h .services) ≤ mostListed
   pub services : Each Text (h .services)
   pub id-length : length (h .id) ≡ 16
   pub id : Each Octet (h .id)

@@ -3,6 +3,7 @@
 ghost use mathlib.Core.Path.{_≡_};
 ghost use Prim.Native.Nat.{_+_, _*_, _≤_};
 ghost use lib.ListN.{length};
+ghost use Rattle.octets.specs.Limits.{longest, mostListed};
 ghost use Rattle.octets.specs.Reading.{ends, _then_, number, text, count, exactly, run};
 ghost use Rattle.octets.specs.Answers.{says, Within};
 ghost use Rattle.headers.specs.Header.{idAt};
@@ -26,7 +27,7 @@ pub enum Placing {
 
 // The place behind a number of four octets that is the one wanted, else a refusal at it.
 fn exactly_at(s: &[u8], at: usize, wanted: u32, refusal: u32) -> Ended
-    requires { ⌜ (at ≤ length (now s)) × (length (now s) ≤ 1048576) ⌝ }
+    requires { ⌜ (at ≤ length (now s)) × (length (now s) ≤ longest) ⌝ }
     ensures { λ r. ⌜ (says r ≡ ends (exactly wanted refusal (now (s .entry)) at)) × Within at r (length (now (s .entry))) ⌝ }
 {
     if s.len() < at + 4 {
@@ -40,7 +41,7 @@ fn exactly_at(s: &[u8], at: usize, wanted: u32, refusal: u32) -> Ended
 
 // The place behind the four octets FF, else 6.
 fn open_at(s: &[u8], at: usize) -> Ended
-    requires { ⌜ (at ≤ length (now s)) × (length (now s) ≤ 1048576) ⌝ }
+    requires { ⌜ (at ≤ length (now s)) × (length (now s) ≤ longest) ⌝ }
     ensures { λ r. ⌜ (says r ≡ ends (exactly 0xffffffff 6 (now (s .entry)) at)) × Within at r (length (now (s .entry))) ⌝ }
 {
     if s.len() < at + 4 {
@@ -54,7 +55,7 @@ fn open_at(s: &[u8], at: usize) -> Ended
 
 // The place behind so many strings.
 pub fn texts_end(s: &[u8], at: usize, count: u32) -> Ended
-    requires { ⌜ (at ≤ length (now s)) × (length (now s) ≤ 1048576) ⌝ }
+    requires { ⌜ (at ≤ length (now s)) × (length (now s) ≤ longest) ⌝ }
     ensures { λ r. ⌜ (says r ≡ ends (run (text (now (s .entry))) count at)) × Within at r (length (now (s .entry))) ⌝ }
 {
     let mut pos = at;
@@ -76,10 +77,10 @@ pub fn texts_end(s: &[u8], at: usize, count: u32) -> Ended
 
 // The place behind a list: its count, at most 16, and so many strings for each of its items.
 fn list_end(s: &[u8], at: usize, each: u32) -> Ended
-    requires { ⌜ (at ≤ length (now s)) × (length (now s) ≤ 1048576) × (each ≤ 2) ⌝ }
-    ensures { λ r. ⌜ (says r ≡ ends (count 16 (now (s .entry)) at then λ k next. run (text (now (s .entry))) (k * each) next)) × Within at r (length (now (s .entry))) ⌝ }
+    requires { ⌜ (at ≤ length (now s)) × (length (now s) ≤ longest) × (each ≤ 2) ⌝ }
+    ensures { λ r. ⌜ (says r ≡ ends (count mostListed (now (s .entry)) at then λ k next. run (text (now (s .entry))) (k * each) next)) × Within at r (length (now (s .entry))) ⌝ }
 {
-    let counted = octets::count_at(s, at, 16);
+    let counted = octets::count_at(s, at, octets::MOST_LISTED);
     match counted {
         Counted::Not(n, p) => Ended::Refused(n, p),
         Counted::Count(k, next) => texts_end(s, next, k * each),
@@ -88,7 +89,7 @@ fn list_end(s: &[u8], at: usize, each: u32) -> Ended
 
 // The place behind the version and the recorder.
 fn recorder_end(s: &[u8]) -> Ended
-    requires { ⌜ length (now s) ≤ 1048576 ⌝ }
+    requires { ⌜ length (now s) ≤ longest ⌝ }
     ensures { λ r. ⌜ (says r ≡ ends (exactly 4 3 (now (s .entry)) 0 then λ _ next. text (now (s .entry)) next)) × Within 0 r (length (now (s .entry))) ⌝ }
 {
     let version = exactly_at(s, 0, 4, 3);
@@ -100,7 +101,7 @@ fn recorder_end(s: &[u8]) -> Ended
 
 // The place behind the start time and the default namespace.
 fn default_end(s: &[u8], at: usize) -> Ended
-    requires { ⌜ (at ≤ length (now s)) × (length (now s) ≤ 1048576) ⌝ }
+    requires { ⌜ (at ≤ length (now s)) × (length (now s) ≤ longest) ⌝ }
     ensures { λ r. ⌜ (says r ≡ ends (number 8 (now (s .entry)) at then λ _ next. text (now (s .entry)) next)) × Within at r (length (now (s .entry))) ⌝ }
 {
     if s.len() < at + 8 {
@@ -111,7 +112,7 @@ fn default_end(s: &[u8], at: usize) -> Ended
 
 // The place behind the document id.
 fn id_end(s: &[u8], at: usize) -> Ended
-    requires { ⌜ (at ≤ length (now s)) × (length (now s) ≤ 1048576) ⌝ }
+    requires { ⌜ (at ≤ length (now s)) × (length (now s) ≤ longest) ⌝ }
     ensures { λ r. ⌜ (says r ≡ ends (idAt (now (s .entry)) at)) × Within at r (length (now (s .entry))) ⌝ }
 {
     let length = exactly_at(s, at, 16, 5);
@@ -128,7 +129,7 @@ fn id_end(s: &[u8], at: usize) -> Ended
 
 // The place behind the document id and the four octets FF.
 fn close_end(s: &[u8], at: usize) -> Ended
-    requires { ⌜ (at ≤ length (now s)) × (length (now s) ≤ 1048576) ⌝ }
+    requires { ⌜ (at ≤ length (now s)) × (length (now s) ≤ longest) ⌝ }
     ensures { λ r. ⌜ (says r ≡ ends (idAt (now (s .entry)) at then λ _ next. exactly 0xffffffff 6 (now (s .entry)) next)) × Within at r (length (now (s .entry))) ⌝ }
 {
     let id = id_end(s, at);
@@ -140,7 +141,7 @@ fn close_end(s: &[u8], at: usize) -> Ended
 
 // The places of a header's fields.
 pub fn header_places(s: &[u8]) -> Placing
-    requires { ⌜ length (now s) ≤ 1048576 ⌝ }
+    requires { ⌜ length (now s) ≤ longest ⌝ }
     ensures { λ r. ⌜ Locates (now (s .entry)) r ⌝ }
 {
     let recorder = recorder_end(s);

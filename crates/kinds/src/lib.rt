@@ -6,6 +6,7 @@ ghost use lib.ListN.{length};
 ghost use Rattle.kinds.specs.Kinds.{codeOf, formOf, signed, unsigned, kindOf, kindAt};
 ghost use Rattle.kinds.specs.Values.{basicOfValue, bitsOfValue};
 ghost use Rattle.kinds.specs.Answers.{kinds, kindSays, Fitting};
+ghost use Rattle.octets.specs.Limits.{longest};
 
 // A basic type.
 pub enum Basic {
@@ -313,7 +314,7 @@ pub fn kind_of(t: u32) -> Typed
 
 // The type whose number stands at a place.
 pub fn kind_at(s: &[u8], at: usize) -> Kinded
-    requires { ⌜ (at ≤ length (now s)) × (length (now s) ≤ 1048576) ⌝ }
+    requires { ⌜ (at ≤ length (now s)) × (length (now s) ≤ longest) ⌝ }
     ensures { λ r. ⌜ (kindSays at r ≡ kindAt (now (s .entry)) at) × Fitting at r (length (now (s .entry))) ⌝ }
 {
     if s.len() < at + 4 {

@@ -10,6 +10,7 @@ use lib.ListN.{length, take}
 use lib.Seq.{append-snoc, length-take-le, take-append-seam}
 use lib.Dec.{leb, eqb}
 use borrow.Author.Tests.{leb-true, eqb-true, le-leb, eq-eqb, ne-eqb}
+use Rattle.octets.specs.Limits.{bookRoom, mostLayouts}
 use Rattle.octets.specs.Reading.{Read, ok, no}
 use Rattle.octets.specs.Writing.{images, Each, Octet}
 use Rattle.octets.proofs.Spans.{Spans, join, middle, all-spans, spans-all, none-spans, none-place, each-take}
@@ -106,15 +107,15 @@ module _ (s : List ℕ) where
       }
 
 -- A good book is read back from its image, whatever stands behind it.
-pub book-back : (book : Book) (octets : List ℕ) → GoodBook book → 32768 ≤ length octets → take (length (bookImage book)) octets ≡ bookImage book
+pub book-back : (book : Book) (octets : List ℕ) → GoodBook book → bookRoom ≤ length octets → take (length (bookImage book)) octets ≡ bookImage book
     → bookOf octets (length (bookImage book)) ≡ ok book (length (bookImage book))
 unfolding bookOf
 book-back book octets g long e =
     rw (
-      le-leb 32768 (length octets) long,
-      le-leb (length (bookImage book)) 32768 (g .small),
+      le-leb bookRoom (length octets) long,
+      le-leb (length (bookImage book)) bookRoom (g .small),
       e,
-      layouts-back (bookImage book) 64 book [] (g .few) (g .good) (g .distinct) refl (all-spans (bookImage book)),
+      layouts-back (bookImage book) mostLayouts book [] (g .few) (g .good) (g .distinct) refl (all-spans (bookImage book)),
     )
 
 as17-ok : {A : Type 0} (r : Read A) {a : A} {n : ℕ} → as17 r ≡ ok a n → r ≡ ok a n
@@ -123,8 +124,8 @@ as17-ok (no m p) e = absurd (let z : _≡_ {A = ℕ} 0 1 = cc in omega arith)
 
 -- What lent octets that hold a book are.
 pub record Lent (octets : List ℕ) (used : ℕ) (book : Book) : Type 0 where
-  pub room : 32768 ≤ length octets
-  pub most : used ≤ 32768
+  pub room : bookRoom ≤ length octets
+  pub most : used ≤ bookRoom
   pub good : GoodBook book
   pub image : bookImage book ≡ take used octets
   pub size : length (bookImage book) ≡ used
@@ -132,11 +133,11 @@ pub record Lent (octets : List ℕ) (used : ℕ) (book : Book) : Type 0 where
 pub book-forth : (octets : List ℕ) (used : ℕ) {book : Book} {end : ℕ} → Each Octet octets → bookOf octets used ≡ ok book end → Lent octets used book × (end ≡ used)
 unfolding bookOf
 book-forth octets used {book} o e =
-    let (t, e₁) = chosen (leb 32768 (length octets) && leb used 32768) (λ _. as17 (layoutsAt 64 [] (take used octets) 0)) 17 0 e in
-    let (t₁, t₂) = both-true (leb 32768 (length octets)) (leb used 32768) t in
-    let room = leb-true 32768 (length octets) t₁ in
-    let most = leb-true used 32768 t₂ in
-    let m = layouts-forth (take used octets) 64 [] (each-take Octet used octets o) tt (omega arith) (as17-ok (layoutsAt 64 [] (take used octets) 0) e₁) in
+    let (t, e₁) = chosen (leb bookRoom (length octets) && leb used bookRoom) (λ _. as17 (layoutsAt mostLayouts [] (take used octets) 0)) 17 0 e in
+    let (t₁, t₂) = both-true (leb bookRoom (length octets)) (leb used bookRoom) t in
+    let room = leb-true bookRoom (length octets) t₁ in
+    let most = leb-true used bookRoom t₂ in
+    let m = layouts-forth (take used octets) mostLayouts [] (each-take Octet used octets o) tt (omega arith) (as17-ok (layoutsAt mostLayouts [] (take used octets) 0) e₁) in
     let image : bookImage book ≡ take used octets = ap bookImage (m .is) ∙ spans-all (m .spans) (m .whole) in
     let long = length-take-le used octets (omega arith) in (
       record {
@@ -155,6 +156,6 @@ pub book-octets : (octets : List ℕ) (used : ℕ) → Each Octet octets → IsB
 unfolding bookImage
 book-octets octets used o e = let h = book-forth octets used o e .0 in (h .good, h .image)
 
-pub octets-book : (book : Book) (rest : List ℕ) → GoodBook book → 32768 ≤ length (bookImage book ++ rest)
+pub octets-book : (book : Book) (rest : List ℕ) → GoodBook book → bookRoom ≤ length (bookImage book ++ rest)
     → bookOf (bookImage book ++ rest) (length (bookImage book)) ≡ ok book (length (bookImage book))
 octets-book book rest g long = book-back book (bookImage book ++ rest) g long (take-append-seam (bookImage book) rest)

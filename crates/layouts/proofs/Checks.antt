@@ -10,6 +10,7 @@ use lib.Dec.{leb, eqb}
 use borrow.Author.Tests.{ne-eqb, eq-eqb, le-leb, lt-leb}
 use native.Mathlib.Numerals.{add-one}
 use native.Mathlib.Omega.{arith}
+use Rattle.octets.specs.Limits.{bookRoom, mostLayouts}
 use Rattle.octets.specs.Reading.{Read, ok, no, choose, ends, isOk, be, valueOr}
 use Rattle.octets.specs.Writing.{Each, Octet}
 use Rattle.octets.proofs.Ends.{ended, refused, left-suc, none-left}
@@ -62,36 +63,36 @@ module _ (n : ℕ) (book : Book) {seen : List ℕ} (e : seen ≡ numbers book) w
 pub record Met (s seen : List ℕ) (k pos : ℕ) : Type 0 where
   pub met : Book
   pub kept : take k seen ≡ numbers met
-  pub same : layoutsAt 64 [] s 0 ≡ layoutsAt (64 - k) met s pos
+  pub same : layoutsAt mostLayouts [] s 0 ≡ layoutsAt (mostLayouts - k) met s pos
 
 module _ (s : List ℕ) where
   pub met-start : (seen : List ℕ) → Met s seen 0 0
   met-start seen = record { met = []; kept = refl; same = refl }
 
   module _ (seen : List ℕ) (k pos : ℕ) (m : Met s seen k pos) where
-    pub met-end : pos ≡ length s → isOk (layoutsAt 64 [] s 0) ≡ true
-    met-end e = ap isOk (m .same ∙ layouts-end s (64 - k) (m .met) pos e)
+    pub met-end : pos ≡ length s → isOk (layoutsAt mostLayouts [] s 0) ≡ true
+    met-end e = ap isOk (m .same ∙ layouts-end s (mostLayouts - k) (m .met) pos e)
 
     module _ (h : pos < length s) where
-      pub met-full : 64 ≤ k → isOk (layoutsAt 64 [] s 0) ≡ false
+      pub met-full : mostLayouts ≤ k → isOk (layoutsAt mostLayouts [] s 0) ≡ false
       unfolding layoutsAt
       met-full f =
-          rw (m .same, none-left 64 k f, ne-eqb pos (length s) (λ z. omega arith)) refl
+          rw (m .same, none-left mostLayouts k f, ne-eqb pos (length s) (λ z. omega arith)) refl
 
-      module _ (more : k < 64) where
-        pub met-refused : (n p : ℕ) → ends (layoutAt s pos) ≡ no n p → isOk (layoutsAt 64 [] s 0) ≡ false
+      module _ (more : k < mostLayouts) where
+        pub met-refused : (n p : ℕ) → ends (layoutAt s pos) ≡ no n p → isOk (layoutsAt mostLayouts [] s 0) ≡ false
         unfolding layoutsAt
-        met-refused n p e = rw (m .same, left-suc 64 k more, ne-eqb pos (length s) (λ z. omega arith), refused (layoutAt s pos) n p e) refl
+        met-refused n p e = rw (m .same, left-suc mostLayouts k more, ne-eqb pos (length s) (λ z. omega arith), refused (layoutAt s pos) n p e) refl
 
         -- The layout here, whose number is compared with those seen.
         module _ (next number : ℕ) (e : ends (layoutAt s pos) ≡ ok next next) (q : number ≡ be 4 s pos) where
-          pub met-again : among number (take k seen) ≡ true → isOk (layoutsAt 64 [] s 0) ≡ false
+          pub met-again : among number (take k seen) ≡ true → isOk (layoutsAt mostLayouts [] s 0) ≡ false
           unfolding layoutsAt
           met-again t =
               let (l, r) = ended (layoutAt s pos) next e in
               let g : isNone (find (l .number) (m .met)) ≡ false =
               ap (λ (n : ℕ). isNone (find n (m .met))) (sym (q ∙ layout-number s pos r .1)) ∙ met-known number (m .met) (m .kept) t in
-              rw (m .same, left-suc 64 k more, ne-eqb pos (length s) (λ z. omega arith), r, g) refl
+              rw (m .same, left-suc mostLayouts k more, ne-eqb pos (length s) (λ z. omega arith), r, g) refl
 
           pub met-on : k < length seen → among number (take k seen) ≡ false → Met s (set seen k number) (k + 1) next
           met-on long t =
@@ -102,7 +103,7 @@ module _ (s : List ℕ) where
               record {
                 met = m .met ++ l ∷ [];
                 kept = rw (add-one k, take-suc-set seen k number long, m .kept, same) (sym (numbers-snoc (m .met) l));
-                same = m .same ∙ ap (λ (n : ℕ). layoutsAt n (m .met) s pos) (left-suc 64 k more) ∙ layouts-more s (64 - (k + 1)) (m .met) pos l next h r g;
+                same = m .same ∙ ap (λ (n : ℕ). layoutsAt n (m .met) s pos) (left-suc mostLayouts k more) ∙ layouts-more s (mostLayouts - (k + 1)) (m .met) pos l next h r g;
               }
 
 -- Whether lent octets hold a book goes by their lengths and by the layouts in the used ones.
@@ -111,17 +112,17 @@ as17-is (ok a n) = refl
 as17-is (no n p) = refl
 
 module _ (octets : List ℕ) (used : ℕ) where
-  pub book-short : length octets < 32768 → isOk (bookOf octets used) ≡ false
+  pub book-short : length octets < bookRoom → isOk (bookOf octets used) ≡ false
   unfolding bookOf
-  book-short h = rw (lt-leb 32768 (length octets) h) refl
+  book-short h = rw (lt-leb bookRoom (length octets) h) refl
 
-  pub book-over : 32768 ≤ length octets → 32768 < used → isOk (bookOf octets used) ≡ false
+  pub book-over : bookRoom ≤ length octets → bookRoom < used → isOk (bookOf octets used) ≡ false
   unfolding bookOf
-  book-over h g = rw (le-leb 32768 (length octets) h, lt-leb used 32768 g) refl
+  book-over h g = rw (le-leb bookRoom (length octets) h, lt-leb used bookRoom g) refl
 
-  pub book-on : 32768 ≤ length octets → used ≤ 32768 → isOk (bookOf octets used) ≡ isOk (layoutsAt 64 [] (take used octets) 0)
+  pub book-on : bookRoom ≤ length octets → used ≤ bookRoom → isOk (bookOf octets used) ≡ isOk (layoutsAt mostLayouts [] (take used octets) 0)
   unfolding bookOf
-  book-on h g = rw (le-leb 32768 (length octets) h, le-leb used 32768 g) (as17-is (layoutsAt 64 [] (take used octets) 0))
+  book-on h g = rw (le-leb bookRoom (length octets) h, le-leb used bookRoom g) (as17-is (layoutsAt mostLayouts [] (take used octets) 0))
 
 -- What the check has found good is a book, which the next call requires; what it has found bad is refused by 17.
 pub good-book : (octets : List ℕ) (used : ℕ) → Each Octet octets → isOk (bookOf octets used) ≡ true → IsBook octets used
@@ -134,7 +135,7 @@ good-book octets used o t = go (bookOf octets used) refl t
 
 pub bad-book : (octets : List ℕ) (used : ℕ) → isOk (bookOf octets used) ≡ false → bookOf octets used ≡ no 17 0
 unfolding bookOf
-bad-book octets used t = go (leb 32768 (length octets) && leb used 32768) (layoutsAt 64 [] (take used octets) 0) t
+bad-book octets used t = go (leb bookRoom (length octets) && leb used bookRoom) (layoutsAt mostLayouts [] (take used octets) 0) t
   where
     go : (b : Bool) (r : Read Book) → isOk (choose b (λ _. as17 r) (λ _. no 17 0)) ≡ false → choose {A = Read Book} b (λ _. as17 r) (λ _. no 17 0) ≡ no 17 0
     go true (ok c n) t = absurd (let z : _≡_ {A = ℕ} 0 1 = cc in omega arith)

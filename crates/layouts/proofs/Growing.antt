@@ -9,6 +9,7 @@ use native.Mathlib.Omega.{arith}
 use lib.ListN.{length, length-append}
 use lib.Dec.{leb, ltb}
 use borrow.Author.Tests.{leb-true, ltb-true, le-leb, lt-ltb}
+use Rattle.octets.specs.Limits.{bookRoom, mostLayouts}
 use Rattle.octets.specs.Reading.{ok, same}
 use Rattle.octets.proofs.Copies.{both-true, same-true, same-refl}
 use Rattle.octets.proofs.Spans.{each-join}
@@ -23,7 +24,7 @@ use Rattle.layouts.proofs.Books.{image-nil, image-snoc}
 abbrev pub Learnt : Book → Layout → Book → Type 0
 Learnt b l c =
     ((m : Layout) × (find (l .number) b ≡ some m) × (layoutImage m ≡ layoutImage l) × (c ≡ b))
-    ⊎ ((find (l .number) b ≡ none) × (length b < 64) × (length (bookImage b) + length (layoutImage l) ≤ 32768) × (c ≡ b ++ l ∷ []))
+    ⊎ ((find (l .number) b ≡ none) × (length b < mostLayouts) × (length (bookImage b) + length (layoutImage l) ≤ bookRoom) × (c ≡ b ++ l ∷ []))
 
 pub learnt : (b : Book) (l : Layout) (at : ℕ) (c : Book) (end : ℕ) → learn b l at ≡ ok c end → Learnt b l c
 unfolding learn
@@ -34,7 +35,7 @@ learnt b l at c end e = go (find (l .number) b) refl e
         let (t, e₁) = chosen (same (layoutImage m) (layoutImage l)) (λ _. ok b at) 10 at e in
         inl (m, f, same-true _ _ t, ok-value e₁ refl)
     go none f e =
-        let (t, e₁) = chosen (ltb (length b) 64 && leb (length (bookImage b) + length (layoutImage l)) 32768) (λ _. ok (b ++ l ∷ []) at) 11 at e in
+        let (t, e₁) = chosen (ltb (length b) mostLayouts && leb (length (bookImage b) + length (layoutImage l)) bookRoom) (λ _. ok (b ++ l ∷ []) at) 11 at e in
         let (few, small) = both-true _ _ t in
         inr (f, ltb-true _ _ few, leb-true _ _ small, ok-value e₁ refl)
 
@@ -42,8 +43,8 @@ pub learn-known : (b : Book) (l : Layout) (at : ℕ) (m : Layout) → find (l .n
 unfolding learn
 learn-known b l at m f q = rw (f, q, same-refl (layoutImage l))
 
-pub learn-new : (b : Book) (l : Layout) (at : ℕ) → find (l .number) b ≡ none → length b < 64
-    → length (bookImage b) + length (layoutImage l) ≤ 32768 → learn b l at ≡ ok (b ++ l ∷ []) at
+pub learn-new : (b : Book) (l : Layout) (at : ℕ) → find (l .number) b ≡ none → length b < mostLayouts
+    → length (bookImage b) + length (layoutImage l) ≤ bookRoom → learn b l at ≡ ok (b ++ l ∷ []) at
 unfolding learn
 learn-new b l at f x y = rw (f, lt-ltb _ _ x, le-leb _ _ y)
 
@@ -118,8 +119,8 @@ pub record Grown (b : Book) (l : Layout) (c : Book) : Type 0 where
 pub good-nil : GoodBook []
 good-nil = record { few = omega arith; small = rw image-nil (omega arith); good = tt; distinct = tt }
 
-pub good-snoc : (b : Book) (l : Layout) → GoodBook b → GoodLayout l → find (l .number) b ≡ none → length b < 64
-    → length (bookImage b) + length (layoutImage l) ≤ 32768 → GoodBook (b ++ l ∷ [])
+pub good-snoc : (b : Book) (l : Layout) → GoodBook b → GoodLayout l → find (l .number) b ≡ none → length b < mostLayouts
+    → length (bookImage b) + length (layoutImage l) ≤ bookRoom → GoodBook (b ++ l ∷ [])
 good-snoc b l g good new few small =
     record {
       few = rw length-append (omega arith);

@@ -5,6 +5,7 @@ use Prim.Native.Nat.{ℕ, _+_, _-_, _≤_, _<_}
 use native.Mathlib.Omega.{arith}
 use lib.ListN.{length, length-append}
 use lib.Dec.{lit<}
+use Rattle.octets.specs.Limits.{mostAttributes}
 use Rattle.octets.specs.Reading.{ok, part}
 use Rattle.octets.specs.Writing.{Each, Octet}
 use Rattle.kinds.proofs.Table.{kind-inverse}
@@ -29,7 +30,7 @@ module _ (s : List ℕ) where
       finally
       (seq (λ l. l .number) (number-whole s 4) λ number _.
       seq (λ l. l .type-name) (text-whole s) λ name _.
-      seq (λ l. length (l .attributes)) (count-inverse s 64 (lit< tt)) λ k _.
+      seq (λ l. length (l .attributes)) (count-inverse s mostAttributes (lit< tt)) λ k _.
       seqOn (λ l. l .attributes) (several attribute-inverse k) (λ l f. f .1) λ attributes n _.
       done (record { number = number; type-name = name; attributes = attributes }) (search)
       (λ l f. λ i. record { number = f .0 .0 .0 .1 i; type-name = f .0 .0 .1 i; attributes = f .1 i }))

@@ -10,6 +10,7 @@ use lib.Seq.{length-take-le}
 use lib.Dec.{ltb}
 use borrow.Author.Tests.{le-ltb, le-leb, lt-leb}
 use native.Mathlib.Omega.{arith}
+use Rattle.octets.specs.Limits.{bookRoom, mostLayouts}
 use Rattle.octets.specs.Reading.{Read, ok, no, choose, part, same}
 use Rattle.octets.specs.Writing.{Each, Octet, over}
 use Rattle.layouts.specs.Layout.{Layout, layoutAt, layoutImage, GoodLayout}
@@ -46,13 +47,13 @@ module _ (book : Book) (l : Layout) (at : ℕ) where
   unfolding learn
   learn-other m f t = rw (f, t) refl
 
-  pub learn-many : find (l .number) book ≡ none → 64 ≤ length book → learn book l at ≡ no 11 at
+  pub learn-many : find (l .number) book ≡ none → mostLayouts ≤ length book → learn book l at ≡ no 11 at
   unfolding learn
-  learn-many f h = rw (f, le-ltb (length book) 64 h) refl
+  learn-many f h = rw (f, le-ltb (length book) mostLayouts h) refl
 
-  pub learn-long : find (l .number) book ≡ none → 32768 < length (bookImage book) + length (layoutImage l) → learn book l at ≡ no 11 at
+  pub learn-long : find (l .number) book ≡ none → bookRoom < length (bookImage book) + length (layoutImage l) → learn book l at ≡ no 11 at
   unfolding learn
-  learn-long f h = rw (f, lt-leb (length (bookImage book) + length (layoutImage l)) 32768 h) (never (ltb (length book) 64))
+  learn-long f h = rw (f, lt-leb (length (bookImage book) + length (layoutImage l)) bookRoom h) (never (ltb (length book) mostLayouts))
     where
       never : (t : Bool) → choose {A = Read Book} (t && false) (λ _. ok (book ++ l ∷ []) at) (λ _. no 11 at) ≡ no 11 at
       never true = refl
@@ -68,6 +69,6 @@ put-learnt octets used book l h =
     rw (long, image-snoc book l, h .image, append-assoc) refl
 
 -- A book of which none is used is empty.
-pub empty-book : (octets : List ℕ) → 32768 ≤ length octets → IsBook octets 0 × (bookIn octets 0 ≡ [])
+pub empty-book : (octets : List ℕ) → bookRoom ≤ length octets → IsBook octets 0 × (bookIn octets 0 ≡ [])
 unfolding bookIn bookOf layoutsAt
-empty-book octets h = (rw (le-leb 32768 (length octets) h) refl, rw (le-leb 32768 (length octets) h) refl)
+empty-book octets h = (rw (le-leb bookRoom (length octets) h) refl, rw (le-leb bookRoom (length octets) h) refl)

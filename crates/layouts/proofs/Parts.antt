@@ -7,6 +7,7 @@ use mathlib.Core.Bool.{true}
 use lib.ListN.{length, drop}
 use native.Mathlib.Numerals.{add-one}
 use native.Mathlib.Omega.{arith}
+use Rattle.octets.specs.Limits.{mostAttributes}
 use Rattle.octets.specs.Reading.{Read, ok, ends, isOk, be, part, number, text, count, run}
 use Rattle.octets.specs.Writing.{Each, Octet}
 use Rattle.octets.proofs.Spans.{spans-front}
@@ -50,7 +51,7 @@ pub record Fields (s : List ℕ) (at : ℕ) (l : Layout) (end mid : ℕ) : Type 
   pub number : be 4 s at ≡ l .number
   pub type-name : text s (at + 4) ≡ ok (l .type-name) mid
   pub inside : mid + 4 ≤ length s
-  pub few : be 4 s mid ≤ 64
+  pub few : be 4 s mid ≤ mostAttributes
   pub count : be 4 s mid ≡ length (l .attributes)
   pub attributes : run (attributeAt s) (be 4 s mid) (mid + 4) ≡ ok (l .attributes) end
 
@@ -77,15 +78,15 @@ module _ (s : List ℕ) (at : ℕ) where
   layout-split {l} {end} e =
       after (number 4 s at) _ e λ n named e₁ e₂.
       after (text s named) _ e₂ λ name mid e₃ e₄.
-      after (count 64 s mid) _ e₄ λ k first e₅ e₆.
+      after (count mostAttributes s mid) _ e₄ λ k first e₅ e₆.
       after (run (attributeAt s) k first) _ e₆ λ attributes last e₇ e₈.
       let same : _≡_ {A = Layout} (record { number = n; type-name = name; attributes = attributes }) l = cc in
       let place : last ≡ end = cc in
       let head = number-room s at 4 (ap isOk e₁) in
       let f₁ = number-ok s at 4 head in
       let p₁ : named ≡ at + 4 = ok-place e₁ f₁ in
-      let (room, few) = count-room s mid 64 (ap isOk e₅) in
-      let f₅ = count-ok s mid 64 room few in
+      let (room, few) = count-room s mid mostAttributes (ap isOk e₅) in
+      let f₅ = count-ok s mid mostAttributes room few in
       let p₅ : first ≡ mid + 4 = ok-place e₅ f₅ in
       let q₅ : k ≡ be 4 s mid = ok-value e₅ f₅ in (
         mid,

@@ -3,6 +3,7 @@ use Prim.Native.Nat.{ℕ, _+_, _≤_, _<_}
 use mathlib.Core.Path.{_≡_, refl, _∙_}
 use mathlib.Core.List.{List}
 use lib.ListN.{length}
+use Rattle.octets.specs.Limits.{mostAttributes}
 use Rattle.octets.specs.Reading.{Read, ok, no, _then_, ends, be, number, text, count, run}
 use Rattle.octets.proofs.Ends.{on, stop, made, number-ok, number-no}
 use Rattle.kinds.specs.Kinds.{kindAt}
@@ -27,21 +28,21 @@ module _ (s : List ℕ) (at : ℕ) where
 
   -- Behind the name a layout ends where the run that its count tells ends.
   counted : (mid : ℕ) → at + 4 ≤ length s → ends (text s (at + 4)) ≡ ok mid mid
-      → ends (layoutAt s at) ≡ ends (count 64 s mid then λ k first. run (attributeAt s) k first)
+      → ends (layoutAt s at) ≡ ends (count mostAttributes s mid then λ k first. run (attributeAt s) k first)
   unfolding layoutAt
   counted mid h e =
       rw (number-ok s at 4 h)
-      (on (text s (at + 4)) _ (λ m. ends (count 64 s m then λ k first. run (attributeAt s) k first)) mid
-      (λ name m. go (count 64 s m) name) e)
+      (on (text s (at + 4)) _ (λ m. ends (count mostAttributes s m then λ k first. run (attributeAt s) k first)) mid
+      (λ name m. go (count mostAttributes s m) name) e)
     where
       go : (r : Read ℕ) (name : List ℕ) → ends {A = Layout} (r then λ k first. run (attributeAt s) k first then λ attributes end.
           ok (record { number = be 4 s at; type-name = name; attributes = attributes }) end) ≡ ends (r then λ k first. run (attributeAt s) k first)
       go (ok k first) name = made (run (attributeAt s) k first) _
       go (no n p) name = refl
 
-  pub layout-uncounted : (mid k p : ℕ) → at + 4 ≤ length s → ends (text s (at + 4)) ≡ ok mid mid → count 64 s mid ≡ no k p → ends (layoutAt s at) ≡ no k p
+  pub layout-uncounted : (mid k p : ℕ) → at + 4 ≤ length s → ends (text s (at + 4)) ≡ ok mid mid → count mostAttributes s mid ≡ no k p → ends (layoutAt s at) ≡ no k p
   layout-uncounted mid k p h e f = counted mid h e ∙ rw f refl
 
-  pub layout-on : (mid k first : ℕ) → at + 4 ≤ length s → ends (text s (at + 4)) ≡ ok mid mid → count 64 s mid ≡ ok k first
+  pub layout-on : (mid k first : ℕ) → at + 4 ≤ length s → ends (text s (at + 4)) ≡ ok mid mid → count mostAttributes s mid ≡ ok k first
       → ends (layoutAt s at) ≡ ends (run (attributeAt s) k first)
   layout-on mid k first h e f = counted mid h e ∙ rw f refl

@@ -6,6 +6,7 @@ use mathlib.Core.Bool.{Bool, true, false}
 use mathlib.Core.Option.{some, none}
 use lib.ListN.{length, drop}
 use lib.Dec.{eqb}
+use Rattle.octets.specs.Limits.{bookRoom}
 use Rattle.octets.specs.Reading.{ok, no, choose}
 use Rattle.octets.specs.Writing.{Each}
 use Rattle.layouts.specs.Layout.{Attribute, Layout, attributeAt, layoutAt, layoutImage, GoodLayout}
@@ -62,7 +63,7 @@ Stood s (Missing k) = Unit {0}
 -- What learning a layout at a place does to a book that uses so many octets; a new one fits right behind them.
 abbrev pub Judges : ℕ → Book → Layout → ℕ → Learning → Type 0
 Judges used book l at Known = learn book l at ≡ ok book at
-Judges used book l at (New v) = (learn book l at ≡ ok (book ++ l ∷ []) at) × (v ≡ used + length (layoutImage l)) × (v ≤ 32768)
+Judges used book l at (New v) = (learn book l at ≡ ok (book ++ l ∷ []) at) × (v ≡ used + length (layoutImage l)) × (v ≤ bookRoom)
 Judges used book l at (Refused n) = learn book l at ≡ no n at
 
 -- A layout of more than n attributes stands at a place.

@@ -6,6 +6,7 @@ use mathlib.Core.Bool.{Bool, true, false, _&&_}
 use mathlib.Core.Option.{Option, some, none}
 use lib.ListN.{length, take}
 use lib.Dec.{leb, ltb, eqb}
+use Rattle.octets.specs.Limits.{bookRoom, mostLayouts}
 use Rattle.octets.specs.Reading.{Read, ok, no, _then_, choose, valueOr, same}
 use Rattle.octets.specs.Writing.{images, Each}
 use Rattle.layouts.specs.Layout.{Layout, layoutAt, layoutImage, GoodLayout}
@@ -42,8 +43,8 @@ bookImage book = images layoutImage book
 
 -- Layouts inside the limits, of different numbers, that fit a book.
 pub record GoodBook (book : Book) : Type 0 where
-  pub few : length book ≤ 64
-  pub small : length (bookImage book) ≤ 32768
+  pub few : length book ≤ mostLayouts
+  pub small : length (bookImage book) ≤ bookRoom
   pub good : Each GoodLayout book
   pub distinct : Distinct book
 
@@ -63,7 +64,7 @@ as17 (no n p) = no 17 0
 -- The book in lent octets, of which so many are used: at least 32,768 lent, at most 32,768 used, at most 64 layouts.
 unfoldable pub bookOf : List ℕ → ℕ → Read Book
 bookOf octets used =
-    choose (leb 32768 (length octets) && leb used 32768) (λ _. as17 (layoutsAt 64 [] (take used octets) 0)) (λ _. no 17 0)
+    choose (leb bookRoom (length octets) && leb used bookRoom) (λ _. as17 (layoutsAt mostLayouts [] (take used octets) 0)) (λ _. no 17 0)
 
 -- The book that lent octets hold, and that they do hold one.
 unfoldable pub bookIn : List ℕ → ℕ → Book
@@ -76,7 +77,7 @@ IsBook octets used = bookOf octets used ≡ ok (bookIn octets used) used
 abbrev pub learnAt : Book → Layout → ℕ → Option Layout → Read Book
 learnAt book l at (some m) = choose (same (layoutImage m) (layoutImage l)) (λ _. ok book at) (λ _. no 10 at)
 learnAt book l at none =
-    choose (ltb (length book) 64 && leb (length (bookImage book) + length (layoutImage l)) 32768) (λ _. ok (book ++ l ∷ []) at) (λ _. no 11 at)
+    choose (ltb (length book) mostLayouts && leb (length (bookImage book) + length (layoutImage l)) bookRoom) (λ _. ok (book ++ l ∷ []) at) (λ _. no 11 at)
 
 -- The book with a layout learnt whose number stands at a place.
 unfoldable pub learn : Book → Layout → ℕ → Read Book

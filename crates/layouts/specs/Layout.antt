@@ -2,6 +2,7 @@
 use Prim.Native.Nat.{ℕ, _<_, _≤_, _^_}
 use mathlib.Core.List.{List, _++_}
 use lib.ListN.{length}
+use Rattle.octets.specs.Limits.{mostAttributes}
 use Rattle.octets.specs.Reading.{Read, ok, _then_, number, text, count, run}
 use Rattle.octets.specs.Writing.{word, textImage, images, Each, Text}
 use Rattle.kinds.specs.declared.Kind.{Kind}
@@ -25,7 +26,7 @@ unfoldable pub layoutAt : List ℕ → ℕ → Read Layout
 layoutAt s at =
     number 4 s at then λ n named.
     text s named then λ name counted.
-    count 64 s counted then λ k first.
+    count mostAttributes s counted then λ k first.
     run (attributeAt s) k first then λ attributes end.
     ok (record { number = n; type-name = name; attributes = attributes }) end
 
@@ -45,5 +46,5 @@ pub record GoodAttribute (a : Attribute) : Type 0 where
 pub record GoodLayout (l : Layout) : Type 0 where
   pub number : l .number < 2 ^ 32
   pub type-name : Text (l .type-name)
-  pub few : length (l .attributes) ≤ 64
+  pub few : length (l .attributes) ≤ mostAttributes
   pub attributes : Each GoodAttribute (l .attributes)

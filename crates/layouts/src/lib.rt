@@ -5,6 +5,7 @@ ghost use mathlib.Core.Bool.{true};
 ghost use mathlib.Core.List.{List, [], _∷_};
 ghost use Prim.Native.Nat.{ℕ, _+_, _≤_};
 ghost use lib.ListN.{length, take, drop};
+ghost use Rattle.octets.specs.Limits.{longest, bookRoom, mostLayouts};
 ghost use Rattle.octets.specs.Reading.{ok, ends, isOk, text, run, same};
 ghost use Rattle.octets.specs.Answers.{says, Within};
 ghost use Rattle.kinds.specs.Kinds.{kindAt};
@@ -38,7 +39,7 @@ pub enum Learning {
 
 // The place behind the type at a place.
 fn kind_end(s: &[u8], at: usize) -> Ended
-    requires { ⌜ (at ≤ length (now s)) × (length (now s) ≤ 1048576) ⌝ }
+    requires { ⌜ (at ≤ length (now s)) × (length (now s) ≤ longest) ⌝ }
     ensures { λ r. ⌜ (says r ≡ ends (kindAt (now (s .entry)) at)) × Within at r (length (now (s .entry))) ⌝ }
 {
     let kind = kinds::kind_at(s, at);
@@ -50,7 +51,7 @@ fn kind_end(s: &[u8], at: usize) -> Ended
 
 // The place behind the attribute at a place.
 fn attribute_end(s: &[u8], at: usize) -> Ended
-    requires { ⌜ (at ≤ length (now s)) × (length (now s) ≤ 1048576) ⌝ }
+    requires { ⌜ (at ≤ length (now s)) × (length (now s) ≤ longest) ⌝ }
     ensures { λ r. ⌜ (says r ≡ ends (attributeAt (now (s .entry)) at)) × Within at r (length (now (s .entry))) ⌝ }
 {
     let name = octets::text_end(s, at);
@@ -62,7 +63,7 @@ fn attribute_end(s: &[u8], at: usize) -> Ended
 
 // The place behind the run of attributes at a place.
 fn attributes_end(s: &[u8], at: usize, count: u32) -> Ended
-    requires { ⌜ (at ≤ length (now s)) × (length (now s) ≤ 1048576) ⌝ }
+    requires { ⌜ (at ≤ length (now s)) × (length (now s) ≤ longest) ⌝ }
     ensures { λ r. ⌜ (says r ≡ ends (run (attributeAt (now (s .entry))) count at)) × Within at r (length (now (s .entry))) ⌝ }
 {
     let mut pos = at;
@@ -84,7 +85,7 @@ fn attributes_end(s: &[u8], at: usize, count: u32) -> Ended
 
 // The place behind the layout whose number stands at a place of a document or a book.
 pub fn layout_end(s: &[u8], at: usize) -> Ended
-    requires { ⌜ (at ≤ length (now s)) × (length (now s) ≤ 1048576) ⌝ }
+    requires { ⌜ (at ≤ length (now s)) × (length (now s) ≤ longest) ⌝ }
     ensures { λ r. ⌜ (says r ≡ ends (layoutAt (now (s .entry)) at)) × Within at r (length (now (s .entry))) ⌝ }
 {
     if s.len() < at + 4 {
@@ -94,7 +95,7 @@ pub fn layout_end(s: &[u8], at: usize) -> Ended
     match name {
         Ended::Refused(n, p) => Ended::Refused(n, p),
         Ended::End(counted) => {
-            let count = octets::count_at(s, counted, 64);
+            let count = octets::count_at(s, counted, octets::MOST_ATTRIBUTES);
             match count {
                 Counted::Not(n, p) => Ended::Refused(n, p),
                 Counted::Count(k, first) => attributes_end(s, first, k),
@@ -105,7 +106,7 @@ pub fn layout_end(s: &[u8], at: usize) -> Ended
 
 // The place behind a name that is known to be accepted.
 pub fn name_end(s: &[u8], at: usize) -> usize
-    requires { ⌜ (length (now s) ≤ 1048576) × (isOk (text (now s) at) ≡ true) ⌝ }
+    requires { ⌜ (length (now s) ≤ longest) × (isOk (text (now s) at) ≡ true) ⌝ }
     ensures { λ r. ⌜ (ends (text (now (s .entry)) at) ≡ ok r r) × (at + 4 ≤ r) × (r ≤ length (now (s .entry))) ⌝ }
 {
     at + 4 + (octets::u32_at(s, at) as usize)
@@ -113,7 +114,7 @@ pub fn name_end(s: &[u8], at: usize) -> usize
 
 // The octets of a name that is known to be accepted.
 pub fn name_part<'s>(s: &'s [u8], at: usize) -> &'s [u8]
-    requires { ⌜ (length (now s) ≤ 1048576) × (isOk (text (now s) at) ≡ true) ⌝ }
+    requires { ⌜ (length (now s) ≤ longest) × (isOk (text (now s) at) ≡ true) ⌝ }
     ensures { λ r. ⌜ ((xs : List ℕ) (next : ℕ) → text (now (s .entry)) at ≡ ok xs next → now r ≡ xs) ⌝ }
 {
     let stop = name_end(s, at);
@@ -123,7 +124,7 @@ pub fn name_part<'s>(s: &'s [u8], at: usize) -> &'s [u8]
 
 // The place behind an attribute that is known to be accepted.
 pub fn attribute_skip(s: &[u8], at: usize) -> usize
-    requires { ⌜ (length (now s) ≤ 1048576) × (isOk (attributeAt (now s) at) ≡ true) ⌝ }
+    requires { ⌜ (length (now s) ≤ longest) × (isOk (attributeAt (now s) at) ≡ true) ⌝ }
     ensures { λ r. ⌜ ends (attributeAt (now (s .entry)) at) ≡ ok r r ⌝ }
 {
     name_end(s, at) + 4
@@ -131,7 +132,7 @@ pub fn attribute_skip(s: &[u8], at: usize) -> usize
 
 // The place of the count of attributes of a layout that is known to be accepted: right behind its type name.
 pub fn attributes_at(s: &[u8], at: usize) -> usize
-    requires { ⌜ (length (now s) ≤ 1048576) × (isOk (layoutAt (now s) at) ≡ true) ⌝ }
+    requires { ⌜ (length (now s) ≤ longest) × (isOk (layoutAt (now s) at) ≡ true) ⌝ }
     ensures { λ r. ⌜ (ends (text (now (s .entry)) (at + 4)) ≡ ok r r) × (r + 4 ≤ length (now (s .entry))) ⌝ }
 {
     name_end(s, at + 4)
@@ -139,7 +140,7 @@ pub fn attributes_at(s: &[u8], at: usize) -> usize
 
 // The place behind a layout that is known to be accepted: lengths alone are read.
 pub fn layout_skip(s: &[u8], at: usize) -> usize
-    requires { ⌜ (length (now s) ≤ 1048576) × (isOk (layoutAt (now s) at) ≡ true) ⌝ }
+    requires { ⌜ (length (now s) ≤ longest) × (isOk (layoutAt (now s) at) ≡ true) ⌝ }
     ensures { λ r. ⌜ ends (layoutAt (now (s .entry)) at) ≡ ok r r ⌝ }
 {
     let mid = attributes_at(s, at);
@@ -155,7 +156,7 @@ pub fn layout_skip(s: &[u8], at: usize) -> usize
 
 // Looks a number up in octets that are the image of layouts.
 pub fn look_in(s: &[u8], number: u32) -> Looked
-    requires { ⌜ (length (now s) ≤ 1048576) × Holds (now s) ⌝ }
+    requires { ⌜ (length (now s) ≤ longest) × Holds (now s) ⌝ }
     ensures { λ r. ⌜ ((book : Book) → Image (now (s .entry)) book → Looks (now (s .entry)) number book r) ⌝ }
 {
     let mut pos = 0;
@@ -198,14 +199,14 @@ fn is_among(met: &[u32], number: u32) -> bool
 
 // Whether octets are whole valid layouts of different numbers, at most 64: each layout is read once, and its number kept to compare.
 fn are_layouts(s: &[u8]) -> bool
-    requires { ⌜ length (now s) ≤ 1048576 ⌝ }
-    ensures { λ r. ⌜ r ≡ isOk (layoutsAt 64 [] (now (s .entry)) 0) ⌝ }
+    requires { ⌜ length (now s) ≤ longest ⌝ }
+    ensures { λ r. ⌜ r ≡ isOk (layoutsAt mostLayouts [] (now (s .entry)) 0) ⌝ }
 {
     let mut met = [0u32; 64];
     let mut pos = 0;
     let mut k: usize = 0;
     while pos < s.len() {
-        if 64 <= k {
+        if octets::MOST_LAYOUTS <= k {
             return false;
         }
         let Ended::End(next) = layout_end(s, pos) else {
@@ -226,10 +227,10 @@ fn are_layouts(s: &[u8]) -> bool
 pub fn is_book(book: &[u8], used: usize) -> bool
     ensures { λ r. ⌜ r ≡ isOk (bookOf (now (book .entry)) used) ⌝ }
 {
-    if book.len() < 32768 {
+    if book.len() < octets::BOOK_ROOM {
         return false;
     }
-    if 32768 < used {
+    if octets::BOOK_ROOM < used {
         return false;
     }
     are_layouts(&book[..used])
@@ -237,7 +238,7 @@ pub fn is_book(book: &[u8], used: usize) -> bool
 
 // Whether the layout at a place of a book is the one from a place of a document to its end, octet by octet where they stand.
 fn same_layout<'d, 'b>(doc: &'d [u8], at: usize, end: usize, s: &'b [u8], p: usize) -> bool
-    requires { ⌜ (at ≤ end) × (end ≤ length (now doc)) × (length (now s) ≤ 1048576) × Reads (now s) p ⌝ }
+    requires { ⌜ (at ≤ end) × (end ≤ length (now doc)) × (length (now s) ≤ longest) × Reads (now s) p ⌝ }
     ensures { λ r. ⌜ ((l m : Layout) (q : ℕ) → layoutAt (now (doc .entry)) at ≡ ok l end → layoutAt (now (s .entry)) p ≡ ok m q → r ≡ same (layoutImage m) (layoutImage l)) ⌝ }
 {
     let q = layout_skip(s, p);
@@ -253,7 +254,7 @@ pub fn judge_by<'d, 's>(
     looked: Looked,
     used: usize,
 ) -> Learning
-    requires { ⌜ (at ≤ end) × (end ≤ length (now doc)) × (ends (layoutAt (now doc) at) ≡ ok end end) × (length (now s) ≤ 1048576) × (used ≤ 32768) × Stood (now s) looked ⌝ }
+    requires { ⌜ (at ≤ end) × (end ≤ length (now doc)) × (ends (layoutAt (now doc) at) ≡ ok end end) × (length (now s) ≤ longest) × (used ≤ bookRoom) × Stood (now s) looked ⌝ }
     ensures { λ r. ⌜ ((book : Book) (l : Layout) → layoutAt (now (doc .entry)) at ≡ ok l end → Looks (now (s .entry)) (l .number) book looked → length (bookImage book) ≡ used → Judges used book l at r) ⌝ }
 {
     match looked {
@@ -265,10 +266,10 @@ pub fn judge_by<'d, 's>(
             }
         }
         Looked::Missing(k) => {
-            if 64 <= k {
+            if octets::MOST_LAYOUTS <= k {
                 return Learning::Refused(11);
             }
-            if 32768 - used < end - at {
+            if octets::BOOK_ROOM - used < end - at {
                 return Learning::Refused(11);
             }
             Learning::New(used + (end - at))
@@ -278,7 +279,7 @@ pub fn judge_by<'d, 's>(
 
 // How the layout from a place of a document to its end stands to the used octets of a good book.
 pub fn judge<'d, 'b>(doc: &'d [u8], at: usize, end: usize, s: &'b [u8]) -> Learning
-    requires { ⌜ (at ≤ end) × (end ≤ length (now doc)) × (ends (layoutAt (now doc) at) ≡ ok end end) × (length (now s) ≤ 32768) × Holds (now s) ⌝ }
+    requires { ⌜ (at ≤ end) × (end ≤ length (now doc)) × (ends (layoutAt (now doc) at) ≡ ok end end) × (length (now s) ≤ bookRoom) × Holds (now s) ⌝ }
     ensures { λ r. ⌜ ((book : Book) (l : Layout) → Image (now (s .entry)) book → layoutAt (now (doc .entry)) at ≡ ok l end → Judges (length (now (s .entry))) book l at r) ⌝ }
 {
     let looked = look_in(s, octets::u32_at(doc, at));
@@ -295,7 +296,7 @@ pub fn layout_number(s: &[u8], at: usize) -> u32
 
 // The type name of a layout that is known to be accepted.
 pub fn type_name<'s>(s: &'s [u8], at: usize) -> &'s [u8]
-    requires { ⌜ (length (now s) ≤ 1048576) × (isOk (layoutAt (now s) at) ≡ true) ⌝ }
+    requires { ⌜ (length (now s) ≤ longest) × (isOk (layoutAt (now s) at) ≡ true) ⌝ }
     ensures { λ r. ⌜ ((l : Layout) (end : ℕ) → layoutAt (now (s .entry)) at ≡ ok l end → now r ≡ l .type-name) ⌝ }
 {
     name_part(s, at + 4)
@@ -303,7 +304,7 @@ pub fn type_name<'s>(s: &'s [u8], at: usize) -> &'s [u8]
 
 // The count of attributes of a layout that is known to be accepted.
 pub fn attribute_count(s: &[u8], at: usize) -> u32
-    requires { ⌜ (length (now s) ≤ 1048576) × (isOk (layoutAt (now s) at) ≡ true) ⌝ }
+    requires { ⌜ (length (now s) ≤ longest) × (isOk (layoutAt (now s) at) ≡ true) ⌝ }
     ensures { λ r. ⌜ ((l : Layout) (end : ℕ) → layoutAt (now (s .entry)) at ≡ ok l end → r ≡ length (l .attributes)) ⌝ }
 {
     octets::u32_at(s, attributes_at(s, at))
@@ -311,7 +312,7 @@ pub fn attribute_count(s: &[u8], at: usize) -> u32
 
 // The place of attribute n of a layout that is known to be accepted and has more than n.
 pub fn attribute_place(s: &[u8], at: usize, n: u32) -> usize
-    requires { ⌜ (length (now s) ≤ 1048576) × Has (now s) at n ⌝ }
+    requires { ⌜ (length (now s) ≤ longest) × Has (now s) at n ⌝ }
     ensures { λ r. ⌜ ((l : Layout) (end : ℕ) → layoutAt (now (s .entry)) at ≡ ok l end → Nth (now (s .entry)) (l .attributes) n r) ⌝ }
 {
     let mut pos = attributes_at(s, at) + 4;
@@ -325,7 +326,7 @@ pub fn attribute_place(s: &[u8], at: usize, n: u32) -> usize
 
 // The type of an attribute that is known to be accepted at a place: a refusal does not come about.
 pub fn kind_here(s: &[u8], at: usize) -> Kind
-    requires { ⌜ (length (now s) ≤ 1048576) × (isOk (attributeAt (now s) at) ≡ true) ⌝ }
+    requires { ⌜ (length (now s) ≤ longest) × (isOk (attributeAt (now s) at) ≡ true) ⌝ }
     ensures { λ r. ⌜ ((a : Attribute) (next : ℕ) → attributeAt (now (s .entry)) at ≡ ok a next → r ≡ a .kind) ⌝ }
 {
     let kind = kinds::kind_at(s, name_end(s, at));
@@ -340,7 +341,7 @@ pub fn kind_here(s: &[u8], at: usize) -> Kind
 
 // The type of attribute n.
 pub fn attribute_kind(s: &[u8], at: usize, n: u32) -> Kind
-    requires { ⌜ (length (now s) ≤ 1048576) × Has (now s) at n ⌝ }
+    requires { ⌜ (length (now s) ≤ longest) × Has (now s) at n ⌝ }
     ensures { λ r. ⌜ ((l : Layout) (end : ℕ) (a : Attribute) (more : List Attribute) → layoutAt (now (s .entry)) at ≡ ok l end → drop n (l .attributes) ≡ a ∷ more → r ≡ a .kind) ⌝ }
 {
     let place = attribute_place(s, at, n);

@@ -6,6 +6,7 @@ use native.Mathlib.Omega.{arith}
 use lib.ListN.{length}
 use lib.Dec.{leb}
 use borrow.Author.Tests.{leb-true}
+use Rattle.octets.specs.Limits.{longest}
 use Rattle.octets.specs.Reading.{Read, ok, no}
 use Rattle.octets.specs.Writing.{Each, Octet}
 use Rattle.octets.proofs.Inverse.{chosen}
@@ -23,9 +24,9 @@ pub unheaded-as : (r : Read Header) (n p : ℕ) → headTells r ≡ Refused n p 
 unheaded-as (ok h next) n p e = absurd (let z : _≡_ {A = ℕ} 0 1 = cc in omega arith)
 unheaded-as (no m q) n p e = let a : m ≡ n = cc in let b : q ≡ p = cc in cc
 
-pub header-place : (s : List ℕ) → Each Octet s → (h : Header) (next : ℕ) → headerAt s ≡ ok h next → (next ≤ length s) × (length s ≤ 1048576)
+pub header-place : (s : List ℕ) → Each Octet s → (h : Header) (next : ℕ) → headerAt s ≡ ok h next → (next ≤ length s) × (length s ≤ longest)
 unfolding headerAt
 header-place s o h next e =
-    let (t, from) = chosen (leb (length s) 1048576) (λ _. headerFrom s 0) 2 0 e in
+    let (t, from) = chosen (leb (length s) longest) (λ _. headerFrom s 0) 2 0 e in
     let (fits, good, spans) = header-inverse s .forth o (omega arith) from in
-    (spans .inside, leb-true (length s) 1048576 t)
+    (spans .inside, leb-true (length s) longest t)

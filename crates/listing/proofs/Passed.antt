@@ -6,6 +6,7 @@ use mathlib.Core.Option.{some}
 use native.Mathlib.Omega.{arith}
 use lib.IntN.{ℤ}
 use lib.ListN.{length, take, replicate, length-replicate}
+use Rattle.octets.specs.Limits.{longest, bookRoom}
 use Rattle.octets.specs.Reading.{ok}
 use Rattle.octets.specs.Writing.{images, Each, Octet}
 use Rattle.octets.proofs.Spans.{each-replicate}
@@ -50,7 +51,7 @@ lines-behind ps w =
 
 -- What holds on the way.
 pub record Passed (s : List ℕ) (at : ℕ) (before : List ℕ) (n : ℕ) (octets numbers places steps : List ℕ) (t : Tally) (pos rows used : ℕ) (after : List ℕ) (to : ℕ) : Type 0 where
-  pub size : length octets ≡ 32768
+  pub size : length octets ≡ bookRoom
   pub carried : Carried octets used numbers places steps t
   pub inside : pos ≤ length s
   pub few : rows ≤ pos
@@ -59,15 +60,15 @@ pub record Passed (s : List ℕ) (at : ℕ) (before : List ℕ) (n : ℕ) (octet
   pub prints : Prints before n (images line (placedAll items)) after to
 
 pub passed-start : (s : List ℕ) (at : ℕ) (before : List ℕ) (n : ℕ) → at ≤ length s
-    → Passed s at before n (replicate 32768 0) (replicate 64 0) (replicate 64 0) (replicate 1216 0) nothing at 0 0 before n
+    → Passed s at before n (replicate bookRoom 0) (replicate 64 0) (replicate 64 0) (replicate 1216 0) nothing at 0 0 before n
 passed-start s at before n inside =
-    let size = length-replicate {A = ℕ} 32768 0 in
-    let (is, none) = empty-book (replicate 32768 0) (omega arith) in
+    let size = length-replicate {A = ℕ} bookRoom 0 in
+    let (is, none) = empty-book (replicate bookRoom 0) (omega arith) in
     let words = length-replicate {A = ℕ} 64 0 in
-    let kept = kept-none (take 0 (replicate 32768 0)) (replicate 64 0) (replicate 64 0) (replicate 1216 0) words words (length-replicate {A = ℕ} 1216 0) in
+    let kept = kept-none (take 0 (replicate bookRoom 0)) (replicate 64 0) (replicate 64 0) (replicate 1216 0) words words (length-replicate {A = ℕ} 1216 0) in
     record {
       size = size;
-      carried = record { octets-are = each-replicate 32768 0 (omega arith); is = is; kept = rw none kept };
+      carried = record { octets-are = each-replicate bookRoom 0 (omega arith); is = is; kept = rw none kept };
       inside = inside;
       few = omega arith;
       items = [];
@@ -86,7 +87,7 @@ module _ {s : List ℕ} {at : ℕ} {before : List ℕ} {n : ℕ} {octets numbers
   pub passed-bears : Bears (take used octets) used numbers places (t .known) (bookIn octets used)
   passed-bears = carried-bears octets used numbers places steps t (g .carried)
 
-  module _ (o : Each Octet s) (short : length s ≤ 1048576) where
+  module _ (o : Each Octet s) (short : length s ≤ longest) where
     stopped : {after : List ℕ} {to : ℕ} (e : Stop) → turnAt s here ≡ stops e → Prints mid m (linesOf (standing here (some e))) after to
         → Prints before n (linesOf (through s (spotAt at 0 []))) after to
     stopped e h put =
@@ -137,7 +138,7 @@ module _ {s : List ℕ} {at : ℕ} {before : List ℕ} {n : ℕ} {octets numbers
       said : text ≡ line (placed p)
       said = rw (took .is, took .seen) refl
 
-      on : {after : List ℕ} {to : ℕ} → Prints mid m text after to → (octets₁ : List ℕ) (used₁ : ℕ) {numbers₁ places₁ steps₁ : List ℕ} {t₁ : Tally} → length octets₁ ≡ 32768
+      on : {after : List ℕ} {to : ℕ} → Prints mid m text after to → (octets₁ : List ℕ) (used₁ : ℕ) {numbers₁ places₁ steps₁ : List ℕ} {t₁ : Tally} → length octets₁ ≡ bookRoom
           → Carried octets₁ used₁ numbers₁ places₁ steps₁ t₁ → bookIn octets₁ used₁ ≡ y .book → Passed s at before n octets₁ numbers₁ places₁ steps₁ t₁ (p .next) (y .rows) used₁ after to
       on put octets₁ used₁ size c same =
           let moves = item-moves s o short pos rows (bookIn octets used) p y e in

@@ -4,6 +4,7 @@ ghost use Prim.Native.Nat.{ℕ, _≤_};
 ghost use mathlib.Core.Path.{_≡_};
 ghost use mathlib.Core.List.{[], _∷_};
 ghost use lib.ListN.{length};
+ghost use Rattle.octets.specs.Limits.{longest};
 ghost use Rattle.octets.specs.Reading.{ok};
 ghost use Rattle.layouts.specs.Layout.{Layout};
 ghost use Rattle.rows.specs.Row.{Field, Row};
@@ -208,7 +209,7 @@ fn refused_line(out: &mut [u8], n: usize, number: u32, place: usize) -> usize
 
 // The lines of the elements from a place on, up to the end or a refusal.
 fn element_lines<'d, 'o>(doc: &'d [u8], at: usize, out: &'o mut [u8], n: usize) -> usize
-    requires { ⌜ (at ≤ length (now doc)) × (length (now doc) ≤ 1048576) ⌝ }
+    requires { ⌜ (at ≤ length (now doc)) × (length (now doc) ≤ longest) ⌝ }
     ensures { λ r. ⌜ Prints (now (out .entry)) n (linesOf (through (now (doc .entry)) (spotAt at 0 []))) (now (out .exit)) r ⌝ }
 {
     let mut book = [0u8; 32768];

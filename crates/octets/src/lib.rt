@@ -4,9 +4,25 @@ ghost use mathlib.Core.Path.{_≡_};
 ghost use mathlib.Core.List.{_++_};
 ghost use Prim.Native.Nat.{_+_, _≤_, _<_};
 ghost use lib.ListN.{length, drop};
+ghost use Rattle.octets.specs.Limits.{longest};
 ghost use Rattle.octets.specs.Reading.{Room, reach, be, part, same, ends, octetsIn, text, count};
 ghost use Rattle.octets.specs.Writing.{word, over};
 ghost use Rattle.octets.specs.Answers.{says, counts, reached, Within, Counting, Reaching};
+
+// The most octets of a document, and the most rows that a step may be told.
+pub const LONGEST: usize = 1048576;
+
+pub const MOST_ROWS: usize = 1048576;
+
+// A book: at least so many octets are lent for it, and at most so many used; the most layouts in it.
+pub const BOOK_ROOM: usize = 32768;
+
+pub const MOST_LAYOUTS: usize = 64;
+
+// The most attributes of a layout, and the most items of each of the header's lists.
+pub const MOST_ATTRIBUTES: u32 = 64;
+
+pub const MOST_LISTED: u32 = 16;
 
 // The four octets that stand where a count of elements would, and where a row's length is unstated.
 pub const OPEN: [u8; 4] = *b"\xff\xff\xff\xff";
@@ -81,7 +97,7 @@ pub fn u64_at(s: &[u8], at: usize) -> u64
 
 // The place behind length-led octets that may reach to an end: a document's, or a stated row's.
 pub fn octets_reach(s: &[u8], at: usize, end: usize) -> Reached
-    requires { ⌜ (at ≤ end) × (end ≤ length (now s)) × (length (now s) ≤ 1048576) ⌝ }
+    requires { ⌜ (at ≤ end) × (end ≤ length (now s)) × (length (now s) ≤ longest) ⌝ }
     ensures { λ r. ⌜ ((room : Room) → reach room (now (s .entry)) ≡ end → reached room at r ≡ ends (octetsIn room (now (s .entry)) at)) × Reaching at r end ⌝ }
 {
     if end < at + 4 {
@@ -96,7 +112,7 @@ pub fn octets_reach(s: &[u8], at: usize, end: usize) -> Reached
 
 // The place behind the string at a place of a document or a book.
 pub fn text_end(s: &[u8], at: usize) -> Ended
-    requires { ⌜ (at ≤ length (now s)) × (length (now s) ≤ 1048576) ⌝ }
+    requires { ⌜ (at ≤ length (now s)) × (length (now s) ≤ longest) ⌝ }
     ensures { λ r. ⌜ (says r ≡ ends (text (now (s .entry)) at)) × Within at r (length (now (s .entry))) ⌝ }
 {
     let reached = octets_reach(s, at, s.len());
@@ -108,7 +124,7 @@ pub fn text_end(s: &[u8], at: usize) -> Ended
 
 // The count at a place, which is at most a limit.
 pub fn count_at(s: &[u8], at: usize, most: u32) -> Counted
-    requires { ⌜ (at ≤ length (now s)) × (length (now s) ≤ 1048576) ⌝ }
+    requires { ⌜ (at ≤ length (now s)) × (length (now s) ≤ longest) ⌝ }
     ensures { λ r. ⌜ (counts r ≡ count most (now (s .entry)) at) × Counting at r (length (now (s .entry))) ⌝ }
 {
     if s.len() < at + 4 {

@@ -5,6 +5,7 @@ ghost use mathlib.Core.Path.{_≡_};
 ghost use mathlib.Core.List.{List};
 ghost use Prim.Native.Nat.{ℕ, _+_, _≤_, _<_};
 ghost use lib.ListN.{length, take};
+ghost use Rattle.octets.specs.Limits.{longest, mostAttributes};
 ghost use Rattle.octets.specs.Reading.{ok, run};
 ghost use Rattle.layouts.specs.Layout.{Attribute, attributeAt};
 ghost use Rattle.rows.specs.Answers.{Slim, Attributes};
@@ -53,7 +54,7 @@ pub fn put_plan<'d, 'p>(
     from: usize,
     to: usize,
 ) -> Put
-    requires { ⌜ (length (now doc) ≤ 1048576) × (count ≤ 64) × (from ≤ to) × (to ≤ 1216) × (length (now steps) ≡ 1216) × Attributes (now doc) count first ⌝ }
+    requires { ⌜ (length (now doc) ≤ longest) × (count ≤ mostAttributes) × (from ≤ to) × (to ≤ 1216) × (length (now steps) ≡ 1216) × Attributes (now doc) count first ⌝ }
     ensures { λ r. ⌜ ((xs : List Attribute) (last : ℕ) → run (attributeAt (now (doc .entry))) count first ≡ ok xs last → Puts (now (steps .exit)) from to (planOf 0 xs) r) × (take from (now (steps .exit)) ≡ take from (now (steps .entry))) × (length (now (steps .exit)) ≡ 1216) ⌝ }
 {
     let mut place = first;
@@ -86,7 +87,7 @@ pub fn put_plan<'d, 'p>(
 
 // The place behind the value that closes a step.
 fn close_end(doc: &[u8], at: usize, end: usize, kind: usize) -> Passed
-    requires { ⌜ (end ≤ length (now doc)) × (length (now doc) ≤ 1048576) × (at ≤ 2097152) ⌝ }
+    requires { ⌜ (end ≤ length (now doc)) × (length (now doc) ≤ longest) × (at ≤ 2097152) ⌝ }
     ensures { λ r. ⌜ Closes (now (doc .entry)) at end kind r ⌝ }
 {
     if kind == 1 {
@@ -116,7 +117,7 @@ fn follow<'d, 'p>(
     steps: &'p [u16; 1216],
     from: usize,
 ) -> Passed
-    requires { ⌜ (at ≤ end) × (end ≤ length (now doc)) × (length (now doc) ≤ 1048576) × Plan (now steps) from ⌝ }
+    requires { ⌜ (at ≤ end) × (end ≤ length (now doc)) × (length (now doc) ≤ longest) × Plan (now steps) from ⌝ }
     ensures { λ r. ⌜ Follows (now (doc .entry)) at end (now (steps .entry)) from r ⌝ }
 {
     let mut pos = at;
@@ -146,7 +147,7 @@ fn follow<'d, 'p>(
 
 // The place behind a row's values, from its length on.
 pub fn values_to<'d, 'p>(doc: &'d [u8], at: usize, steps: &'p [u16; 1216], from: usize) -> Passed
-    requires { ⌜ (at + 4 ≤ length (now doc)) × (length (now doc) ≤ 1048576) × Plan (now steps) from ⌝ }
+    requires { ⌜ (at + 4 ≤ length (now doc)) × (length (now doc) ≤ longest) × Plan (now steps) from ⌝ }
     ensures { λ r. ⌜ Lasts (now (doc .entry)) at (now (steps .entry)) from r ⌝ }
 {
     let size = octets::u32_at(doc, at);

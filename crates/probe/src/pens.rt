@@ -66,17 +66,17 @@ fn fresh<'s, 'k, 'i>(
     if sheet.len() < size {
         return Penned::Bad;
     }
-    if shelf.len() < 32768 {
+    if shelf.len() < octets::BOOK_ROOM {
         return Penned::Bad;
     }
     set_all(&mut sheet[..size], 0xaa);
-    set_all(&mut shelf[..32768], 0x55);
+    set_all(&mut shelf[..octets::BOOK_ROOM], 0x55);
     let state = writing::fresh();
     Penned::On(
         Pen {
             state,
             size,
-            shelf: 32768,
+            shelf: octets::BOOK_ROOM,
             used: 0,
         },
         n,

@@ -10,6 +10,7 @@ use lib.Dec.{leb, lit≤}
 use borrow.Author.Tests.{leb-true, le-leb}
 use mathlib.Core.Bool.{true}
 use mathlib.Core.Logic.{_↔_}
+use Rattle.octets.specs.Limits.{longest}
 use Rattle.octets.specs.Reading.{Read, ok, no, _then_, isOk}
 use Rattle.octets.specs.Writing.{word, images, Each, Octet}
 use Rattle.layouts.specs.Layout.{layoutImage}
@@ -57,7 +58,7 @@ complete d g =
     let elements = ap (λ (n : ℕ). elementsRead (walk (turnAt s) n (spotAt (0 + length header) 0 []))) turns
     ∙ elements-back s (g .fits) (d .items) 0 rows (d .end) [] (g .items) (zero-add rows) (omega (arith, few (d .items), g .fits)) (g .end) refl q k in
     rw (
-      le-leb (length s) 1048576 (g .fits),
+      le-leb (length s) longest (g .fits),
       header-inverse s .back (d .header) tt (g .header) p,
       elements,
       zero-add (length header),
@@ -67,7 +68,7 @@ complete d g =
 abbrev Reads : List ℕ → Reading → ℕ → Type 0
 Reads s r end = (d : Document) × Means s d × (readingOf d ≡ r) × (end ≡ length s)
 
-meaning : {s : List ℕ} {h : Header} {next end : ℕ} {placed : List Placed} (short : length s ≤ 1048576) → GoodHeader h → Spans s (length s) 0 next (headerImage h)
+meaning : {s : List ℕ} {h : Header} {next end : ℕ} {placed : List Placed} (short : length s ≤ longest) → GoodHeader h → Spans s (length s) 0 next (headerImage h)
     → Elements s short next 0 [] placed end → Reads s (record { header = h; elements = placed }) end
 unfolding readingOf
 meaning {s} {h} {next} short g p m =
@@ -88,8 +89,8 @@ unfolding reading through headerAt
 sound s o r end e =
     after (headerAt s) _ e λ h next e₁ e₂.
     after (elementsRead (through s (spotAt next 0 []))) _ e₂ λ placed last e₃ e₄.
-    let (t, e₅) = chosen (leb (length s) 1048576) (λ _. headerFrom s 0) 2 0 e₁ in
-    let short : length s ≤ 1048576 = leb-true (length s) 1048576 t in
+    let (t, e₅) = chosen (leb (length s) longest) (λ _. headerFrom s 0) 2 0 e₁ in
+    let short : length s ≤ longest = leb-true (length s) longest t in
     let (u, g, p) = header-inverse s .forth o (omega arith) e₅ in
     settle (Reads s) e₄ (meaning short g p (elements-forth s short (length s + 1) o (p .inside) e₃))
 

@@ -5,6 +5,7 @@ use mathlib.Core.List.{List, [], _∷_, _++_}
 use lib.ListN.{length, take, set, replicate, length-replicate}
 use lib.Dec.{lit<}
 use borrow.Author.Tests.{lt-leb}
+use Rattle.octets.specs.Limits.{longest}
 use Rattle.octets.specs.Reading.{Read, no, be, part, numberIn, octetsIn, textIn, count, exactly, run}
 use Rattle.octets.specs.Writing.{word, textImage, images}
 use Rattle.kinds.specs.Kinds.{among, basicOf, kindAt}
@@ -36,16 +37,16 @@ long-zeros n = length-replicate n 0
 abbrev pub long : List ℕ
 long = zeros 1048577
 
-pub too-long : 1048576 < length long
-too-long = subst (λ (n : ℕ). 1048576 < n) (sym (long-zeros 1048577)) (lit< tt)
+pub too-long : longest < length long
+too-long = subst (λ (n : ℕ). longest < n) (sym (long-zeros 1048577)) (lit< tt)
 
 pub header-long : headerAt long ≡ no 2 0
 unfolding headerAt
-header-long = rw (lt-leb (length long) 1048576 too-long)
+header-long = rw (lt-leb (length long) longest too-long)
 
 step-long : stepAt long 0 0 [] 0 ≡ no 2 0
 unfolding stepAt lentBook
-step-long = rw (lt-leb (length long) 1048576 too-long)
+step-long = rw (lt-leb (length long) longest too-long)
 
 whole-long : whole long ≡ no 2 0
 unfolding whole reading

@@ -7,6 +7,7 @@ use native.Mathlib.Omega.{arith}
 use native.Mathlib.Nat.{le-refl}
 use lib.ListN.{length, take}
 use lib.Dec.{leb}
+use Rattle.octets.specs.Limits.{bookRoom, mostLayouts}
 use Rattle.octets.specs.Reading.{Read, ok, no, _then_, choose}
 use Rattle.octets.proofs.Inverse.{no-ok}
 use Rattle.layouts.specs.Book.{as17, layoutsAt, bookOf}
@@ -49,7 +50,7 @@ module _ {ns : List ℕ} where
 
   pub book-17 : In ns 17 → (octets : List ℕ) (used : ℕ) → Only ns (bookOf octets used)
   unfolding bookOf
-  book-17 h octets used = only-choose (leb 32768 (length octets) && leb used 32768) _ _ (as17-only h (layoutsAt 64 [] (take used octets) 0)) (given 17 0 h)
+  book-17 h octets used = only-choose (leb bookRoom (length octets) && leb used bookRoom) _ _ (as17-only h (layoutsAt mostLayouts [] (take used octets) 0)) (given 17 0 h)
 
 module _ (s : List ℕ) where
   pub header-only : Only headerNumbers (headerAt s)

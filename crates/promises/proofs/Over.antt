@@ -9,6 +9,7 @@ use native.Mathlib.Nat.{add-zero}
 use lib.ListN.{length, take, drop, length-append}
 use lib.Dec.{leb}
 use borrow.Author.Tests.{leb-true}
+use Rattle.octets.specs.Limits.{longest, bookRoom}
 use Rattle.octets.specs.Reading.{Read, ok, no}
 use Rattle.octets.specs.Writing.{Each, Octet, over}
 use Rattle.layouts.specs.Layout.{Layout, layoutImage}
@@ -43,7 +44,7 @@ pub record Came (s : List ℕ) (x : Lent) (ps : List Placed) (at : ℕ) (e : Sto
 pub came-steps : {s : List ℕ} {x : Lent} {ps : List Placed} {at : ℕ} {e : Stop} → Came s x ps at e → BySteps s x (ps ++ closing at (some e)) (endingOf e)
 came-steps {e = e} c = record { stop = e; comes = c .stop; gives = rw (c .passes, c .place) refl; ends = refl }
 
-module _ (s : List ℕ) (o : Each Octet s) (short : length s ≤ 1048576) where
+module _ (s : List ℕ) (o : Each Octet s) (short : length s ≤ longest) where
   -- Lent octets that carry a good book hold it.
   pub holds : (x : Lent) (y : Spot) → x .at ≡ y .at → x .rows ≡ y .rows → Few s (y .at) (y .rows) → Carries (x .octets) (x .used) (y .book) → GoodBook (y .book) → Holds s o short x y
   unfolding bookIn
@@ -98,11 +99,11 @@ one-reading s x o p few = go (lentBook s (x .rows) (x .octets) (x .used)) refl
         told ps f d (rw (lent-is s (x .rows) (x .octets) (x .used) short is low) q)
 
 -- A first-octet reading.
-pub header-short : (s : List ℕ) {h : Header} {next : ℕ} → headerAt s ≡ ok h next → length s ≤ 1048576
+pub header-short : (s : List ℕ) {h : Header} {next : ℕ} → headerAt s ≡ ok h next → length s ≤ longest
 unfolding headerAt
-header-short s e = let (t, _) = chosen (leb (length s) 1048576) _ 2 0 e in leb-true (length s) 1048576 t
+header-short s e = let (t, _) = chosen (leb (length s) longest) _ 2 0 e in leb-true (length s) longest t
 
-module _ (s : List ℕ) (o : Each Octet s) (octets : List ℕ) (room : 32768 ≤ length octets) where
+module _ (s : List ℕ) (o : Each Octet s) (octets : List ℕ) (room : bookRoom ≤ length octets) where
   first-goes : (h : Header) (next : ℕ) → headerAt s ≡ ok h next
       → (ps : List Placed) × (e : Ending) × BySteps s (lentAt next 0 octets 0) ps e × (reading s ≡ headed h (answer ps e))
   unfolding reading

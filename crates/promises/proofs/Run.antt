@@ -6,6 +6,7 @@ use mathlib.Core.Option.{some}
 use mathlib.Core.Logic.{_⊎_, inl, inr}
 use native.Mathlib.Omega.{arith}
 use lib.ListN.{length}
+use Rattle.octets.specs.Limits.{longest}
 use Rattle.octets.specs.Reading.{Read, ok, isOk}
 use Rattle.octets.specs.Writing.{Each, Octet}
 use Rattle.layouts.specs.Layout.{Layout}
@@ -100,7 +101,7 @@ module _ (s : List ℕ) (o : Each Octet s) where
       go one more l (inr i) = more .has l i
 
   -- Every row takes more than one octet, so that few rows stay few.
-  pub path-few : length s ≤ 1048576 → (ps : List Seen) (x y : Spot) → Path (turnAt s) x ps y → Few s (x .at) (x .rows) → Few s (y .at) (y .rows)
+  pub path-few : length s ≤ longest → (ps : List Seen) (x y : Spot) → Path (turnAt s) x ps y → Few s (x .at) (x .rows) → Few s (y .at) (y .rows)
   path-few short [] x y h few = rw (← h) few
   path-few short (p ∷ ps) x y h few =
       path-few short ps (h .0) y (h .2) (omega (arith, turn-moves s x o short p (h .0) (h .1), turn-rows s x p (h .0) (h .1), few-rows (item (p .which))))

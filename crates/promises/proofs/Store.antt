@@ -8,6 +8,7 @@ use mathlib.Core.Option.{Option, some, none}
 use mathlib.Core.Logic.{_⊎_, inl, inr}
 use native.Mathlib.Omega.{arith}
 use lib.ListN.{length}
+use Rattle.octets.specs.Limits.{longest}
 use Rattle.octets.specs.Writing.{Each, Octet}
 use Rattle.layouts.specs.Layout.{Layout, layoutImage, GoodLayout}
 use Rattle.layouts.specs.Book.{Book, find, isNone, Distinct, GoodBook}
@@ -83,7 +84,7 @@ read-at s = first-here (λ (z : Spot). z .at) (λ (z : Spot). spotOf) (λ (z : S
 
 -- An accepted reading at one of its elements: the way on from there to the end.
 record AtCut (s : List ℕ) (before : List Placed) (here : Placed) (rest : List Placed) (end : ℕ) : Type 0 where
-  pub short : length s ≤ 1048576
+  pub short : length s ≤ longest
   pub spot : Spot
   pub final : Spot
   pub seen : List Seen

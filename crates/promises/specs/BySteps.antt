@@ -5,6 +5,7 @@ use mathlib.Core.List.{List}
 use mathlib.Core.Option.{some}
 use mathlib.Core.Logic.{_⊎_}
 use lib.ListN.{length, take}
+use Rattle.octets.specs.Limits.{mostRows, bookRoom}
 use Rattle.octets.specs.Reading.{Read, ok, no, _then_}
 use Rattle.octets.specs.Writing.{over}
 use Rattle.layouts.specs.Layout.{Layout, layoutImage}
@@ -45,13 +46,13 @@ pub data FromFirst (s octets : List ℕ) : Read Reading → Type 0 where
 
 -- Lent octets that carry a book: at least 32,768 of them, the used ones its layouts one after another.
 pub record Carries (octets : List ℕ) (used : ℕ) (book : Book) : Type 0 where
-  pub room : 32768 ≤ length octets
+  pub room : bookRoom ≤ length octets
   pub size : used ≡ length (bookImage book)
   pub held : take used octets ≡ bookImage book
 
 -- The rows passed and the octets left are together within the limit of rows. So it is wherever a document's own rows are told, and so it stays, since every row takes more than one octet; where it is not, a later step may be told rows over the limit, which is 17.
 abbrev pub Few : List ℕ → ℕ → ℕ → Type 0
-Few s at rows = rows + (length s - at) ≤ 1048576
+Few s at rows = rows + (length s - at) ≤ mostRows
 
 -- What is promised of steps from a spot over lent octets: they come to an end or a refusal, in one way alone, and that answer is the reading from there.
 pub record OneReading (s : List ℕ) (x : Lent) : Type 0 where

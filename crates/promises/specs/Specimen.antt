@@ -2,6 +2,7 @@
 use Prim.Native.Nat.{ℕ}
 use mathlib.Core.List.{List, [], _∷_, _++_}
 use lib.ListN.{take, drop, replicate}
+use Rattle.octets.specs.Limits.{bookRoom}
 use Rattle.octets.specs.Reading.{part}
 
 -- The specimen: the header, the layout at 52, the rows at 87 and 104, the end at 121.
@@ -30,4 +31,4 @@ unfolding specimen shorts
 shortBook = part shorts 56 31 ++ replicate 32737 0
 
 unfoldable pub emptyBook : List ℕ
-emptyBook = replicate 32768 0
+emptyBook = replicate bookRoom 0

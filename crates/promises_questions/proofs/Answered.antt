@@ -6,6 +6,7 @@ use native.Mathlib.Omega.{arith}
 use native.Mathlib.Nat.{zero-add}
 use lib.ListN.{length, drop, length-append}
 use lib.Dec.{leb}
+use Rattle.octets.specs.Limits.{longest}
 use Rattle.octets.specs.Reading.{Read, ok, no, number}
 use Rattle.octets.specs.Writing.{word, textImage, images, Each, Octet}
 use Rattle.octets.proofs.Spans.{Spans, middle, length-word}
@@ -97,7 +98,7 @@ module _ (s : List ℕ) (o : Each Octet s) (h : Header) (next : ℕ) (e : header
   stands : GoodHeader h × Spans s (length s) 0 next (headerImage h)
   unfolding headerAt
   stands =
-      let (t, from) = chosen (leb (length s) 1048576) (λ _. headerFrom s 0) 2 0 e in
+      let (t, from) = chosen (leb (length s) longest) (λ _. headerFrom s 0) 2 0 e in
       let (fits, good, spans) = header-inverse s .forth o (omega arith) from in
       (good, spans)
 

@@ -7,6 +7,7 @@ use native.Mathlib.Omega.{arith}
 use native.Mathlib.Nat.{le-refl}
 use lib.ListN.{length, drop}
 use lib.Dec.{leb, eqb}
+use Rattle.octets.specs.Limits.{longest, mostRows}
 use Rattle.octets.specs.Reading.{Read, ok, no, _then_, choose, be, number}
 use Rattle.octets.proofs.Inverse.{after}
 use Rattle.layouts.specs.Layout.{layoutAt}
@@ -46,9 +47,9 @@ module _ {ns : List ℕ} (one : among 1 ns ≡ true) (two : among 2 ns ≡ true)
   lent-only : (s : List ℕ) (rows : ℕ) (octets : List ℕ) (used : ℕ) → Only ns (lentBook s rows octets used)
   unfolding lentBook
   lent-only s rows octets used =
-      only-choose (leb (length s) 1048576) _ _
+      only-choose (leb (length s) longest) _ _
       (only-then (bookOf octets used) _ (book-17 book17 octets used) λ book end.
-      only-choose (leb rows 1048576) _ _ (taken book end) (given 17 0 book17))
+      only-choose (leb rows mostRows) _ _ (taken book end) (given 17 0 book17))
       (given 2 0 two)
 
   kind-only : (wanted : ℕ) (s : List ℕ) (at : ℕ) → Only ns (kindAsked wanted s at)

@@ -4,6 +4,7 @@ use mathlib.Core.Path.{_≡_, refl, sym, ap, _∙_, subst}
 use mathlib.Core.List.{List, _∷_, _++_, append-assoc}
 use native.Mathlib.Omega.{arith}
 use lib.ListN.{length}
+use Rattle.octets.specs.Limits.{bookRoom}
 use Rattle.octets.specs.Reading.{Read, ok, number}
 use Rattle.octets.specs.Writing.{Each, Octet}
 use Rattle.octets.proofs.Inverse.{ok-value, ok-place}
@@ -38,7 +39,7 @@ accepted {s} {octets} (then-steps {h} {next} {elements} {e} e₁ d q) r end is =
         )
     go (refused n p) c z = absurd (let w : _≡_ {A = ℕ} 0 1 = cc in omega arith)
 
-pub first-asked : (s : List ℕ) → Each Octet s → (octets : List ℕ) → 32768 ≤ length octets → FirstAsked s octets
+pub first-asked : (s : List ℕ) → Each Octet s → (octets : List ℕ) → bookRoom ≤ length octets → FirstAsked s octets
 first-asked s o octets room =
     record {
       header = header-answered s o;

@@ -4,6 +4,7 @@ use mathlib.Core.Path.{_≡_, ap}
 use mathlib.Core.List.{List, [], _∷_, _++_}
 use lib.ListN.{length, set}
 use borrow.Author.Tests.{lt-leb}
+use Rattle.octets.specs.Limits.{longest}
 use Rattle.octets.specs.Reading.{Read, no, be, part, numberIn, octetsIn, textIn, count, exactly, run}
 use Rattle.octets.specs.Writing.{word, textImage, images}
 use Rattle.kinds.specs.Kinds.{among, basicOf, kindAt}
@@ -24,11 +25,11 @@ use Rattle.promises_questions.proofs.Asked.{field-asked, layout-asked, 
 
 field-long : fieldAsked long 0 0 [] 0 0 ≡ no 2 0
 unfolding fieldAsked rowAsked bookAsked lentBook
-field-long = rw (lt-leb (length long) 1048576 too-long)
+field-long = rw (lt-leb (length long) longest too-long)
 
 layout-long : layoutAsked long 0 0 [] 0 ≡ no 2 0
 unfolding layoutAsked bookAsked lentBook
-layout-long = rw (lt-leb (length long) 1048576 too-long)
+layout-long = rw (lt-leb (length long) longest too-long)
 
 attribute-long : attributeAsked long 0 0 [] 0 0 ≡ no 2 0
 unfolding attributeAsked

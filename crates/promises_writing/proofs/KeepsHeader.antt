@@ -8,6 +8,7 @@ use native.Mathlib.Nat.{zero-add}
 use lib.ListN.{length, length-append}
 use lib.Dec.{leb, eqb, lit<}
 use borrow.Author.Tests.{eqb-true, leb-true}
+use Rattle.octets.specs.Limits.{longest, mostListed}
 use Rattle.octets.specs.Writing.{word, textImage, images, Each, Octet, Text}
 use Rattle.octets.proofs.Spans.{each-join}
 use Rattle.octets.proofs.Ends.{chosen-ok}
@@ -21,7 +22,7 @@ use Rattle.promises_writing.proofs.Put.{octetsOf, images-snoc, each-sno
 use Rattle.promises_writing.proofs.Shapes.{InHeader, namespaced, served, Shape, Stand, rest, Inv, at-turn, PassesHere, leftHere, put-keeps}
 
 -- A string whose octets were put fits a length.
-pub is-text : (xs : List ℕ) → Each Octet xs → length (textImage xs) ≤ 1048576 → Text xs
+pub is-text : (xs : List ℕ) → Each Octet xs → length (textImage xs) ≤ longest → Text xs
 unfolding textImage
 is-text xs e h = (e, omega (arith, length-append (word 4 (length xs)) xs))
 
@@ -92,10 +93,10 @@ module _ {buffer lent : List ℕ} {told : Told} (now : Stand buffer lent told) w
   pub keep-namespaces : (n : ℕ) → Keeps (namespaceCount n)
   unfolding does
   keep-namespaces n new p =
-      put-keeps now (adds told (namespaceCount n)) wants.NamespaceCount (turnAt n wants.Uri wants.ServiceCount) (unless (leb n 16) 4) (word 4 n) n (now .at .start) p λ i _ _.
+      put-keeps now (adds told (namespaceCount n)) wants.NamespaceCount (turnAt n wants.Uri wants.ServiceCount) (unless (leb n mostListed) 4) (word 4 n) n (now .at .start) p λ i _ _.
       let h = i .h in
       let g = i .good in
-      let most : n ≤ 16 = leb-true n 16 (chosen-ok (leb n 16) (λ _. fine) 4 0 (p .faultless)) in
+      let most : n ≤ 16 = leb-true n mostListed (chosen-ok (leb n mostListed) (λ _. fine) 4 0 (p .faultless)) in
       let h₁ : Header = header (h .recorder) (h .start) (h .default) [] (h .services) (h .id) in
       let g₁ : GoodHeader h₁ = good-header (g .recorder) (g .start) (g .default) (omega arith) tt (g .few-services) (g .services) (g .id-length) (g .id) in
       at-turn (λ u. Shape u (spot (now .at .book) u n (now .at .start) (now .at .rows)) (now .done ++ word 4 n) (adds told (namespaceCount n))) n wants.Uri wants.ServiceCount
@@ -134,10 +135,10 @@ module _ {buffer lent : List ℕ} {told : Told} (now : Stand buffer lent told) w
   pub keep-services : (n : ℕ) → Keeps (serviceCount n)
   unfolding does
   keep-services n new p =
-      put-keeps now (adds told (serviceCount n)) wants.ServiceCount (turnAt n wants.Service wants.DocumentId) (unless (leb n 16) 4) (word 4 n) n (now .at .start) p λ i _ _.
+      put-keeps now (adds told (serviceCount n)) wants.ServiceCount (turnAt n wants.Service wants.DocumentId) (unless (leb n mostListed) 4) (word 4 n) n (now .at .start) p λ i _ _.
       let h = i .h in
       let g = i .good in
-      let most : n ≤ 16 = leb-true n 16 (chosen-ok (leb n 16) (λ _. fine) 4 0 (p .faultless)) in
+      let most : n ≤ 16 = leb-true n mostListed (chosen-ok (leb n mostListed) (λ _. fine) 4 0 (p .faultless)) in
       let h₁ : Header = header (h .recorder) (h .start) (h .default) (h .others) [] (h .id) in
       let g₁ : GoodHeader h₁ = good-header (g .recorder) (g .start) (g .default) (g .few-others) (g .others) (omega arith) tt (g .id-length) (g .id) in
       at-turn (λ u. Shape u (spot (now .at .book) u n (now .at .start) (now .at .rows)) (now .done ++ word 4 n) (adds told (serviceCount n))) n wants.Service wants.DocumentId

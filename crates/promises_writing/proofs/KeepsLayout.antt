@@ -10,6 +10,7 @@ use native.Mathlib.Nat.{add-zero, zero-add}
 use lib.ListN.{length, length-append}
 use lib.Dec.{leb, ltb, eqb, lit<}
 use borrow.Author.Tests.{eqb-true, eqb-false, leb-true, ltb-true}
+use Rattle.octets.specs.Limits.{bookRoom, mostLayouts, mostAttributes}
 use Rattle.octets.specs.Reading.{Read, ok, no, _then_, isOk, same}
 use Rattle.octets.specs.Writing.{word, textImage, images, Each, Octet}
 use Rattle.octets.proofs.Spans.{each-join}
@@ -62,9 +63,9 @@ learns-of b l new q g e = go (find (l .number) b) refl (subst (λ (n : ℕ). add
         let t = chosen (same (layoutImage m) (layoutImage l)) (λ _. fine) 10 0 e₁ .0 in
         record { next = b; learns = learn-known b l 0 m f (same-true (layoutImage m) (layoutImage l) t) }
     go none f h =
-        after (unless (ltb (length b) 64 && leb (length (bookImage b) + length (layoutImage l)) 32768) 11) _ h λ _ _ e₁ _.
-        let t = chosen (ltb (length b) 64 && leb (length (bookImage b) + length (layoutImage l)) 32768) (λ _. fine) 11 0 e₁ .0 in
-        let (u, v) = both-true (ltb (length b) 64) (leb (length (bookImage b) + length (layoutImage l)) 32768) t in
+        after (unless (ltb (length b) mostLayouts && leb (length (bookImage b) + length (layoutImage l)) bookRoom) 11) _ h λ _ _ e₁ _.
+        let t = chosen (ltb (length b) mostLayouts && leb (length (bookImage b) + length (layoutImage l)) bookRoom) (λ _. fine) 11 0 e₁ .0 in
+        let (u, v) = both-true (ltb (length b) mostLayouts) (leb (length (bookImage b) + length (layoutImage l)) bookRoom) t in
         record { next = b ++ l ∷ []; learns = learn-new b l 0 f (ltb-true _ _ u) (leb-true _ _ v) }
 
 -- A call that makes the open layout whole.
@@ -159,7 +160,7 @@ module _ {buffer lent : List ℕ} {told : Told} (now : Stand buffer lent told) w
   pub keep-attributes : (n : ℕ) → Keeps now (attributeCount n)
   unfolding does
   keep-attributes n new p =
-      attributes-keep (attributeCount n) wants.AttributeCount (unless (leb n 64) 4) n new refl p
+      attributes-keep (attributeCount n) wants.AttributeCount (unless (leb n mostAttributes) 4) n new refl p
       (λ i _ _.
       record {
         opened = longer (attributeCount n) wants.AttributeName n (i .opened);
@@ -168,7 +169,7 @@ module _ {buffer lent : List ℕ} {told : Told} (now : Stand buffer lent told) w
         name = [];
         good = record { number = i .good .number; type-name = i .good .type-name; few = omega arith; attributes = tt };
         text = (tt, lit< tt);
-        counts = (zero-add n, leb-true n 64 (chosen-ok (leb n 64) (λ _. fine) 4 0 (p .faultless)));
+        counts = (zero-add n, leb-true n mostAttributes (chosen-ok (leb n mostAttributes) (λ _. fine) 4 0 (p .faultless)));
         said = one-more (attributeCount n) (i .said);
       })
       (λ i _ none.

@@ -10,6 +10,7 @@ use lib.ListN.{length, take, drop, replicate, length-append, length-drop}
 use lib.Seq.{take-add, take-all}
 use lib.Dec.{leb, eqb}
 use borrow.Author.Tests.{eqb-true, leb-true, ltb-true}
+use Rattle.octets.specs.Limits.{longest}
 use Rattle.octets.specs.Reading.{Read, ok, _then_, isOk}
 use Rattle.octets.specs.Writing.{word, images}
 use Rattle.octets.proofs.Copies.{both-true}
@@ -55,7 +56,7 @@ next-is (a ∷ others) b v e =
     let (t, u) = both-true (eqb (codeOf (a .kind .basic)) (codeOf b)) (suits (formOf b) v) e in
     record { a = a; others = others; is = refl; basic = code-once (a .kind .basic) b (eqb-true _ _ t); suited = u }
 
-suits-good : (f : Form) (v : Value) → suits f v ≡ true → GivenValue v → length (valueImage f v) ≤ 1048576 → GoodValue f v
+suits-good : (f : Form) (v : Value) → suits f v ≡ true → GivenValue v → length (valueImage f v) ≤ longest → GoodValue f v
 suits-good (form.Fixed w) (bits n) e g h = ltb-true n (256 ^ w) e
 suits-good (form.Fixed w) (held xs) e g h = absurd (let z : _≡_ {A = ℕ} 0 1 = cc in omega arith)
 suits-good form.Truth (bits n) e g h = leb-true n 1 e
@@ -119,7 +120,7 @@ module _ {buffer lent : List ℕ} {told : Told} (now : Stand buffer lent told) w
       }
 
   -- A value of the next field, behind those given.
-  valued : (b : Basic) (v : Value) → GivenValue v → length (valueImage (formOf b) v) ≤ 1048576 → (i : Shape wants.Value (now .at) (now .done) told)
+  valued : (b : Basic) (v : Value) → GivenValue v → length (valueImage (formOf b) v) ≤ longest → (i : Shape wants.Value (now .at) (now .done) told)
       → Next (drop (now .at .count) (i .l .attributes)) b v
       → Shape wants.Value (spot (now .at .book) wants.Value (now .at .count + 1) (now .at .start) (now .at .rows)) (now .done ++ octetsOf (value b v)) (adds told (value b v))
   valued b v g small i next =

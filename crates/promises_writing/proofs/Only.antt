@@ -8,6 +8,7 @@ use native.Mathlib.Omega.{arith}
 use lib.ListN.{length, drop, length-replicate}
 use lib.Dec.{leb, ltb, eqb}
 use borrow.Author.Tests.{le-leb}
+use Rattle.octets.specs.Limits.{bookRoom, mostLayouts, mostAttributes, mostListed}
 use Rattle.octets.specs.Reading.{Read, ok, no, be, same}
 use Rattle.octets.proofs.Inverse.{after, chosen}
 use Rattle.octets.proofs.Copies.{both-true}
@@ -81,8 +82,8 @@ module _ (s : State) (buffer lent : List ℕ) (used : ℕ) where
         found : (xs : List ℕ) (o : Option Layout) → Only ns (additionFor (bookIn lent used) used xs o)
         found xs (some m) = only-then (unless (same (layoutImage m) xs) 10) _ (unless-only (same (layoutImage m) xs) 10 ten) λ _ _. taken [] 0
         found xs none =
-            only-then (unless (ltb (length (bookIn lent used)) 64 && leb (used + length xs) 32768) 11) _
-            (unless-only (ltb (length (bookIn lent used)) 64 && leb (used + length xs) 32768) 11 eleven) λ _ _. taken xs 0
+            only-then (unless (ltb (length (bookIn lent used)) mostLayouts && leb (used + length xs) bookRoom) 11) _
+            (unless-only (ltb (length (bookIn lent used)) mostLayouts && leb (used + length xs) bookRoom) 11 eleven) λ _ _. taken xs 0
 
         go : (t : Bool) (xs : List ℕ) → Only ns (addition t (bookIn lent used) used xs)
         go false xs = taken [] 0
@@ -100,11 +101,11 @@ module _ (s : State) (buffer lent : List ℕ) (used : ℕ) where
     module _ (full : In ns 23) where
       pub namespaces-only : In ns 4 → (n : ℕ) → Only ns (call s buffer lent used (namespaceCount n))
       unfolding does
-      namespaces-only four n = field-only full (namespaceCount n) (unless-only (leb n 16) 4 four) refl
+      namespaces-only four n = field-only full (namespaceCount n) (unless-only (leb n mostListed) 4 four) refl
 
       pub services-only : In ns 4 → (n : ℕ) → Only ns (call s buffer lent used (serviceCount n))
       unfolding does
-      services-only four n = field-only full (serviceCount n) (unless-only (leb n 16) 4 four) refl
+      services-only four n = field-only full (serviceCount n) (unless-only (leb n mostListed) 4 four) refl
 
       pub id-only : In ns 5 → (xs : List ℕ) → Only ns (call s buffer lent used (documentId xs))
       unfolding does
@@ -112,7 +113,7 @@ module _ (s : State) (buffer lent : List ℕ) (used : ℕ) where
 
       pub attributes-only : In ns 4 → In ns 10 → In ns 11 → (n : ℕ) → Only ns (call s buffer lent used (attributeCount n))
       unfolding does
-      attributes-only four ten eleven n = layout-only full ten eleven (attributeCount n) (unless-only (leb n 64) 4 four)
+      attributes-only four ten eleven n = layout-only full ten eleven (attributeCount n) (unless-only (leb n mostAttributes) 4 four)
 
       pub type-only : In ns 9 → In ns 8 → In ns 10 → In ns 11 → (t : ℕ) → Only ns (call s buffer lent used (attributeType t))
       unfolding does

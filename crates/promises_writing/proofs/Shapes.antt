@@ -9,6 +9,7 @@ use native.Mathlib.Omega.{arith}
 use lib.ListN.{length, take, drop, length-append, length-drop}
 use lib.Dec.{eqb}
 use borrow.Author.Tests.{eqb-true, eqb-false}
+use Rattle.octets.specs.Limits.{longest}
 use Rattle.octets.specs.Reading.{Read, choose}
 use Rattle.octets.specs.Writing.{images, Text}
 use Rattle.layouts.specs.Layout.{Layout, GoodLayout}
@@ -139,7 +140,7 @@ pub record Inv (buffer lent : List ℕ) (told : Told) (w : Written) : Type 0 whe
   pub stand : Stand buffer lent told
   pub is : w ≡ written stand
 
-pub room-small : (size : ℕ) → room size ≤ 1048576
+pub room-small : (size : ℕ) → room size ≤ longest
 unfolding room
 room-small size = omega arith
 
@@ -182,11 +183,11 @@ module _ {buffer lent : List ℕ} {told : Told} (now : Stand buffer lent told) w
 
   -- A call that puts octets, by what stands at its turn.
   pub put-keeps : (next : Told) (t u : Turn) (fault : Read (Unit {0})) (xs : List ℕ) (j i : ℕ) {new : List ℕ} → PassesHere (put (stateAt (now .done) (now .at)) t fault xs u j i) new
-      → (Shape t (now .at) (now .done) told → rule t .least ≤ now .at .count → length xs ≤ 1048576
+      → (Shape t (now .at) (now .done) told → rule t .least ≤ now .at .count → length xs ≤ longest
       → Shape u (spot (now .at .book) u j i (now .at .rows)) (now .done ++ xs) next)
       → Inv buffer lent next (leftHere (put (stateAt (now .done) (now .at)) t fault xs u j i) new)
   put-keeps next t u fault xs j i p step =
       let fits = p .fits in
-      let small : length xs ≤ 1048576 = omega (arith, room-small (length (now .done ++ rest now))) in
+      let small : length xs ≤ longest = omega (arith, room-small (length (now .done ++ rest now))) in
       let (stand, is) = put-stand next xs (spot (now .at .book) u j i (now .at .rows)) fits (now .good) (step (here t (p .in-turn)) (turn-count (stateAt (now .done) (now .at)) (length (now .done ++ rest now)) (p .inside) t (p .in-turn) .0) small) in
       record { stand = stand; is = put-leaves lent (now .done) (rest now) (now .at) t u fault xs j i (p .takes) ∙ is }

@@ -12,6 +12,7 @@ use lib.ListN.{length, take, drop, replicate, length-append, length-drop, length
 use lib.Seq.{take-append-seam, drop-append-seam, drop-append-add, drop-append-le, drop-drop, take-at, drop-at}
 use lib.Dec.{ltb, lit<}
 use borrow.Author.Tests.{le-leb, lt-ltb}
+use Rattle.octets.specs.Limits.{bookRoom, mostLayouts}
 use Rattle.octets.specs.Reading.{Read, ok, be, part}
 use Rattle.octets.specs.Writing.{word, images, over}
 use Rattle.octets.proofs.Spans.{all-spans, length-word, be-word}
@@ -129,7 +130,7 @@ takes-learnt lent b l next g (inl h) =
 takes-learnt lent b l next g (inr h) =
     record {
       new = layoutImage l;
-      takes = rw (number-first l g, h .0, lt-ltb (length b) 64 (h .1), le-leb (length (bookImage b) + length (layoutImage l)) 32768 (h .2));
+      takes = rw (number-first l g, h .0, lt-ltb (length b) mostLayouts (h .1), le-leb (length (bookImage b) + length (layoutImage l)) bookRoom (h .2));
       book = rw (h .3, image-snoc b l) (over-onto lent (bookImage b) (layoutImage l));
       used = rw (h .3, image-snoc b l, length-append (bookImage b) (layoutImage l));
     }

@@ -8,6 +8,7 @@ use native.Mathlib.Omega.{arith}
 use native.Mathlib.Nat.{add-zero, zero-add}
 use lib.ListN.{length, take, drop, length-append}
 use lib.Seq.{take-append-seam}
+use Rattle.octets.specs.Limits.{mostRows, bookRoom}
 use Rattle.octets.specs.Reading.{ok, choose}
 use Rattle.octets.specs.Writing.{word, images, Each, Text}
 use Rattle.octets.proofs.Spans.{each-join}
@@ -45,8 +46,8 @@ pub image-parts : (d : Document) → headerImage (d .header) ++ (images itemImag
 unfolding image
 image-parts d = simp append-assoc
 
-module _ (buffer lent : List ℕ) (long : 32768 ≤ length lent) where
-  items-put : (items : List Item) (done : List ℕ) (b : Book) (rows : ℕ) → GoodBook b → GoodItems b items → rows + rowCount items ≤ 1048576
+module _ (buffer lent : List ℕ) (long : bookRoom ≤ length lent) where
+  items-put : (items : List Item) (done : List ℕ) (b : Book) (rows : ℕ) → GoodBook b → GoodItems b items → rows + rowCount items ≤ mostRows
       → GoodBook (bookBehind b items)
       × Puts buffer lent (each itemCalls items) (images itemImage items) done (spot b wants.Element 0 0 rows) (spot (bookBehind b items) wants.Element 0 0 (rows + rowCount items))
   unfolding images
@@ -64,7 +65,7 @@ module _ (buffer lent : List ℕ) (long : 32768 ≤ length lent) where
       rw sum (again .0, puts-both {a = itemCalls (row r)} (row-put buffer lent long b s rows (omega arith) done r (g .1 .0) (g .0) (g .1 .1) (g .1 .2)) (again .1))
 
 -- From a fresh state and an empty book, over any buffer with room for the image, the calls of a document inside the limits are all accepted and leave it written whole.
-pub writes : (d : Document) → Good d → (buffer book : List ℕ) → length (image d) ≤ length buffer → 32768 ≤ length book
+pub writes : (d : Document) → Good d → (buffer book : List ℕ) → length (image d) ≤ length buffer → bookRoom ≤ length book
     → runCalls (callsOf d) (begun buffer book) ≡ ok (finished d buffer book) (length (image d))
 unfolding callsOf finished room bookImage images does
 writes d g buffer book fits long =
@@ -76,7 +77,7 @@ writes d g buffer book fits long =
     let sum = length-append head (body ++ last) in
     let parts = length-append body last in
     let limit = g .fits in
-    let many : rows ≤ 1048576 = omega (arith, few (d .items)) in
+    let many : rows ≤ mostRows = omega (arith, few (d .items)) in
     let (good, items) = items-put buffer book long (d .items) head [] 0 good-nil (g .items) (omega arith) in
     let behind : Book = bookBehind [] (d .items) in
     let end = put-one buffer book long (finish (d .end)) (head ++ body) last (spot behind wants.Element 0 0 rows) wants.Nothing 0 0 fine good refl refl (omega arith) in

@@ -8,6 +8,7 @@ use native.Mathlib.Omega.{arith}
 use lib.ListN.{length, drop, length-append}
 use lib.Dec.{leb, eqb, eqb·suc-zero}
 use borrow.Author.Tests.{le-leb, eq-eqb}
+use Rattle.octets.specs.Limits.{mostRows, bookRoom}
 use Rattle.octets.specs.Reading.{Read, isOk}
 use Rattle.octets.specs.Writing.{word, textImage, images}
 use Rattle.layouts.specs.Book.{Book, bookImage, GoodBook}
@@ -58,14 +59,14 @@ module _ {buffer lent : List ℕ} where
 pub record Ready (x : Spot) (place : ℕ) : Type 0 where
   pub least : rule (x .turn) .least ≤ x .count
   pub most : x .count ≤ rule (x .turn) .most
-  pub rows : x .rows ≤ 1048576
+  pub rows : x .rows ≤ mostRows
   pub head : x .start + rule (x .turn) .head ≤ place
 
 pub ready-bounds : (buffer done : List ℕ) (x : Spot) → Ready x (length done) → length done ≤ room (length buffer) → Bounds (stateAt done x) (length (onto buffer done))
 ready-bounds buffer done x r h =
     record { place = rw (room-same buffer done h) h; least = r .least; most = r .most; rows = r .rows; head = λ _. r .head }
 
-module _ (buffer lent : List ℕ) (long : 32768 ≤ length lent) where
+module _ (buffer lent : List ℕ) (long : bookRoom ≤ length lent) where
   -- One call that puts octets and has no fault.
   pub put-one : (c : Call) (done xs : List ℕ) (x : Spot) (u : Turn) (j i : ℕ) (fault : Read (Unit {0})) → GoodBook (x .book)
       → does (stateAt done x) (onto buffer done) (x .book) c ≡ put (stateAt done x) (x .turn) fault xs u j i → isOk fault ≡ true → Ready x (length done)

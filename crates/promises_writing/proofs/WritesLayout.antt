@@ -9,6 +9,7 @@ use lib.ListN.{length, drop, length-append}
 use lib.Dec.{leb, eqb·suc-zero}
 use lib.Arith.{digits-mod}
 use borrow.Author.Tests.{le-leb, eq-eqb}
+use Rattle.octets.specs.Limits.{mostRows, bookRoom, mostAttributes}
 use Rattle.octets.specs.Reading.{Read, ok, _then_, isOk}
 use Rattle.octets.specs.Writing.{word, textImage, images, Each}
 use Rattle.octets.proofs.Spans.{length-word}
@@ -40,7 +41,7 @@ layout-starts : (l : Layout)
 unfolding layoutImage
 layout-starts l = simp append-assoc
 
-module _ (buffer lent : List ℕ) (long : 32768 ≤ length lent) (b : Book) (good : GoodBook b) (rows : ℕ) (few : rows ≤ 1048576)
+module _ (buffer lent : List ℕ) (long : bookRoom ≤ length lent) (b : Book) (good : GoodBook b) (rows : ℕ) (few : rows ≤ mostRows)
     (before : List ℕ) (l : Layout) (next : Book) (inside : GoodLayout l) (learns : learn b l 0 ≡ ok next 0) where
   -- The call that completes the layout.
   complete-one : (c : Call) (done more xs : List ℕ) (t : Turn) (k : ℕ) (fault : Read (Unit {0})) → done ≡ before ++ more → 4 ≤ length more
@@ -105,13 +106,13 @@ module _ (buffer lent : List ℕ) (long : 32768 ≤ length lent) (b : Book) (goo
   counted-put [] done more form low h g whole =
       let size = ap length form ∙ length-append before more in
       puts-as (sym (append-nil (word 4 0)))
-      (complete-one (attributeCount 0) done more (word 4 0) wants.AttributeCount 0 (unless (leb 0 64) 4) form (omega arith) (rw append-nil at whole) refl refl (omega arith))
+      (complete-one (attributeCount 0) done more (word 4 0) wants.AttributeCount 0 (unless (leb 0 mostAttributes) 4) form (omega arith) (rw append-nil at whole) refl refl (omega arith))
   counted-put (a ∷ rest) done more form low h g whole =
       let size = ap length form ∙ length-append before more in
       let k : ℕ = suc (length rest) in
       puts-both {a = attributeCount k ∷ []}
       (put-one buffer lent long (attributeCount k) done (word 4 k) (spot b wants.AttributeCount 0 (length before) rows) wants.AttributeName k (length before)
-      (unless (leb k 64) 4) good (rw (eqb·suc-zero (length rest))) (rw (le-leb k 64 h)) (omega arith))
+      (unless (leb k mostAttributes) 4) good (rw (eqb·suc-zero (length rest))) (rw (le-leb k mostAttributes h)) (omega arith))
       (attributes-put rest a (done ++ word 4 k) (more ++ word 4 k) (behind (word 4 k) form ∙ append-assoc before more (word 4 k)) (rw length-append (omega arith)) h g
       (simp append-assoc whole))
 

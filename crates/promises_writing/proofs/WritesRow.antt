@@ -10,6 +10,7 @@ use native.Mathlib.Nat.{add-zero, zero-add, le-refl}
 use lib.ListN.{length, drop, length-append}
 use lib.Seq.{drop-drop}
 use borrow.Author.Tests.{le-leb, lt-ltb, eq-eqb}
+use Rattle.octets.specs.Limits.{mostRows, bookRoom, mostAttributes}
 use Rattle.octets.specs.Reading.{Read, _then_, isOk}
 use Rattle.octets.specs.Writing.{word, images}
 use Rattle.octets.proofs.Spans.{length-word}
@@ -46,7 +47,7 @@ good-next : (a : Attribute) (rest : List Attribute) (f : Field) → f .attribute
     → isNext (a ∷ rest) (f .attribute .kind .basic) (f .value) ≡ true
 good-next a rest f e g = rw (e, eq-eqb (codeOf (a .kind .basic)) (codeOf (a .kind .basic)) refl) (good-suits (formOf (a .kind .basic)) (f .value) g)
 
-module _ (buffer lent : List ℕ) (long : 32768 ≤ length lent) (b : Book) (good : GoodBook b) (rows : ℕ) (few : rows < 1048576)
+module _ (buffer lent : List ℕ) (long : bookRoom ≤ length lent) (b : Book) (good : GoodBook b) (rows : ℕ) (few : rows < mostRows)
     (before : List ℕ) (r : Row) (l : Layout) (small : r .number < 2 ^ 32) (found : find (r .number) b ≡ some l) where
   -- The row's first twelve octets, its length as it was opened.
   top : List ℕ
@@ -85,7 +86,7 @@ module _ (buffer lent : List ℕ) (long : 32768 ≤ length lent) (b : Book) (goo
   whole : List ℕ
   whole = before ++ (top ++ images fieldImage (r .fields))
 
-  close-one : length (l .attributes) ≤ 64 → length whole ≤ room (length buffer)
+  close-one : length (l .attributes) ≤ mostAttributes → length whole ≤ room (length buffer)
       → Runs (closeRow ∷ []) (stand buffer lent whole (spot b wants.Value (length (l .attributes)) (length before) rows))
       (stand buffer lent (before ++ itemImage (row r)) (spot b wants.Element 0 0 (rows + 1)))
   unfolding does whole
@@ -113,7 +114,7 @@ module _ (buffer lent : List ℕ) (long : 32768 ≤ length lent) (b : Book) (goo
   pub row-put : FieldsOf (l .attributes) (r .fields) → Puts buffer lent (itemCalls (row r)) (itemImage (row r)) before (spot b wants.Element 0 0 rows) (spot b wants.Element 0 0 (rows + 1))
   unfolding does top whole
   row-put g =
-      let many : length (l .attributes) ≤ 64 = each-find GoodLayout (r .number) b l (good .good) found .few in
+      let many : length (l .attributes) ≤ mostAttributes = each-find GoodLayout (r .number) b l (good .good) found .few in
       let place = close-leaves lent before [] whole (spot b wants.Value 0 (length before) rows) r (top-opens (images fieldImage (r .fields))) refl refl .1 in
       let opens : Puts buffer lent (openRow (r .number) (r .is-stated) ∷ []) top before (spot b wants.Element 0 0 rows) (spot b wants.Value 0 (length before) rows) =
       put-one buffer lent long (openRow (r .number) (r .is-stated)) before top (spot b wants.Element 0 0 rows) wants.Value 0 (length before) (known (find (r .number) b) then λ _ _. fine) good refl (rw found) (omega arith) in

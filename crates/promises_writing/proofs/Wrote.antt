@@ -9,6 +9,7 @@ use lib.ListN.{length, take, drop, replicate, length-replicate, replicate-append
 use lib.Seq.{drop-at, drop-append-seam, drop-append-add, drop-drop}
 use lib.Dec.{leb, lit<}
 use borrow.Author.Tests.{leb-true, leb-false}
+use Rattle.octets.specs.Limits.{bookRoom}
 use Rattle.octets.specs.Reading.{Read, ok, no}
 use Rattle.octets.specs.Writing.{word, images, Each}
 use Rattle.octets.proofs.Spans.{length-word, word-octets, each-front, each-drop}
@@ -71,7 +72,7 @@ tell-snoc : (t : Told) (cs : List Call) (c : Call) → tellAll t (cs ++ c ∷ []
 tell-snoc t [] c = refl
 tell-snoc t (d ∷ cs) c = tell-snoc (tell t d) cs c
 
-module _ (buffer lent : List ℕ) (long : 32768 ≤ length lent) where
+module _ (buffer lent : List ℕ) (long : bookRoom ≤ length lent) where
   -- What stands, over the buffer with zeroes as far as the farthest place from which an element was given up.
   record Held (told : Told) (far : ℕ) (w : Written) : Type 0 where
     low : far ≤ length buffer
@@ -207,7 +208,7 @@ finished-stands : (buffer book done : List ℕ) (x : Spot) (d : Document) → do
 unfolding finished
 finished-stands buffer book done x d is spot-is = rw (is, spot-is)
 
-module _ (calls : List Call) (given : Each Given calls) (buffer book : List ℕ) (long : 32768 ≤ length book) where
+module _ (calls : List Call) (given : Each Given calls) (buffer book : List ℕ) (long : bookRoom ≤ length book) where
   -- At every point of a run.
   pub going : Going buffer book (ran calls buffer book)
   going =

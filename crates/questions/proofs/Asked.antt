@@ -8,6 +8,7 @@ use lib.ListN.{length, drop}
 use lib.Seq.{drop-nil}
 use lib.Dec.{leb, eqb}
 use borrow.Author.Tests.{le-leb, lt-leb, eq-eqb, ne-eqb, eqb-true}
+use Rattle.octets.specs.Limits.{longest, mostRows}
 use Rattle.octets.specs.Reading.{Read, ok, no, _then_, choose, ends, isOk, be, number}
 use Rattle.octets.specs.Writing.{Each, Octet}
 use Rattle.octets.proofs.Inverse.{after}
@@ -95,8 +96,8 @@ module _ (wanted : ℕ) (s : List ℕ) (at : ℕ) where
 
 -- An element of the kind asked about, over a book that is good.
 pub record Asked (wanted : ℕ) (s : List ℕ) (at rows : ℕ) (octets : List ℕ) (used next : ℕ) : Type 0 where
-  pub short : length s ≤ 1048576
-  pub few : rows ≤ 1048576
+  pub short : length s ≤ longest
+  pub few : rows ≤ mostRows
   pub is : IsBook octets used
   pub room : at + 4 ≤ length s
   pub kind : be 4 s at ≡ wanted
@@ -181,7 +182,7 @@ module _ (book : Book) (s : List ℕ) (at : ℕ) where
 
 -- A layout that is asked for stands behind its kind.
 pub record Layed (s : List ℕ) (at : ℕ) (l : Layout) (next : ℕ) : Type 0 where
-  pub short : length s ≤ 1048576
+  pub short : length s ≤ longest
   pub room : at + 4 ≤ length s
   pub stands : layoutAt s (at + 4) ≡ ok l next
 

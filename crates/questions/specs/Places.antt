@@ -4,6 +4,7 @@ use mathlib.Core.Path.{_≡_}
 use mathlib.Core.List.{List, _∷_}
 use mathlib.Core.Bool.{Bool, true, false}
 use lib.ListN.{length, drop}
+use Rattle.octets.specs.Limits.{longest, bookRoom}
 use Rattle.octets.specs.Reading.{Read, ok, no, _then_, stated}
 use Rattle.octets.specs.declared.Ended.{Ended}
 use Rattle.octets.specs.declared.Ended.the-variants as ended
@@ -30,8 +31,8 @@ pub record Line (s book : List ℕ) (read : Read Row) (place count first end : �
   pub fields : fieldsIn (stated end 0) (layout .attributes) s first ≡ ok (row .fields) end
   pub later : first ≤ end
   pub inside : end ≤ length s
-  pub short : length s ≤ 1048576
-  pub small : length book ≤ 32768
+  pub short : length s ≤ longest
+  pub small : length book ≤ bookRoom
 
 abbrev pub Lines : List ℕ → List ℕ → Read Row → Lined → Type 0
 Lines s book read (lined.At place count first end) = Line s book read place count first end
@@ -66,8 +67,8 @@ pub record Spotted (s book : List ℕ) (read : Read Field) (attribute value : �
   pub names : attributeAt book attribute ≡ ok (field .attribute) last
   pub reads : valueIn (stated end 0) (formOf (field .attribute .kind .basic)) s value ≡ ok (field .value) after
   pub inside : end ≤ length s
-  pub short : length s ≤ 1048576
-  pub small : length book ≤ 32768
+  pub short : length s ≤ longest
+  pub small : length book ≤ bookRoom
 
 abbrev pub Spots : List ℕ → List ℕ → Read Field → Spot → Type 0
 Spots s book read (spot.At attribute value) = Spotted s book read attribute value
@@ -91,7 +92,7 @@ pub record Standing {A : Type 0} (s : List ℕ) (one : ℕ → Read A) (read : R
   pub last : ℕ
   pub is : read ≡ ok item next
   pub reads : one p ≡ ok item last
-  pub short : length s ≤ 1048576
+  pub short : length s ≤ longest
 
 abbrev pub Stands : {A : Type 0} → List ℕ → (ℕ → Read A) → Read A → Ended → Type 0
 Stands s one read (ended.End p) = Standing s one read p

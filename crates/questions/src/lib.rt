@@ -4,6 +4,7 @@ ghost use mathlib.Core.Path.{_≡_};
 ghost use mathlib.Core.List.{List};
 ghost use Prim.Native.Nat.{ℕ, _≤_};
 ghost use lib.ListN.{length, take};
+ghost use Rattle.octets.specs.Limits.{longest, bookRoom};
 ghost use Rattle.octets.specs.Reading.{ok, ends, stated};
 ghost use Rattle.octets.specs.Answers.{says};
 ghost use Rattle.kinds.specs.Kinds.{formOf};
@@ -47,13 +48,13 @@ pub enum Typing {
 fn lent_refusal<'d, 'b>(doc: &'d [u8], rows: usize, book: &'b [u8], used: usize) -> Refusal
     ensures { λ r. ⌜ r ≡ refusalOf (lentBook (now (doc .entry)) rows (now (book .entry)) used) ⌝ }
 {
-    if 1048576 < doc.len() {
+    if octets::LONGEST < doc.len() {
         return Refusal::Is(2, 0);
     }
     if !layouts::is_book(book, used) {
         return Refusal::Is(17, 0);
     }
-    if 1048576 < rows {
+    if octets::MOST_ROWS < rows {
         return Refusal::Is(17, 0);
     }
     Refusal::None
@@ -61,7 +62,7 @@ fn lent_refusal<'d, 'b>(doc: &'d [u8], rows: usize, book: &'b [u8], used: usize)
 
 // The place behind a kind, which is the one asked about.
 fn kind_asked(doc: &[u8], at: usize, wanted: u32) -> Ended
-    requires { ⌜ length (now doc) ≤ 1048576 ⌝ }
+    requires { ⌜ length (now doc) ≤ longest ⌝ }
     ensures { λ r. ⌜ says r ≡ ends (kindAsked wanted (now (doc .entry)) at) ⌝ }
 {
     if doc.len() < at {
@@ -109,7 +110,7 @@ enum Lined {
 
 // The row whose layout's number stands at a place.
 fn row_here<'d, 'b>(doc: &'d [u8], at: usize, book: &'b [u8]) -> Lined
-    requires { ⌜ (at ≤ length (now doc)) × (length (now doc) ≤ 1048576) × (length (now book) ≤ 32768) × Holds (now book) ⌝ }
+    requires { ⌜ (at ≤ length (now doc)) × (length (now doc) ≤ longest) × (length (now book) ≤ bookRoom) × Holds (now book) ⌝ }
     ensures { λ r. ⌜ ((b : Book) → Image (now (book .entry)) b → Lines (now (doc .entry)) (now (book .entry)) (rowAt b (now (doc .entry)) at) r) ⌝ }
 {
     if doc.len() < at + 4 {
@@ -154,7 +155,7 @@ fn value_place<'d, 'b>(
     place: usize,
     n: u32,
 ) -> usize
-    requires { ⌜ (first ≤ end) × (end ≤ length (now doc)) × (length (now doc) ≤ 1048576) × (length (now book) ≤ 1048576) × Has (now book) place n ⌝ }
+    requires { ⌜ (first ≤ end) × (end ≤ length (now doc)) × (length (now doc) ≤ longest) × (length (now book) ≤ longest) × Has (now book) place n ⌝ }
     ensures { λ r. ⌜ ((l : Layout) (last : ℕ) (fields : List Field) → layoutAt (now (book .entry)) place ≡ ok l last → fieldsIn (stated end 0) (l .attributes) (now (doc .entry)) first ≡ ok fields end → NthField (now (doc .entry)) end (l .attributes) fields n r) ⌝ }
 {
     let attributes = layouts::attributes_at(book, place) + 4;
@@ -310,7 +311,7 @@ pub fn field_octets<'d, 'b>(
 
 // The place behind the layout whose number stands at a place, judged by the used octets of a book.
 fn layout_here<'d, 'b>(doc: &'d [u8], at: usize, book: &'b [u8]) -> Ended
-    requires { ⌜ (at ≤ length (now doc)) × (length (now doc) ≤ 1048576) × (length (now book) ≤ 32768) × Holds (now book) ⌝ }
+    requires { ⌜ (at ≤ length (now doc)) × (length (now doc) ≤ longest) × (length (now book) ≤ bookRoom) × Holds (now book) ⌝ }
     ensures { λ r. ⌜ ((b : Book) → Image (now (book .entry)) b → says r ≡ ends (layoutOver b (now (doc .entry)) at)) ⌝ }
 {
     let end = layouts::layout_end(doc, at);

@@ -4,6 +4,7 @@ use mathlib.Core.Path.{_≡_, refl, ap, _∙_}
 use mathlib.Core.List.{List, []}
 use lib.ListN.{length}
 use borrow.Author.Tests.{le-leb, lt-leb}
+use Rattle.octets.specs.Limits.{longest}
 use Rattle.octets.specs.Reading.{Read, ok, no, _then_, isOk, be, number}
 use Rattle.octets.proofs.Inverse.{ok-value}
 use Rattle.octets.proofs.Ends.{number-ok, number-room}
@@ -14,13 +15,13 @@ use Rattle.elements.proofs.Readings.{whole-through}
 
 -- The header of a document, too long or not.
 module _ (s : List ℕ) where
-  pub header-long : 1048576 < length s → headerAt s ≡ no 2 0
+  pub header-long : longest < length s → headerAt s ≡ no 2 0
   unfolding headerAt
-  header-long h = rw (lt-leb (length s) 1048576 h) refl
+  header-long h = rw (lt-leb (length s) longest h) refl
 
-  pub header-short : length s ≤ 1048576 → headerAt s ≡ headerFrom s 0
+  pub header-short : length s ≤ longest → headerAt s ≡ headerFrom s 0
   unfolding headerAt
-  header-short h = rw (le-leb (length s) 1048576 h) refl
+  header-short h = rw (le-leb (length s) longest h) refl
 
   -- The whole check: the header's refusal, or the rows counted behind it.
   pub whole-refused : (n p : ℕ) → headerAt s ≡ no n p → whole s ≡ no n p

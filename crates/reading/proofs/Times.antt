@@ -5,6 +5,7 @@ use Prim.Native.Nat.{ℕ, _^_, _≤_, _<_}
 use native.Mathlib.Omega.{arith}
 use lib.ListN.{length}
 use lib.Dec.{leb}
+use Rattle.octets.specs.Limits.{longest}
 use Rattle.octets.specs.Reading.{ok, isOk, number}
 use Rattle.octets.specs.Writing.{Each, Octet}
 use Rattle.octets.proofs.Inverse.{after, chosen}
@@ -25,10 +26,10 @@ module _ (s : List ℕ) (o : Each Octet s) where
   pub header-timed : (h : Header) (next : ℕ) → headerAt s ≡ ok h next → h .start < 2 ^ 64
   unfolding headerAt
   header-timed h next e =
-      let (t, from) = chosen (leb (length s) 1048576) (λ _. headerFrom s 0) 2 0 e in
+      let (t, from) = chosen (leb (length s) longest) (λ _. headerFrom s 0) 2 0 e in
       header-inverse s .forth o (omega arith) from .1 .start
 
-  element-timed : length s ≤ 1048576 → (at rows : ℕ) (book : Book) (st : Stepped) (next : ℕ) → elementAt s at rows book ≡ ok st next → Timed (st .element)
+  element-timed : length s ≤ longest → (at rows : ℕ) (book : Book) (st : Stepped) (next : ℕ) → elementAt s at rows book ≡ ok st next → Timed (st .element)
   unfolding elementAt
   element-timed short at rows book st next e =
       let room = number-room s at 4 (first-ok (number 4 s at) _ (ap isOk e)) in

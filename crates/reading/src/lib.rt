@@ -33,7 +33,7 @@ pub enum Checked {
 pub fn header(doc: &[u8]) -> Headed
     ensures { λ r. ⌜ r ≡ headTells (headerAt (now (doc .entry))) ⌝ }
 {
-    if 1048576 < doc.len() {
+    if octets::LONGEST < doc.len() {
         return Headed::Refused(2, 0);
     }
     let placing = headers::header_places(doc);
@@ -63,14 +63,14 @@ pub fn step<'d, 'b>(
 ) -> Stepping
     ensures { λ r. ⌜ (r ≡ tells (stepAt (now (doc .entry)) at rows (now (book .entry)) used)) × (now (book .exit) ≡ leaves (now (book .entry)) (stepAt (now (doc .entry)) at rows (now (book .entry)) used)) ⌝ }
 {
-    if 1048576 < doc.len() {
+    if octets::LONGEST < doc.len() {
         return Stepping::Refused(2, 0);
     }
     let lent = book.len();
     if !layouts::is_book(&book[..lent], used) {
         return Stepping::Refused(17, 0);
     }
-    if 1048576 < rows {
+    if octets::MOST_ROWS < rows {
         return Stepping::Refused(17, 0);
     }
     elements::element(doc, at, rows, book, used)
@@ -80,7 +80,7 @@ pub fn step<'d, 'b>(
 pub fn whole(doc: &[u8]) -> Checked
     ensures { λ r. ⌜ r ≡ checkTells (whole (now (doc .entry))) ⌝ }
 {
-    if 1048576 < doc.len() {
+    if octets::LONGEST < doc.len() {
         return Checked::Refused(2, 0);
     }
     let placing = headers::header_places(doc);

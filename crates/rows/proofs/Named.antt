@@ -8,6 +8,7 @@ use native.Mathlib.Omega.{arith}
 use lib.ListN.{length}
 use lib.Dec.{leb, ltb}
 use borrow.Author.Tests.{leb-true, leb-false}
+use Rattle.octets.specs.Limits.{longest}
 use Rattle.octets.specs.Reading.{ok, ends, isOk, be, number}
 use Rattle.octets.specs.Writing.{Each, Octet}
 use Rattle.octets.proofs.Inverse.{no-ok, ok-value, after}
@@ -79,5 +80,5 @@ module _ (s : List ℕ) (at : ℕ) (row : Row) (next : ℕ) where
   row-says book e = after (number 4 s at) _ e λ n p e₁ e₂. said n p (find n book) e₁ e₂
 
 -- Where a row of a book ends.
-pub row-inside : (s : List ℕ) → length s ≤ 1048576 → Each Octet s → (book : Book) (at : ℕ) (row : Row) (next : ℕ) → at ≤ length s → rowAt book s at ≡ ok row next → next ≤ length s
+pub row-inside : (s : List ℕ) → length s ≤ longest → Each Octet s → (book : Book) (at : ℕ) (row : Row) (next : ℕ) → at ≤ length s → rowAt book s at ≡ ok row next → next ≤ length s
 row-inside s short o book at row next h e = let (_, _, span) = row-inverse s short book .forth o h e in span .inside

@@ -9,6 +9,7 @@ use native.Mathlib.Nat.{le-refl}
 use lib.ListN.{length}
 use lib.Dec.{leb, ltb, eqb, lit<}
 use borrow.Author.Tests.{leb-true, eqb-true, eqb-false, le-leb, eq-eqb, ne-eqb, lt-ltb, le-ltb}
+use Rattle.octets.specs.Limits.{longest}
 use Rattle.octets.specs.Reading.{ok, Room, document, stated, reach, numberIn, octetsIn, textIn, number}
 use Rattle.octets.specs.Writing.{word, images, Each, Octet, Text}
 use Rattle.kinds.specs.declared.Form.{Form}
@@ -109,7 +110,7 @@ length-octets : (b : Bool) (n : ℕ) → Each Octet (lengthImage b n)
 length-octets true n = word-octets 4 n
 length-octets false n = word-octets 4 0xffffffff
 
-module _ (s : List ℕ) (short : length s ≤ 1048576) where
+module _ (s : List ℕ) (short : length s ≤ longest) where
   named-back : (is-stated : Bool) (l : Layout) (n at : ℕ) {length-at mid next : ℕ} (fields : List Field) → FieldsOf (l .attributes) fields
       → Spans s (length s) length-at mid (lengthImage is-stated (length (images fieldImage fields))) → Spans s (length s) mid next (images fieldImage fields)
       → named s at n length-at (some l) ≡ ok (record { number = n; is-stated = is-stated; fields = fields }) next

@@ -6,6 +6,7 @@ ghost use mathlib.Core.Bool.{true};
 ghost use mathlib.Core.Option.{some};
 ghost use Prim.Native.Nat.{ℕ, _+_, _≤_};
 ghost use lib.ListN.{length};
+ghost use Rattle.octets.specs.Limits.{longest};
 ghost use Rattle.octets.specs.Reading.{ok, ends, isOk, be, Room, document, reach, octetsIn, run};
 ghost use Rattle.octets.specs.Answers.{says, Within};
 ghost use Rattle.kinds.specs.Kinds.{formOf, kindAt};
@@ -27,7 +28,7 @@ pub enum Valued {
 
 // The place behind a value in so many octets.
 fn fixed_end(at: usize, end: usize, w: usize) -> Valued
-    requires { ⌜ (at ≤ end) × (end ≤ 1048576) × (w ≤ 8) ⌝ }
+    requires { ⌜ (at ≤ end) × (end ≤ longest) × (w ≤ 8) ⌝ }
     ensures { λ r. ⌜ ((room : Room) (s : List ℕ) → reach room s ≡ end → valued room r ≡ ends (valueIn room (Form.Fixed w) s at)) × Valuing at r end ⌝ }
 {
     if end < at + w {
@@ -38,7 +39,7 @@ fn fixed_end(at: usize, end: usize, w: usize) -> Valued
 
 // The place behind a boolean.
 fn truth_end(s: &[u8], at: usize, end: usize) -> Valued
-    requires { ⌜ (at ≤ end) × (end ≤ length (now s)) × (length (now s) ≤ 1048576) ⌝ }
+    requires { ⌜ (at ≤ end) × (end ≤ length (now s)) × (length (now s) ≤ longest) ⌝ }
     ensures { λ r. ⌜ ((room : Room) → reach room (now (s .entry)) ≡ end → valued room r ≡ ends (valueIn room Form.Truth (now (s .entry)) at)) × Valuing at r end ⌝ }
 {
     if end < at + 1 {
@@ -52,7 +53,7 @@ fn truth_end(s: &[u8], at: usize, end: usize) -> Valued
 
 // The place behind length-led octets.
 fn octets_end(s: &[u8], at: usize, end: usize) -> Valued
-    requires { ⌜ (at ≤ end) × (end ≤ length (now s)) × (length (now s) ≤ 1048576) ⌝ }
+    requires { ⌜ (at ≤ end) × (end ≤ length (now s)) × (length (now s) ≤ longest) ⌝ }
     ensures { λ r. ⌜ ((room : Room) → reach room (now (s .entry)) ≡ end → valued room r ≡ ends (octetsIn room (now (s .entry)) at)) × Valuing at r end ⌝ }
 {
     let reached = octets::octets_reach(s, at, end);
@@ -64,7 +65,7 @@ fn octets_end(s: &[u8], at: usize, end: usize) -> Valued
 
 // The place behind a value of a form, which may reach to an end.
 pub fn value_end(s: &[u8], at: usize, end: usize, form: Form) -> Valued
-    requires { ⌜ (at ≤ end) × (end ≤ length (now s)) × (length (now s) ≤ 1048576) × Slim form ⌝ }
+    requires { ⌜ (at ≤ end) × (end ≤ length (now s)) × (length (now s) ≤ longest) × Slim form ⌝ }
     ensures { λ r. ⌜ ((room : Room) → reach room (now (s .entry)) ≡ end → valued room r ≡ ends (valueIn room form (now (s .entry)) at)) × Valuing at r end ⌝ }
 {
     match form {
@@ -93,7 +94,7 @@ pub fn fields_end<'d, 'b>(
     first: usize,
     count: u32,
 ) -> Valued
-    requires { ⌜ (at ≤ end) × (end ≤ length (now doc)) × (length (now doc) ≤ 1048576) × (length (now book) ≤ 1048576) × Attributes (now book) count first ⌝ }
+    requires { ⌜ (at ≤ end) × (end ≤ length (now doc)) × (length (now doc) ≤ longest) × (length (now book) ≤ longest) × Attributes (now book) count first ⌝ }
     ensures { λ r. ⌜ ((xs : List Attribute) (last : ℕ) → run (attributeAt (now (book .entry))) count first ≡ ok xs last → (room : Room) → reach room (now (doc .entry)) ≡ end → valued room r ≡ ends (fieldsIn room xs (now (doc .entry)) at)) × Valuing at r end ⌝ }
 {
     let mut pos = at;
@@ -122,7 +123,7 @@ pub fn fields_end<'d, 'b>(
 
 // The place behind the values of a row whose length is unstated.
 fn open_end<'d, 'b>(doc: &'d [u8], at: usize, book: &'b [u8], first: usize, count: u32) -> Ended
-    requires { ⌜ (at ≤ length (now doc)) × (length (now doc) ≤ 1048576) × (length (now book) ≤ 1048576) × Attributes (now book) count first ⌝ }
+    requires { ⌜ (at ≤ length (now doc)) × (length (now doc) ≤ longest) × (length (now book) ≤ longest) × Attributes (now book) count first ⌝ }
     ensures { λ r. ⌜ ((xs : List Attribute) (last : ℕ) → run (attributeAt (now (book .entry))) count first ≡ ok xs last → says r ≡ ends (fieldsIn document xs (now (doc .entry)) at)) × Within at r (length (now (doc .entry))) ⌝ }
 {
     let values = fields_end(doc, at, doc.len(), book, first, count);
@@ -142,7 +143,7 @@ fn stated_end<'d, 'b>(
     first: usize,
     count: u32,
 ) -> Ended
-    requires { ⌜ (at + 4 ≤ end) × (end ≤ length (now doc)) × (length (now doc) ≤ 1048576) × (length (now book) ≤ 1048576) × Attributes (now book) count first ⌝ }
+    requires { ⌜ (at + 4 ≤ end) × (end ≤ length (now doc)) × (length (now doc) ≤ longest) × (length (now book) ≤ longest) × Attributes (now book) count first ⌝ }
     ensures { λ r. ⌜ ((xs : List Attribute) (last : ℕ) → run (attributeAt (now (book .entry))) count first ≡ ok xs last → says r ≡ ends (filled xs (now (doc .entry)) at end)) × Within at r (length (now (doc .entry))) ⌝ }
 {
     let values = fields_end(doc, at + 4, end, book, first, count);
@@ -166,7 +167,7 @@ pub fn values_end<'d, 'b>(
     first: usize,
     count: u32,
 ) -> Ended
-    requires { ⌜ (at + 4 ≤ length (now doc)) × (length (now doc) ≤ 1048576) × (length (now book) ≤ 1048576) × Attributes (now book) count first ⌝ }
+    requires { ⌜ (at + 4 ≤ length (now doc)) × (length (now doc) ≤ longest) × (length (now book) ≤ longest) × Attributes (now book) count first ⌝ }
     ensures { λ r. ⌜ ((xs : List Attribute) (last : ℕ) → run (attributeAt (now (book .entry))) count first ≡ ok xs last → says r ≡ ends (valuesAt xs (now (doc .entry)) at (be 4 (now (doc .entry)) at))) × Within at r (length (now (doc .entry))) ⌝ }
 {
     let size = octets::u32_at(doc, at);
@@ -188,7 +189,7 @@ pub enum Rowed {
 
 // The row whose layout's number stands at a place, over that layout, which stands at a place of a book.
 pub fn row_end<'d, 'b>(doc: &'d [u8], at: usize, book: &'b [u8], place: usize) -> Rowed
-    requires { ⌜ (at + 4 ≤ length (now doc)) × (length (now doc) ≤ 1048576) × (length (now book) ≤ 1048576) × Reads (now book) place ⌝ }
+    requires { ⌜ (at + 4 ≤ length (now doc)) × (length (now doc) ≤ longest) × (length (now book) ≤ longest) × Reads (now book) place ⌝ }
     ensures { λ r. ⌜ ((n : ℕ) (l : Layout) (next : ℕ) → layoutAt (now (book .entry)) place ≡ ok l next → rowSays r ≡ shape (named (now (doc .entry)) at n (at + 4) (some l))) × Rowing at r (length (now (doc .entry))) ⌝ }
 {
     let length_at = at + 4;

@@ -8,6 +8,7 @@ use native.Mathlib.Nat.{add-zero}
 use lib.ListN.{length, getD}
 use lib.Dec.{leb}
 use borrow.Author.Tests.{leb-true, leb-false}
+use Rattle.octets.specs.Limits.{longest, mostRows}
 use Rattle.octets.specs.Reading.{Read, ok, no, choose}
 use Rattle.octets.specs.Writing.{Each, Octet}
 use Rattle.layouts.specs.Book.{Book, bookImage, bookIn, IsBook}
@@ -31,40 +32,40 @@ use Rattle.runs.specs.Answers.{boundTurn}
 abbrev pub leftBy : List ℕ → Seen → Spot → Lent
 leftBy octets p y = lentAt (p .next) (y .rows) (holding (y .book) octets) (length (bookImage (y .book)))
 
-module _ (s : List ℕ) (short : length s ≤ 1048576) (octets : List ℕ) (used : ℕ) (is : IsBook octets used) where
+module _ (s : List ℕ) (short : length s ≤ longest) (octets : List ℕ) (used : ℕ) (is : IsBook octets used) where
   abbrev held : Book
   held = bookIn octets used
 
   module _ (at rows : ℕ) where
     -- A step that is told rows within the limit, and one that is not.
-    same-turn : rows ≤ 1048576 → (r : Read Stepped) → elementAt s at rows held ≡ r → turnOver s (lentAt at rows octets used) ≡ turnOf (lentOf octets) at r
+    same-turn : rows ≤ mostRows → (r : Read Stepped) → elementAt s at rows held ≡ r → turnOver s (lentAt at rows octets used) ≡ turnOf (lentOf octets) at r
     same-turn few r e = rw (step-is s rows octets used at short is few, e) refl
 
-    item-turn : rows ≤ 1048576 → (p : Seen) (y : Spot) (t : Took spotOf at (elementAt s at rows held) p y) → turnOver s (lentAt at rows octets used) ≡ goes p (lentOf octets (t .stepped) (p .next))
+    item-turn : rows ≤ mostRows → (p : Seen) (y : Spot) (t : Took spotOf at (elementAt s at rows held) p y) → turnOver s (lentAt at rows octets used) ≡ goes p (lentOf octets (t .stepped) (p .next))
     item-turn few p y t =
         same-turn few (ok (t .stepped) (p .next)) (t .reads)
         ∙ (turn-item (lentOf octets) at (ok (t .stepped) (p .next)) (t .stepped) (p .next) (p .which) refl (t .is) ∙ ap (λ (q : Seen). goes q (lentOf octets (t .stepped) (p .next))) (sym (t .seen)))
 
-    many : 1048576 < rows → turnOver s (lentAt at rows octets used) ≡ stops (refused 17 0)
+    many : mostRows < rows → turnOver s (lentAt at rows octets used) ≡ stops (refused 17 0)
     many h = rw (step-refused s rows octets used at 17 0 (lent-many s rows octets used short is h)) refl
 
     pub record Goes (p : Seen) (y : Spot) : Type 0 where
-      pub few : rows ≤ 1048576
+      pub few : rows ≤ mostRows
       pub at-book : turnAt s (spotAt at rows held) ≡ goes p y
       pub over : turnOver s (lentAt at rows octets used) ≡ goes p (leftBy octets p y)
 
     pub over-goes : (p : Seen) (y : Spot) → boundTurn rows (turnAt s (spotAt at rows held)) ≡ goes p y → Goes p y
-    over-goes p y e = go (leb rows 1048576) refl e
+    over-goes p y e = go (leb rows mostRows) refl e
       where
-        go : (b : Bool) → leb rows 1048576 ≡ b → choose b (λ _. turnAt s (spotAt at rows held)) (λ _. stops (refused 17 0)) ≡ goes p y → Goes p y
+        go : (b : Bool) → leb rows mostRows ≡ b → choose b (λ _. turnAt s (spotAt at rows held)) (λ _. stops (refused 17 0)) ≡ goes p y → Goes p y
         go false h e = absurd (let z : _≡_ {A = ℕ} 0 1 = cc in omega arith)
         go true h e =
-            let few = leb-true rows 1048576 h in
+            let few = leb-true rows mostRows h in
             let t = took-at s (spotAt at rows held) p y e in
             record { few = few; at-book = e; over = item-turn few p y t ∙ ap (λ (z : Spot). goes p (leftBy octets p z)) (sym (t .spot)) }
 
     pub over-stops : (e : Stop) → boundTurn rows (turnAt s (spotAt at rows held)) ≡ stops e → turnOver s (lentAt at rows octets used) ≡ stops e
-    over-stops e h = go (leb rows 1048576) refl h
+    over-stops e h = go (leb rows mostRows) refl h
       where
         stopped : (r : Read Stepped) → turnOf spotOf at r ≡ stops e → turnOf (lentOf octets) at r ≡ stops e
         stopped (no n p) h = let same : refused n p ≡ e = cc in ap (λ (x : Stop). stops x) same
@@ -77,13 +78,13 @@ module _ (s : List ℕ) (short : length s ≤ 1048576) (octets : List ℕ) (used
                 ends : (n t : ℕ) {x : Stop} → x ≡ e → _≡_ {A = Turn Lent} (stops x) (stops e)
                 ends n t q = ap (λ (x : Stop). stops x) q
 
-        go : (b : Bool) → leb rows 1048576 ≡ b → choose b (λ _. turnAt s (spotAt at rows held)) (λ _. stops (refused 17 0)) ≡ stops e → turnOver s (lentAt at rows octets used) ≡ stops e
-        go false h e = many (leb-false rows 1048576 h) ∙ (let same : refused 17 0 ≡ _ = cc in ap (λ (x : Stop). stops x) same)
-        go true h e = same-turn (leb-true rows 1048576 h) (elementAt s at rows held) refl ∙ stopped (elementAt s at rows held) e
+        go : (b : Bool) → leb rows mostRows ≡ b → choose b (λ _. turnAt s (spotAt at rows held)) (λ _. stops (refused 17 0)) ≡ stops e → turnOver s (lentAt at rows octets used) ≡ stops e
+        go false h e = many (leb-false rows mostRows h) ∙ (let same : refused 17 0 ≡ _ = cc in ap (λ (x : Stop). stops x) same)
+        go true h e = same-turn (leb-true rows mostRows h) (elementAt s at rows held) refl ∙ stopped (elementAt s at rows held) e
 
   module _ (o : Each Octet octets) where
     -- A row leaves the lent octets as they are.
-    row-turn : (at rows : ℕ) (p : Seen) (y : Spot) → rows ≤ 1048576 → asRow (item (p .which)) ≡ 1 → turnAt s (spotAt at rows held) ≡ goes p y
+    row-turn : (at rows : ℕ) (p : Seen) (y : Spot) → rows ≤ mostRows → asRow (item (p .which)) ≡ 1 → turnAt s (spotAt at rows held) ≡ goes p y
         → (y ≡ spotAt (p .next) (rows + 1) held) × (turnOver s (lentAt at rows octets used) ≡ goes p (lentAt (p .next) (rows + 1) octets used))
     row-turn at rows p y few one e = (spot, item-turn at rows few p y t ∙ ap (λ (z : Lent). goes p z) left)
       where
@@ -97,14 +98,14 @@ module _ (s : List ℕ) (short : length s ≤ 1048576) (octets : List ℕ) (used
         left = ap (leftBy octets p) (sym (t .spot) ∙ spot) ∙ rw (holding-same octets used o is, lent-book octets used o is .size) refl
 
     -- So does a stretch of rows.
-    pub over-rows : (seen : List Seen) (at rows next : ℕ) → (0 < length seen → rows + length seen ≤ 1048577) → rowsOf (placedAll seen) ≡ length seen
+    pub over-rows : (seen : List Seen) (at rows next : ℕ) → (0 < length seen → rows + length seen ≤ mostRows + 1) → rowsOf (placedAll seen) ≡ length seen
         → Path (turnAt s) (spotAt at rows held) seen (spotAt next (rows + length seen) held)
         → Path (turnOver s) (lentAt at rows octets used) seen (lentAt next (rows + length seen) octets used)
     over-rows [] at rows next few all h = rw (ap (λ (z : Spot). z .at) h, add-zero rows) refl
     over-rows (p ∷ ps) at rows next few all h =
         let one = few-rows (item (p .which)) in
         let rest = rows-few ps in
-        let bound : rows + length (p ∷ ps) ≤ 1048577 = few (omega arith) in
+        let bound : rows + length (p ∷ ps) ≤ mostRows + 1 = few (omega arith) in
         let (spot, over) = row-turn at rows p (h .0) (omega arith) (omega arith) (h .1) in
         let sum : rows + 1 + length ps ≡ rows + length (p ∷ ps) = omega arith in
         let path : Path (turnAt s) (spotAt (p .next) (rows + 1) held) ps (spotAt next (rows + 1 + length ps) held) =

@@ -4,6 +4,7 @@ use mathlib.Core.Path.{_≡_}
 use mathlib.Core.List.{List}
 use lib.ListN.{length}
 use lib.Dec.{leb}
+use Rattle.octets.specs.Limits.{mostRows}
 use Rattle.octets.specs.Reading.{Read, ok, no, choose}
 use Rattle.elements.specs.declared.Met.{Met}
 use Rattle.elements.specs.declared.Met.the-variants as met
@@ -22,7 +23,7 @@ metWord (met.End count time) next = 0
 
 -- A turn of a step that is told so many rows: over the limit it is refused by 17.
 abbrev pub boundTurn : ℕ → Turn Spot → Turn Spot
-boundTurn rows t = choose (leb rows 1048576) (λ _. t) (λ _. stops (refused 17 0))
+boundTurn rows t = choose (leb rows mostRows) (λ _. t) (λ _. stops (refused 17 0))
 
 -- How many items were passed, and where the run stands then.
 abbrev pub wentOf : Walk Lent → Went

@@ -1,6 +1,7 @@
 -- A run of steps: a walk over lent octets of at most 4,096 items, each told in one number.
 use Prim.Native.Nat.{ℕ, _+_, _-_, _*_, _^_, min}
 use mathlib.Core.List.{List, [], _∷_}
+use Rattle.octets.specs.Limits.{mostRows}
 use Rattle.octets.specs.Reading.{Read, ok, _then_}
 use Rattle.elements.specs.Element.{Item, layout, row}
 use Rattle.elements.specs.Steps.{stepAt}
@@ -26,4 +27,4 @@ runAsked s x =
 
 -- The index up to which rows may follow one another behind n items and so many rows: no step is told more than 1,048,576 rows.
 abbrev pub reachOf : ℕ → ℕ → ℕ
-reachOf n rows = min 4096 (n + (1048577 - rows))
+reachOf n rows = min 4096 (n + (mostRows + 1 - rows))

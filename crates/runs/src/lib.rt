@@ -8,6 +8,7 @@ ghost use Rattle.elements.specs.Walk.{spotAt, turnAt, lentAt};
 ghost use Rattle.walks.specs.Answers.{movedOf, Bears, Borne};
 ghost use Rattle.runs.specs.Runs.{layoutWord, runAsked, reachOf};
 ghost use Rattle.runs.specs.Answers.{metWord, boundTurn, Ran, runTells, bookLeft, wordsLeft};
+ghost use Rattle.octets.specs.Limits.{longest, mostRows};
 use elements::Met;
 use walks::Moved;
 
@@ -55,10 +56,10 @@ fn next_turn<'d, 's, 'n, 'l>(
     places: &'l [u32; 64],
     known: usize,
 ) -> Moved
-    requires { ⌜ (length (now doc) ≤ 1048576) × (length (now shelf) ≤ 1048576) × Borne (now shelf) used (now numbers) (now places) known ⌝ }
+    requires { ⌜ (length (now doc) ≤ longest) × (length (now shelf) ≤ longest) × Borne (now shelf) used (now numbers) (now places) known ⌝ }
     ensures { λ r. ⌜ ((book : Book) → Bears (now (shelf .entry)) used (now (numbers .entry)) (now (places .entry)) known book → r ≡ movedOf (boundTurn rows (turnAt (now (doc .entry)) (spotAt at rows book)))) ⌝ }
 {
-    if 1048576 < rows {
+    if octets::MOST_ROWS < rows {
         return Moved::Refused(17, 0);
     }
     walks::turn(doc, at, rows, shelf, used, numbers, places, known)
@@ -69,10 +70,10 @@ fn reach(n: usize, rows: usize) -> usize
     requires { ⌜ n ≤ 4096 ⌝ }
     ensures { λ r. ⌜ r ≡ reachOf n rows ⌝ }
 {
-    if 1048576 < rows {
+    if octets::MOST_ROWS < rows {
         return n;
     }
-    let left = 1048577 - rows;
+    let left = octets::MOST_ROWS - rows + 1;
     if left < 4096 - n {
         return n + left;
     }
@@ -88,7 +89,7 @@ fn items<'d, 'b, 'w>(
     used: usize,
     words: &'w mut [u64; 4096],
 ) -> Running
-    requires { ⌜ (at ≤ length (now doc)) × (length (now doc) ≤ 1048576) × (rows ≤ 1048576) × IsBook (now book) used ⌝ }
+    requires { ⌜ (at ≤ length (now doc)) × (length (now doc) ≤ longest) × (rows ≤ mostRows) × IsBook (now book) used ⌝ }
     ensures { λ r. ⌜ Ran (now (book .entry)) (now (words .entry)) (runAsked (now (doc .entry)) (lentAt at rows (now (book .entry)) used)) (now (book .exit)) (now (words .exit)) r ⌝ }
 {
     let mut numbers = [0u64; 64];
@@ -188,14 +189,14 @@ pub fn run<'d, 'b, 'w>(
 ) -> Running
     ensures { λ r. ⌜ (r ≡ runTells (runAsked (now (doc .entry)) (lentAt at rows (now (book .entry)) used))) × (now (book .exit) ≡ bookLeft (now (book .entry)) (runAsked (now (doc .entry)) (lentAt at rows (now (book .entry)) used))) × (now (words .exit) ≡ wordsLeft (now (words .entry)) (runAsked (now (doc .entry)) (lentAt at rows (now (book .entry)) used))) ⌝ }
 {
-    if 1048576 < doc.len() {
+    if octets::LONGEST < doc.len() {
         return Running::Refused(2, 0);
     }
     let lent = book.len();
     if !layouts::is_book(&book[..lent], used) {
         return Running::Refused(17, 0);
     }
-    if 1048576 < rows {
+    if octets::MOST_ROWS < rows {
         return Running::Refused(17, 0);
     }
     if doc.len() < at {

@@ -8,6 +8,7 @@ use native.Mathlib.Nat.{mul-one}
 use lib.ListN.{length, drop}
 use lib.Dec.{leb}
 use borrow.Author.Tests.{leb-true, leb-false}
+use Rattle.octets.specs.Limits.{longest}
 use Rattle.octets.specs.Reading.{Read, ok, no, _then_, choose, ends, isOk, be, part, number, text, exactly, run}
 use Rattle.octets.specs.Writing.{textImage, images, Each, Octet}
 use Rattle.octets.specs.Answers.{says}
@@ -39,7 +40,7 @@ count-at s at k e =
     (h, ok-value (number-ok s at 4 h) e)
 
 -- Item n of a list, where the strings before it end.
-module _ {A : Type 0} (s : List ℕ) (short : length s ≤ 1048576) (one : ℕ → Read A) (each : ℕ)
+module _ {A : Type 0} (s : List ℕ) (short : length s ≤ longest) (one : ℕ → Read A) (each : ℕ)
     (alike : (k m : ℕ) → ends (run one k m) ≡ ends (run (text s) (k * each) m)) (items : List A) (at end : ℕ)
     (counts : number 4 s at ≡ ok (length items) (at + 4)) (reads : run one (length items) (at + 4) ≡ ok items end)
     (n next : ℕ) (read : Read A) (is : read ≡ nth n at items next) where
@@ -101,7 +102,7 @@ module _ (s : List ℕ) (o : Each Octet s) (h : Header) (p : Places) (l : Locate
 module _ (s : List ℕ) (o : Each Octet s) (p : Places) (h : Head s p) where
   good : GoodHeader (h .header)
   unfolding headerAt
-  good = header-inverse s .forth o (omega arith) (chosen (leb (length s) 1048576) (λ _. headerFrom s 0) 2 0 (h .is) .1) .1
+  good = header-inverse s .forth o (omega arith) (chosen (leb (length s) longest) (λ _. headerFrom s 0) 2 0 (h .is) .1) .1
 
   pub few-namespaces : length (h .header .others) ≤ 16
   few-namespaces = good .few-others

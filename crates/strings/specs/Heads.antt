@@ -4,6 +4,7 @@ use mathlib.Core.Path.{_≡_}
 use mathlib.Core.List.{List}
 use lib.ListN.{length}
 use lib.Dec.{leb}
+use Rattle.octets.specs.Limits.{longest}
 use Rattle.octets.specs.Reading.{Read, ok, no, choose, ends, be, text, run}
 use Rattle.headers.specs.Header.{Header, headerAt}
 use Rattle.headers.specs.Answers.{Located}
@@ -16,7 +17,7 @@ pub record Head (s : List ℕ) (p : Places) : Type 0 where
   pub header : Header
   pub is : headerAt s ≡ ok header (p .end)
   pub located : Located s header p
-  pub short : length s ≤ 1048576
+  pub short : length s ≤ longest
 
 abbrev pub Heads : List ℕ → Placing → Type 0
 Heads s (placing.At p) = Head s p

@@ -3,6 +3,7 @@
 ghost use mathlib.Core.Path.{_≡_};
 ghost use Prim.Native.Nat.{_+_, _≤_};
 ghost use lib.ListN.{length};
+ghost use Rattle.octets.specs.Limits.{longest};
 ghost use Rattle.octets.specs.Reading.{be, text};
 ghost use Rattle.octets.specs.Answers.{says};
 ghost use Rattle.headers.specs.Header.{namespaceAt, headerAt};
@@ -17,7 +18,7 @@ use questions::Refusal;
 
 // The place of item n of a list of so many strings for each item, whose count stands at a place; 18 at the count where there is none.
 fn listed_at(doc: &[u8], at: usize, n: usize, each: u32) -> Ended
-    requires { ⌜ (at + 4 ≤ length (now doc)) × (length (now doc) ≤ 1048576) × (be 4 (now doc) at ≤ 16) × (each ≤ 2) ⌝ }
+    requires { ⌜ (at + 4 ≤ length (now doc)) × (length (now doc) ≤ longest) × (be 4 (now doc) at ≤ 16) × (each ≤ 2) ⌝ }
     ensures { λ r. ⌜ says r ≡ listedAt each (now (doc .entry)) at n ⌝ }
 {
     let count = octets::u32_at(doc, at);
@@ -31,7 +32,7 @@ fn listed_at(doc: &[u8], at: usize, n: usize, each: u32) -> Ended
 fn header_at(doc: &[u8]) -> Placing
     ensures { λ r. ⌜ Heads (now (doc .entry)) r ⌝ }
 {
-    if 1048576 < doc.len() {
+    if octets::LONGEST < doc.len() {
         return Placing::Refused(2, 0);
     }
     headers::header_places(doc)

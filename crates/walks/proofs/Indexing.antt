@@ -5,6 +5,7 @@ use mathlib.Core.List.{List, [], _∷_, _++_, append-assoc, append-nil}
 use mathlib.Core.Bool.{true}
 use native.Mathlib.Omega.{arith}
 use lib.ListN.{length, length-append}
+use Rattle.octets.specs.Limits.{bookRoom, mostLayouts}
 use Rattle.octets.specs.Reading.{ok, ends, isOk}
 use Rattle.octets.specs.Writing.{Each}
 use Rattle.octets.proofs.Spans.{Spans, middle, all-spans}
@@ -31,7 +32,7 @@ pub record Met (s numbers places steps : List ℕ) (pos : ℕ) (t : Tally) (book
 -- The layout at a place, and what is met behind it.
 pub record Here (s numbers places steps : List ℕ) (pos : ℕ) (t : Tally) (book : Book) : Type 0 where
   pub accepted : isOk (layoutAt s pos) ≡ true
-  pub room : t .known < 64
+  pub room : t .known < mostLayouts
   pub bounds : (length steps ≡ 1216) × (64 ≤ t .filled) × (t .filled ≤ 704 + t .known * 8)
   pub on : (numbers₁ places₁ steps₁ : List ℕ) (t₁ : Tally) (next : ℕ)
       → ((l : Layout) (end : ℕ) → layoutAt s pos ≡ ok l end → Keeps l pos numbers places steps t numbers₁ places₁ steps₁ t₁)
@@ -63,7 +64,7 @@ module _ (s numbers places steps : List ℕ) (pos : ℕ) (t : Tally) (book : Boo
           let (known, start, end) = tally-bounds t met (k .tally) in
           let few : length met < 64 = omega (arith, whole .few, ap length q, length-append met (l ∷ rest)) in
           let size = ap (λ (b : Book). length (bookImage b)) q in
-          let small : length (bookImage met) + length (layoutImage l) ≤ 32768 =
+          let small : length (bookImage met) + length (layoutImage l) ≤ bookRoom =
           omega (
             arith,
             whole .small,

@@ -8,6 +8,7 @@ use native.Mathlib.Omega.{arith}
 use native.Mathlib.Numerals.{add-one}
 use lib.ListN.{length, getD, set, take, length-set, length-append}
 use lib.Seq.{getD-set-same, getD-set-other, getD-take, take-suc-set}
+use Rattle.octets.specs.Limits.{mostLayouts}
 use Rattle.octets.specs.Reading.{Read, ok, no}
 use Rattle.octets.specs.Writing.{Each, Octet}
 use Rattle.layouts.specs.Layout.{Layout, layoutAt}
@@ -41,7 +42,7 @@ all-append : (b c : Book) → all (b ++ c) ≡ all b ++ all c
 all-append [] c = refl
 all-append (l ∷ b) c = ap (λ (xs : List (Option Layout)). some l ∷ xs) (all-append b c)
 
-module _ (shelf numbers places steps : List ℕ) (t : Tally) (book : Book) (k : Kept shelf numbers places steps t book) (room : t .known < 64) (l : Layout)
+module _ (shelf numbers places steps : List ℕ) (t : Tally) (book : Book) (k : Kept shelf numbers places steps t book) (room : t .known < mostLayouts) (l : Layout)
     (good : GoodBook (book ++ l ∷ [])) (place next : ℕ) (reads : layoutAt shelf place ≡ ok l next) where
   numbered-more : Numbered (set numbers (t .known) (markOf t l)) (t .known + 1) (book ++ l ∷ [])
   numbered-more =
@@ -100,7 +101,7 @@ kept-extends shelf more numbers places steps t book o k =
     }
 
 -- The plans of a book behind a plan that was put, or for which there was no room: what was put leaves the steps before it.
-module _ (steps put : List ℕ) (t : Tally) (l : Layout) (room : t .known < 64) (start : 64 ≤ t .filled) (long : length steps ≡ 1216) (inside : t .filled ≤ 1216)
+module _ (steps put : List ℕ) (t : Tally) (l : Layout) (room : t .known < mostLayouts) (start : 64 ≤ t .filled) (long : length steps ≡ 1216) (inside : t .filled ≤ 1216)
     (kept : take (t .filled) put ≡ take (t .filled) steps) (put-long : length put ≡ 1216) where
   same-step : (i : ℕ) → i < t .known → getD put i 0 ≡ getD steps i 0
   same-step i h =

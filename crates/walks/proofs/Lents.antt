@@ -5,6 +5,7 @@ use mathlib.Core.List.{List, [], _∷_, _++_, append-nil}
 use native.Mathlib.Omega.{arith}
 use lib.ListN.{length, take, drop}
 use lib.Seq.{length-take-le, take-append-seam}
+use Rattle.octets.specs.Limits.{longest, mostLayouts}
 use Rattle.octets.specs.Reading.{ok}
 use Rattle.octets.specs.Writing.{Each, Octet}
 use Rattle.octets.proofs.Spans.{each-take}
@@ -47,7 +48,7 @@ module _ (octets : List ℕ) (used : ℕ) (book : Book) (o : Each Octet octets) 
         subst (λ (k : ℕ). layoutAt (shelf ++ layoutImage l) k ≡ ok l (k + length (layoutImage l))) shelf-long
         (subst (λ (xs : List ℕ). layoutAt (shelf ++ xs) (length shelf) ≡ ok l (length shelf + length (layoutImage l))) (append-nil (layoutImage l)) (layout-back l shelf [] good))
 
-    pub kept-grown : {numbers places steps : List ℕ} {t : Tally} → Kept shelf numbers places steps t book → t .known < 64 → GoodLayout l → GoodBook (book ++ l ∷ [])
+    pub kept-grown : {numbers places steps : List ℕ} {t : Tally} → Kept shelf numbers places steps t book → t .known < mostLayouts → GoodLayout l → GoodBook (book ++ l ∷ [])
         → {numbers₁ places₁ steps₁ : List ℕ} {t₁ : Tally} → Keeps l used numbers places steps t numbers₁ places₁ steps₁ t₁
         → Kept (take (length (bookImage (book ++ l ∷ []))) (holding (book ++ l ∷ []) octets)) numbers₁ places₁ steps₁ t₁ (book ++ l ∷ [])
     kept-grown {numbers} {places} {steps} {t} k room good-l good {numbers₁} {places₁} {steps₁} {t₁} h =
@@ -72,7 +73,7 @@ module _ (octets : List ℕ) (used : ℕ) (numbers places steps : List ℕ) (t :
   carried-bears = record { numbered = c .kept .planned .numbered; shelved = c .kept .shelved; size = carried-lent .size }
 
   -- Behind an item: what was carried, or the octets with the new layout put behind the used ones.
-  module _ (s : List ℕ) (o : Each Octet s) (short : length s ≤ 1048576) (at rows : ℕ) (p : Seen) (y : Spot) (e : turnAt s (spotAt at rows held) ≡ goes p y) where
+  module _ (s : List ℕ) (o : Each Octet s) (short : length s ≤ longest) (at rows : ℕ) (p : Seen) (y : Spot) (e : turnAt s (spotAt at rows held) ≡ goes p y) where
     pub carried-old : length (bookImage (y .book)) ≤ used → (y .book ≡ held) × (holding (y .book) octets ≡ octets) × (length (bookImage (y .book)) ≡ used)
     carried-old old =
         let lent = carried-lent in

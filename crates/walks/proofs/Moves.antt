@@ -5,6 +5,7 @@ use mathlib.Core.List.{List, [], _∷_, _++_}
 use mathlib.Core.Logic.{inl, inr}
 use native.Mathlib.Omega.{arith}
 use lib.ListN.{length}
+use Rattle.octets.specs.Limits.{longest}
 use Rattle.octets.specs.Reading.{ok, be}
 use Rattle.octets.specs.Writing.{Each, Octet}
 use Rattle.layouts.specs.Layout.{Layout, layoutAt, GoodLayout}
@@ -65,7 +66,7 @@ pub record Newly (s : List ℕ) (at next : ℕ) (b c : Book) : Type 0 where
   pub good : GoodBook c
   pub few : length b < 64
 
-module _ (s : List ℕ) (o : Each Octet s) (short : length s ≤ 1048576) (at rows : ℕ) (b : Book) (p : Seen) (y : Spot) (e : turnAt s (spotAt at rows b) ≡ goes p y) where
+module _ (s : List ℕ) (o : Each Octet s) (short : length s ≤ longest) (at rows : ℕ) (b : Book) (p : Seen) (y : Spot) (e : turnAt s (spotAt at rows b) ≡ goes p y) where
   took : Took spotOf at (elementAt s at rows b) p y
   took = took-at s (spotAt at rows b) p y e
 

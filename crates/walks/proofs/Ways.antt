@@ -5,6 +5,7 @@ use mathlib.Core.List.{List, [], _∷_, _++_}
 use native.Mathlib.Omega.{arith}
 use lib.IntN.{ℤ}
 use lib.ListN.{length}
+use Rattle.octets.specs.Limits.{longest}
 use Rattle.octets.specs.Reading.{ok}
 use Rattle.octets.specs.Writing.{Each, Octet}
 use Rattle.kinds.specs.Kinds.{signed}
@@ -54,7 +55,7 @@ pub way-start : (s shelf numbers places steps : List ℕ) (t : Tally) (at rows :
     → OnWay s (spotAt at rows book) [] shelf numbers places steps t at rows (length (bookImage book))
 way-start s shelf numbers places steps t at rows book h k = record { book = book; kept = k; size = refl; path = refl; inside = h }
 
-module _ (s : List ℕ) (o : Each Octet s) (short : length s ≤ 1048576) (x : Spot) (passed : List Seen) (shelf numbers places steps : List ℕ) (t : Tally) (at rows used : ℕ)
+module _ (s : List ℕ) (o : Each Octet s) (short : length s ≤ longest) (x : Spot) (passed : List Seen) (shelf numbers places steps : List ℕ) (t : Tally) (at rows used : ℕ)
     (w : OnWay s x passed shelf numbers places steps t at rows used) where
   abbrev here : Spot
   here = spotAt at rows (w .book)

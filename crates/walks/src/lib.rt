@@ -6,6 +6,7 @@ ghost use mathlib.Core.List.{List, []};
 ghost use mathlib.Core.Bool.{true};
 ghost use Prim.Native.Nat.{ℕ, _+_, _*_, _≤_, _<_};
 ghost use lib.ListN.{length, getD, set};
+ghost use Rattle.octets.specs.Limits.{longest, mostRows, mostLayouts};
 ghost use Rattle.octets.specs.Reading.{ok, isOk};
 ghost use Rattle.layouts.specs.Layout.{Layout, layoutAt};
 ghost use Rattle.layouts.specs.Book.{Book, position};
@@ -80,7 +81,7 @@ pub fn nothing() -> Tally
 
 // The position of a number in the book whose layouts are known by their numbers, with a plan or without.
 fn position_of(numbers: &[u64; 64], known: usize, number: u32) -> usize
-    requires { ⌜ known ≤ 64 ⌝ }
+    requires { ⌜ known ≤ mostLayouts ⌝ }
     ensures { λ r. ⌜ ((book : Book) → Numbered (now (numbers .entry)) known book → r ≡ position number book) ⌝ }
 {
     let mut i = 0;
@@ -95,7 +96,7 @@ fn position_of(numbers: &[u64; 64], known: usize, number: u32) -> usize
 
 // The index of a number that has a plan: the index that was last, or the one behind it, or the number's position; all known where it has none.
 fn index_of(numbers: &[u64; 64], known: usize, last: usize, number: u32) -> usize
-    requires { ⌜ known ≤ 64 ⌝ }
+    requires { ⌜ known ≤ mostLayouts ⌝ }
     ensures { λ r. ⌜ (r < known → getD (now (numbers .entry)) r 0 ≡ number) × (known ≤ r → (book : Book) → Numbered (now (numbers .entry)) known book → Lacks (now (numbers .entry)) known number) ⌝ }
 {
     let title = number as u64;
@@ -127,7 +128,7 @@ fn quick_row<'d, 'n, 'p>(
     known: usize,
     last: usize,
 ) -> Quick
-    requires { ⌜ (at ≤ length (now doc)) × (length (now doc) ≤ 1048576) × Plans (now numbers) (now steps) known ⌝ }
+    requires { ⌜ (at ≤ length (now doc)) × (length (now doc) ≤ longest) × Plans (now numbers) (now steps) known ⌝ }
     ensures { λ r. ⌜ ((book : Book) → Planned (now (numbers .entry)) (now (steps .entry)) known book → Tried (now (doc .entry)) at book (now (numbers .entry)) known r) ⌝ }
 {
     if doc.len() < at + 12 {
@@ -179,7 +180,7 @@ pub fn rows_on<'d, 'n, 'p, 'k, 'w>(
     from: usize,
     to: usize,
 ) -> Stretch
-    requires { ⌜ (at ≤ length (now doc)) × (length (now doc) ≤ 1048576) × (from ≤ to) × Plans (now numbers) (now steps) known ⌝ }
+    requires { ⌜ (at ≤ length (now doc)) × (length (now doc) ≤ longest) × (from ≤ to) × Plans (now numbers) (now steps) known ⌝ }
     ensures { λ r. ⌜ (r .next ≤ length (now (doc .entry))) × (r .count ≤ to) × ((rows : ℕ) (book : Book) → Planned (now (numbers .entry)) (now (steps .entry)) known book → Passage (now (doc .entry)) (spotAt at rows book) (now (numbers .entry)) (now (labels .entry)) from (now (words .entry)) (now (words .exit)) r × (r .count < to → Refuses (now (doc .entry)) (r .next) book (now (numbers .entry)) known)) ⌝ }
 {
     let mut pos = at;
@@ -220,7 +221,7 @@ pub fn keep<'d, 'n, 'l, 'p>(
     steps: &'p mut [u16; 1216],
     tally: Tally,
 ) -> Tally
-    requires { ⌜ (length (now doc) ≤ 1048576) × (isOk (layoutAt (now doc) at) ≡ true) × (length (now steps) ≡ 1216) × (tally .known < 64) × (64 ≤ tally .filled) × (tally .filled ≤ 704 + tally .known * 8) × (place < 4294967296) ⌝ }
+    requires { ⌜ (length (now doc) ≤ longest) × (isOk (layoutAt (now doc) at) ≡ true) × (length (now steps) ≡ 1216) × (tally .known < mostLayouts) × (64 ≤ tally .filled) × (tally .filled ≤ 704 + tally .known * 8) × (place < 4294967296) ⌝ }
     ensures { λ r. ⌜ ((l : Layout) (end : ℕ) → layoutAt (now (doc .entry)) at ≡ ok l end → Keeps l place (now (numbers .entry)) (now (places .entry)) (now (steps .entry)) tally (now (numbers .exit)) (now (places .exit)) (now (steps .exit)) r) ⌝ }
 {
     let known = tally.known;
@@ -256,7 +257,7 @@ pub fn index<'s, 'n, 'l, 'p>(
     places: &'l mut [u32; 64],
     steps: &'p mut [u16; 1216],
 ) -> Tally
-    requires { ⌜ (length (now s) ≤ 1048576) × (length (now numbers) ≡ 64) × (length (now places) ≡ 64) × (length (now steps) ≡ 1216) × Images (now s) ⌝ }
+    requires { ⌜ (length (now s) ≤ longest) × (length (now numbers) ≡ 64) × (length (now places) ≡ 64) × (length (now steps) ≡ 1216) × Images (now s) ⌝ }
     ensures { λ r. ⌜ ((book : Book) → Image (now (s .entry)) book → Kept (now (s .entry)) (now (numbers .exit)) (now (places .exit)) (now (steps .exit)) r book) ⌝ }
 {
     let mut pos = 0;
@@ -270,7 +271,7 @@ pub fn index<'s, 'n, 'l, 'p>(
 
 // Where a layout stands by its position.
 fn looked_at(places: &[u32; 64], known: usize, i: usize) -> Looked
-    requires { ⌜ known ≤ 64 ⌝ }
+    requires { ⌜ known ≤ mostLayouts ⌝ }
     ensures { λ r. ⌜ ((shelf numbers : List ℕ) (number : ℕ) (book : Book) → Numbered numbers known book → Shelved shelf (now (places .entry)) known book → i ≡ position number book → Looks shelf number book r) ⌝ }
 {
     if known <= i {
@@ -314,7 +315,7 @@ pub fn turn<'d, 's, 'n, 'l>(
     places: &'l [u32; 64],
     known: usize,
 ) -> Moved
-    requires { ⌜ (length (now doc) ≤ 1048576) × (rows ≤ 1048576) × (length (now shelf) ≤ 1048576) × Borne (now shelf) used (now numbers) (now places) known ⌝ }
+    requires { ⌜ (length (now doc) ≤ longest) × (rows ≤ mostRows) × (length (now shelf) ≤ longest) × Borne (now shelf) used (now numbers) (now places) known ⌝ }
     ensures { λ r. ⌜ ((book : Book) → Bears (now (shelf .entry)) used (now (numbers .entry)) (now (places .entry)) known book → r ≡ movedOf (turnAt (now (doc .entry)) (spotAt at rows book))) ⌝ }
 {
     let position = position_of(numbers, known, elements::number_behind(doc, at));
@@ -328,7 +329,7 @@ pub fn turn<'d, 's, 'n, 'l>(
 
 // The rows from a place to the end, from an empty book; its layouts are kept by their places in the document. A word has room, and is not looked at.
 pub fn rows_from(doc: &[u8], at: usize) -> Counting
-    requires { ⌜ (at ≤ length (now doc)) × (length (now doc) ≤ 1048576) ⌝ }
+    requires { ⌜ (at ≤ length (now doc)) × (length (now doc) ≤ longest) ⌝ }
     ensures { λ r. ⌜ countSays r ≡ rowsRead (through (now (doc .entry)) (spotAt at 0 [])) ⌝ }
 {
     let mut numbers = [0u64; 64];
@@ -349,7 +350,7 @@ pub fn rows_from(doc: &[u8], at: usize) -> Counting
             &numbers,
             &mut words,
             0,
-            1048576,
+            octets::MOST_ROWS,
         );
         pos = stretch.next;
         rows += stretch.count;

@@ -7,6 +7,7 @@ use native.Mathlib.Omega.{arith}
 use lib.ListN.{getD}
 use lib.Dec.{leb}
 use borrow.Author.Tests.{leb-true, eqb-true, ltb-true, ltb-false, le-leb, lt-leb, lt-ltb, le-ltb}
+use Rattle.octets.specs.Limits.{mostRows}
 use Rattle.octets.specs.Reading.{choose}
 use Rattle.octets.proofs.Copies.{both-true}
 use Rattle.writing.specs.declared.Turn.{Turn}
@@ -47,7 +48,7 @@ pub record Bounds (s : State) (size : ℕ) : Type 0 where
   pub place : s .place ≤ room size
   pub least : rule (s .turn) .least ≤ s .count
   pub most : s .count ≤ rule (s .turn) .most
-  pub rows : s .rows ≤ 1048576
+  pub rows : s .rows ≤ mostRows
   pub head : isOpen (s .turn) ≡ true → s .start + rule (s .turn) .head ≤ s .place
 
 chosen-true : (t u : Bool) → choose t (λ _. u) (λ _. true) ≡ true → t ≡ true → u ≡ true
@@ -86,18 +87,18 @@ module _ (s : State) (size : ℕ) where
       count-over h = rw (le-leb (s .place) (room size) p, le-leb (rule (s .turn) .least) (s .count) l, lt-leb (s .count) (rule (s .turn) .most) h) refl
 
       module _ (m : s .count ≤ rule (s .turn) .most) where
-        pub rows-over : 1048576 < s .rows → bounded s size ≡ false
+        pub rows-over : mostRows < s .rows → bounded s size ≡ false
         unfolding bounded
         rows-over h =
             rw (
               le-leb (s .place) (room size) p,
               le-leb (rule (s .turn) .least) (s .count) l,
               le-leb (s .count) (rule (s .turn) .most) m,
-              lt-leb (s .rows) 1048576 h,
+              lt-leb (s .rows) mostRows h,
             )
             refl
 
-        module _ (r : s .rows ≤ 1048576) where
+        module _ (r : s .rows ≤ mostRows) where
           pub none-open : rule (s .turn) .head ≡ 0 → bounded s size ≡ true
           unfolding bounded
           none-open h =
@@ -105,7 +106,7 @@ module _ (s : State) (size : ℕ) where
                 le-leb (s .place) (room size) p,
                 le-leb (rule (s .turn) .least) (s .count) l,
                 le-leb (s .count) (rule (s .turn) .most) m,
-                le-leb (s .rows) 1048576 r,
+                le-leb (s .rows) mostRows r,
                 le-ltb 0 (rule (s .turn) .head) (omega arith),
               )
               refl
@@ -117,7 +118,7 @@ module _ (s : State) (size : ℕ) where
                 le-leb (s .place) (room size) p,
                 le-leb (rule (s .turn) .least) (s .count) l,
                 le-leb (s .count) (rule (s .turn) .most) m,
-                le-leb (s .rows) 1048576 r,
+                le-leb (s .rows) mostRows r,
                 lt-ltb 0 (rule (s .turn) .head) h,
               )
               refl

@@ -10,6 +10,7 @@ use native.Mathlib.Nat.{le-refl}
 use lib.ListN.{length, drop, length-append, length-drop, length-replicate}
 use lib.Dec.{leb, ltb, eqb}
 use borrow.Author.Tests.{leb-true, leb-false, eqb-true, eqb-false, ltb-true}
+use Rattle.octets.specs.Limits.{mostRows, bookRoom, mostAttributes, mostListed}
 use Rattle.octets.specs.Reading.{Read, ok, _then_, choose, isOk, be}
 use Rattle.octets.specs.Writing.{word, textImage, Each, Octet}
 use Rattle.octets.proofs.Spans.{length-word}
@@ -68,7 +69,7 @@ module _ (s : State) (buffer : List ℕ) (book : Book) (w : Bounds s (length buf
   puts (documentId xs) e = inl (refl, refl)
   puts (openLayout n) e = inl (refl, refl)
   puts (typeName xs) e = inl (refl, refl)
-  puts (attributeCount n) e = attributes-put s wants.AttributeCount (unless (leb n 64) 4) (word 4 n) n
+  puts (attributeCount n) e = attributes-put s wants.AttributeCount (unless (leb n mostAttributes) 4) (word 4 n) n
   puts (attributeName xs) e = inl (refl, refl)
   puts (attributeType t) e = attributes-put s wants.AttributeType (kindOf 0 t 0 then λ _ _. ok tt 0) (word 4 t) (s .count - 1)
   puts (openRow n stated) e = inl (refl, refl)
@@ -89,20 +90,20 @@ next-place s d k h m (inl p) = omega (arith, p)
 next-place s d k h m (inr p) = omega (arith, p)
 
 -- A lent book's octets, and what it takes.
-book-room : (lent : List ℕ) (used : ℕ) {b : Book} {m : ℕ} → bookOf lent used ≡ ok b m → (32768 ≤ length lent) × (used ≤ 32768)
-book-room lent used e = go (leb 32768 (length lent)) (leb used 32768) refl refl
+book-room : (lent : List ℕ) (used : ℕ) {b : Book} {m : ℕ} → bookOf lent used ≡ ok b m → (bookRoom ≤ length lent) × (used ≤ bookRoom)
+book-room lent used e = go (leb bookRoom (length lent)) (leb used bookRoom) refl refl
   where
-    go : (t u : Bool) → leb 32768 (length lent) ≡ t → leb used 32768 ≡ u → (32768 ≤ length lent) × (used ≤ 32768)
+    go : (t u : Bool) → leb bookRoom (length lent) ≡ t → leb used bookRoom ≡ u → (bookRoom ≤ length lent) × (used ≤ bookRoom)
     go true true f g = (leb-true _ _ f, leb-true _ _ g)
     go false u f g = absurd (true-false (ap isOk (sym e) ∙ book-short lent used (leb-false _ _ f)))
     go true false f g = absurd (true-false (ap isOk (sym e) ∙ book-over lent used (leb-true _ _ f) (leb-false _ _ g)))
 
-new-fits : (t : Bool) (book : Book) (used : ℕ) (xs : List ℕ) {new : List ℕ} {q : ℕ} → used ≤ 32768 → addition t book used xs ≡ ok new q → used + length new ≤ 32768
-new-fits false book used xs {new} h e = let none : [] ≡ new = cc in subst (λ (ys : List ℕ). used + length ys ≤ 32768) none (omega arith)
+new-fits : (t : Bool) (book : Book) (used : ℕ) (xs : List ℕ) {new : List ℕ} {q : ℕ} → used ≤ bookRoom → addition t book used xs ≡ ok new q → used + length new ≤ bookRoom
+new-fits false book used xs {new} h e = let none : [] ≡ new = cc in subst (λ (ys : List ℕ). used + length ys ≤ bookRoom) none (omega arith)
 new-fits true book used xs {new} h e =
     after (refusal (learning book used xs)) _ (sym (addition-is book used xs) ∙ e) λ _ _ _ f.
     let is : added (learning book used xs) xs ≡ new = cc in
-    subst (λ (ys : List ℕ). used + length ys ≤ 32768) is (added-fits book used xs h)
+    subst (λ (ys : List ℕ). used + length ys ≤ bookRoom) is (added-fits book used xs h)
 
 room-long : (size : ℕ) → room size ≤ size
 unfolding room
@@ -112,9 +113,9 @@ pub record Kept (buffer lent : List ℕ) (w : Written) : Type 0 where
   pub buffer-length : length (w .buffer) ≡ length buffer
   pub book-length : length (w .book) ≡ length lent
   pub place : w .state .place ≤ room (length buffer)
-  pub used : w .used ≤ 32768
+  pub used : w .used ≤ bookRoom
   pub behind-room : drop (room (length buffer)) (w .buffer) ≡ drop (room (length buffer)) buffer
-  pub behind-book : drop 32768 (w .book) ≡ drop 32768 lent
+  pub behind-book : drop bookRoom (w .book) ≡ drop bookRoom lent
 
 pub kept : (s : State) (buffer lent : List ℕ) (used : ℕ) (c : Call) {w : Written} {at : ℕ} → call s buffer lent used c ≡ ok w at → Kept buffer lent w
 kept s buffer lent used c e =
@@ -130,7 +131,7 @@ kept s buffer lent used c e =
       place = next-place s d _ (a .within .place) inside (puts s buffer (a .book) (a .within) c (a .in-turn));
       used = fits;
       behind-room = over-behind buffer (d .at) (d .octets) _ (omega arith) inside;
-      behind-book = over-behind lent used (a .new) 32768 (omega arith) fits;
+      behind-book = over-behind lent used (a .new) bookRoom (omega arith) fits;
     } in
     subst (Kept buffer lent) (sym (a .left)) k
 
@@ -157,24 +158,24 @@ some-left : (xs : List Attribute) (b : Basic) (v : Value) → isNext xs b v ≡ 
 some-left [] b v e = let z : _≡_ {A = ℕ} 0 1 = cc in absurd (omega arith)
 some-left (a ∷ rest) b v e = omega arith
 
-module _ (s : State) (buffer : List ℕ) (book : Book) (w : Bounds s (length buffer)) (few : (n : ℕ) (l : Layout) → find n book ≡ some l → length (l .attributes) ≤ 64) where
+module _ (s : State) (buffer : List ℕ) (book : Book) (w : Bounds s (length buffer)) (few : (n : ℕ) (l : Layout) → find n book ≡ some l → length (l .attributes) ≤ mostAttributes) where
   -- A state behind octets that were put.
   abbrev behind : List ℕ → Turn → ℕ → State
   behind xs turn count = record { place = s .place + length xs; turn = turn; count = count; start = s .start; rows = s .rows }
 
-  row-few : {l : Layout} {m : ℕ} → rowLayout s buffer book ≡ ok l m → length (l .attributes) ≤ 64
+  row-few : {l : Layout} {m : ℕ} → rowLayout s buffer book ≡ ok l m → length (l .attributes) ≤ mostAttributes
   unfolding rowLayout
   row-few {l} e = few (be 4 buffer (s .start + 4)) l (known-is (find (be 4 buffer (s .start + 4)) book) e)
 
   -- A layout with so many attributes to come.
-  attributes-inside : (turn : Turn) (f : Read (Unit {0})) (xs : List ℕ) (n : ℕ) → n ≤ 64 → s .start + 8 ≤ s .place → Inside (attributes s turn f xs n .next)
+  attributes-inside : (turn : Turn) (f : Read (Unit {0})) (xs : List ℕ) (n : ℕ) → n ≤ mostAttributes → s .start + 8 ≤ s .place → Inside (attributes s turn f xs n .next)
   attributes-inside turn f xs n few₁ head = go (eqb n 0) refl
     where
       go : (t : Bool) → eqb n 0 ≡ t → Inside (choose t (λ _. between (s .place + length xs) (s .rows)) (λ _. behind xs wants.AttributeName n))
       go true e = omega arith
       go false e = some-to-come n few₁ (eqb-false n 0 e)
         where
-          some-to-come : (n : ℕ) → n ≤ 64 → (n ≡ 0 → ⊥) → Inside (behind xs wants.AttributeName n)
+          some-to-come : (n : ℕ) → n ≤ mostAttributes → (n ≡ 0 → ⊥) → Inside (behind xs wants.AttributeName n)
           some-to-come zero a b = absurd (b refl)
           some-to-come (suc n) a b = omega arith
 
@@ -184,14 +185,14 @@ module _ (s : State) (buffer : List ℕ) (book : Book) (w : Bounds s (length buf
   inside (startTime n) e f = omega arith
   inside (defaultNamespace xs) e f = omega arith
   inside (namespaceCount n) e f =
-      let h : n ≤ 16 = leb-true n 16 (chosen (leb n 16) _ 4 0 f .0) in
+      let h : n ≤ mostListed = leb-true n mostListed (chosen (leb n mostListed) _ 4 0 f .0) in
       at-turn (λ u. Inside (behind (word 4 n) u n)) n wants.Uri wants.ServiceCount (λ z. omega arith) (λ z. omega arith)
   inside (uri xs) e f = let h = turn-count s (length buffer) w wants.Uri e in omega arith
   inside (shortName xs) e f =
       let h = turn-count s (length buffer) w wants.ShortName e in
       at-turn (λ u. Inside (behind (textImage xs) u (s .count - 1))) (s .count - 1) wants.Uri wants.ServiceCount (λ z. omega arith) (λ z. omega arith)
   inside (serviceCount n) e f =
-      let h : n ≤ 16 = leb-true n 16 (chosen (leb n 16) _ 4 0 f .0) in
+      let h : n ≤ mostListed = leb-true n mostListed (chosen (leb n mostListed) _ 4 0 f .0) in
       at-turn (λ u. Inside (behind (word 4 n) u n)) n wants.Service wants.DocumentId (λ z. omega arith) (λ z. omega arith)
   inside (service xs) e f =
       let h = turn-count s (length buffer) w wants.Service e in
@@ -202,8 +203,8 @@ module _ (s : State) (buffer : List ℕ) (book : Book) (w : Bounds s (length buf
       omega arith
   inside (typeName xs) e f = let h = open-head s (length buffer) w wants.TypeName e (omega arith) in omega arith
   inside (attributeCount n) e f =
-      let h : n ≤ 64 = leb-true n 64 (chosen (leb n 64) _ 4 0 f .0) in
-      attributes-inside wants.AttributeCount (unless (leb n 64) 4) (word 4 n) n h (open-head s (length buffer) w wants.AttributeCount e (omega arith))
+      let h : n ≤ mostAttributes = leb-true n mostAttributes (chosen (leb n mostAttributes) _ 4 0 f .0) in
+      attributes-inside wants.AttributeCount (unless (leb n mostAttributes) 4) (word 4 n) n h (open-head s (length buffer) w wants.AttributeCount e (omega arith))
   inside (attributeName xs) e f =
       let h = open-head s (length buffer) w wants.AttributeName e (omega arith) in
       let k = turn-count s (length buffer) w wants.AttributeName e in
@@ -231,7 +232,7 @@ module _ (s : State) (buffer : List ℕ) (book : Book) (w : Bounds s (length buf
 
 -- An answered state is inside its bounds, over the buffer that was left.
 pub answered-within : (s : State) (buffer lent : List ℕ) (used : ℕ) (c : Call) → Each Octet lent → {w : Written} {at : ℕ} → call s buffer lent used c ≡ ok w at
-    → w .state .rows ≤ 1048576 → Bounds (w .state) (length (w .buffer))
+    → w .state .rows ≤ mostRows → Bounds (w .state) (length (w .buffer))
 answered-within s buffer lent used c o {w} e rows =
     let a = accepted-is s buffer lent used c e in
     let k = kept s buffer lent used c e in

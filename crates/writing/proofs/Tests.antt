@@ -8,6 +8,7 @@ use native.Mathlib.Omega.{arith}
 use native.Mathlib.Nat.{add-zero}
 use lib.ListN.{length}
 use lib.Dec.{leb, ltb}
+use Rattle.octets.specs.Limits.{bookRoom, mostLayouts}
 use Rattle.octets.specs.Reading.{Read, ok, no, _then_, choose, isOk, be, same}
 use Rattle.octets.specs.Writing.{over}
 use Rattle.layouts.specs.Layout.{Layout, layoutImage}
@@ -142,4 +143,4 @@ addition-is book used xs = go (find (be 4 xs 0) book)
 
     go : (o : Option Layout) → additionFor book used xs o ≡ (refusal (learningFor book used xs o) then λ _ _. ok (added (learningFor book used xs o) xs) 0)
     go (some m) = known (same (layoutImage m) xs)
-    go none = new (ltb (length book) 64 && leb (used + length xs) 32768) (used + length xs)
+    go none = new (ltb (length book) mostLayouts && leb (used + length xs) bookRoom) (used + length xs)

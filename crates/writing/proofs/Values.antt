@@ -9,6 +9,7 @@ use native.Mathlib.Nat.{add-zero, add-suc}
 use lib.ListN.{length, take, drop, drop-of-length-le}
 use lib.Seq.{drop-append-le}
 use lib.Dec.{leb, eqb}
+use Rattle.octets.specs.Limits.{mostRows}
 use Rattle.octets.specs.Reading.{no, _then_}
 use Rattle.octets.specs.Writing.{word, Each, Octet}
 use Rattle.octets.proofs.Spans.{length-word}
@@ -104,7 +105,7 @@ pub record InRow (s : State) (size : ℕ) (lent : List ℕ) (used : ℕ) : Type 
   pub head : s .start + 12 ≤ s .place
   pub place : s .place ≤ room size
   pub most : s .count ≤ 64
-  pub rows : s .rows ≤ 1048576
+  pub rows : s .rows ≤ mostRows
 
 pub in-row : (s : State) (size : ℕ) (lent : List ℕ) (used : ℕ) {mine : Bool} → Each Octet lent → mine ≡ sameTurn (s .turn) wants.Value → Ready s size lent used mine
     → InRow s size lent used

@@ -3,6 +3,7 @@ use Prim.Native.Nat.{ℕ}
 use mathlib.Core.List.{List, [], _∷_, _++_}
 use mathlib.Core.Bool.{Bool, true, false, _&&_}
 use lib.ListN.{length, take, replicate}
+use Rattle.octets.specs.Limits.{bookRoom}
 use Rattle.octets.specs.Reading.{Read, ok, no, same}
 use Rattle.kinds.specs.declared.Basic.the-variants as b
 use Rattle.rows.specs.Row.{bits, held}
@@ -28,7 +29,7 @@ over s buffer book used = record { state = s; buffer = buffer; book = book; used
 
 -- A book with nothing in it; with the specimen's layout; with layout 8, of a boolean and a derived string; with 16 octets left.
 abbrev empty : List ℕ
-empty = replicate 32768 9
+empty = replicate bookRoom 9
 
 abbrev seven : List ℕ
 seven = 0 ∷ 0 ∷ 0 ∷ 7 ∷ 0 ∷ 0 ∷ 0 ∷ 1 ∷ 65 ∷ 0 ∷ 0 ∷ 0 ∷ 2 ∷ 0 ∷ 0 ∷ 0 ∷ 1 ∷ 117 ∷ 0 ∷ 0 ∷ 0 ∷ 34 ∷ 0 ∷ 0 ∷ 0 ∷ 1 ∷ 100 ∷ 0 ∷ 0 ∷ 0 ∷ 42 ∷ replicate 32737 9
@@ -134,7 +135,7 @@ scripts =
     ∷ script (over (state 16 wants.AttributeCount 0 0 0) (0 ∷ 0 ∷ 0 ∷ 1 ∷ 0 ∷ 0 ∷ 0 ∷ 2 ∷ 0 ∷ 0 ∷ 0 ∷ 4 ∷ 49 ∷ 50 ∷ 51 ∷ 52 ∷ 5 ∷ 5 ∷ 5 ∷ 5 ∷ 5 ∷ 5 ∷ 5 ∷ 5 ∷ 5 ∷ []) full 32752)
     (attributeCount 0 ∷ [])
     (0 ∷ 20 ∷ [])
-    (over (state 20 wants.Element 0 0 0) (0 ∷ 0 ∷ 0 ∷ 1 ∷ 0 ∷ 0 ∷ 0 ∷ 2 ∷ 0 ∷ 0 ∷ 0 ∷ 4 ∷ 49 ∷ 50 ∷ 51 ∷ 52 ∷ 0 ∷ 0 ∷ 0 ∷ 0 ∷ 5 ∷ 5 ∷ 5 ∷ 5 ∷ 5 ∷ []) (0 ∷ 0 ∷ 0 ∷ 1 ∷ 0 ∷ 0 ∷ 127 ∷ 228 ∷ replicate 32747 0 ++ (2 ∷ 0 ∷ 0 ∷ 0 ∷ 4 ∷ 49 ∷ 50 ∷ 51 ∷ 52 ∷ 0 ∷ 0 ∷ 0 ∷ 0 ∷ [])) 32768)
+    (over (state 20 wants.Element 0 0 0) (0 ∷ 0 ∷ 0 ∷ 1 ∷ 0 ∷ 0 ∷ 0 ∷ 2 ∷ 0 ∷ 0 ∷ 0 ∷ 4 ∷ 49 ∷ 50 ∷ 51 ∷ 52 ∷ 0 ∷ 0 ∷ 0 ∷ 0 ∷ 5 ∷ 5 ∷ 5 ∷ 5 ∷ 5 ∷ []) (0 ∷ 0 ∷ 0 ∷ 1 ∷ 0 ∷ 0 ∷ 127 ∷ 228 ∷ replicate 32747 0 ++ (2 ∷ 0 ∷ 0 ∷ 0 ∷ 4 ∷ 49 ∷ 50 ∷ 51 ∷ 52 ∷ 0 ∷ 0 ∷ 0 ∷ 0 ∷ [])) bookRoom)
     -- 23 at the call that completes a layout leaves the book as it was.
     ∷ script (over (state 8 wants.AttributeCount 0 0 0) (0 ∷ 0 ∷ 0 ∷ 1 ∷ 0 ∷ 0 ∷ 0 ∷ 7 ∷ 5 ∷ 5 ∷ 5 ∷ []) empty 0)
     (attributeCount 0 ∷ [])

@@ -5,6 +5,7 @@ use mathlib.Core.Bool.{Bool, true, false, _&&_}
 use mathlib.Core.Option.{Option, some, none}
 use lib.ListN.{length, drop, replicate}
 use lib.Dec.{leb, ltb, eqb}
+use Rattle.octets.specs.Limits.{longest, mostRows, bookRoom, mostLayouts, mostAttributes, mostListed}
 use Rattle.octets.specs.Reading.{Read, ok, no, _then_, choose, be, part, same}
 use Rattle.octets.specs.Writing.{word, textImage, over}
 use Rattle.kinds.specs.declared.Basic.{Basic}
@@ -67,7 +68,7 @@ fresh = record { place = 0; turn = wants.Recorder; count = 0; start = 0; rows = 
 
 -- Room is the lesser of the buffer and 1,048,576.
 unfoldable pub room : ℕ → ℕ
-room size = min size 1048576
+room size = min size longest
 
 abbrev pub line : ℕ → ℕ → ℕ → ℕ → Rule
 line number least most head = record { number = number; least = least; most = most; head = head }
@@ -101,7 +102,7 @@ isOpen t = ltb 0 (rule t .head)
 -- Refusal 20 is for a state whose place passes the room, whose counts pass the limits, or whose open layout's first 8 or row's first 12 octets pass the place; this is one that does none of it, over a buffer of so many octets.
 unfoldable pub bounded : State → ℕ → Bool
 bounded s size =
-    leb (s .place) (room size) && leb (rule (s .turn) .least) (s .count) && leb (s .count) (rule (s .turn) .most) && leb (s .rows) 1048576
+    leb (s .place) (room size) && leb (rule (s .turn) .least) (s .count) && leb (s .count) (rule (s .turn) .most) && leb (s .rows) mostRows
     && choose (isOpen (s .turn)) (λ _. leb (s .start + rule (s .turn) .head) (s .place)) (λ _. true)
 
 -- A test that is passed, or not by a refusal; `placed` below gives the refusal its place.
@@ -192,19 +193,19 @@ does s buffer book (recorder xs) = puts s wants.Recorder fine (word 4 4 ++ textI
 does s buffer book (startTime n) = puts s wants.StartTime fine (word 8 n) wants.DefaultNamespace 0
 does s buffer book (defaultNamespace xs) = puts s wants.DefaultNamespace fine (textImage xs) wants.NamespaceCount 0
 does s buffer book (namespaceCount n) =
-    puts s wants.NamespaceCount (unless (leb n 16) 4) (word 4 n) (turnAt n wants.Uri wants.ServiceCount) n
+    puts s wants.NamespaceCount (unless (leb n mostListed) 4) (word 4 n) (turnAt n wants.Uri wants.ServiceCount) n
 does s buffer book (uri xs) = puts s wants.Uri fine (textImage xs) wants.ShortName (s .count)
 does s buffer book (shortName xs) =
     puts s wants.ShortName fine (textImage xs) (turnAt (s .count - 1) wants.Uri wants.ServiceCount) (s .count - 1)
 does s buffer book (serviceCount n) =
-    puts s wants.ServiceCount (unless (leb n 16) 4) (word 4 n) (turnAt n wants.Service wants.DocumentId) n
+    puts s wants.ServiceCount (unless (leb n mostListed) 4) (word 4 n) (turnAt n wants.Service wants.DocumentId) n
 does s buffer book (service xs) =
     puts s wants.Service fine (textImage xs) (turnAt (s .count - 1) wants.Service wants.DocumentId) (s .count - 1)
 does s buffer book (documentId xs) =
     puts s wants.DocumentId (unless (eqb (length xs) 16) 5) (word 4 16 ++ xs ++ word 4 0xffffffff) wants.Element 0
 does s buffer book (openLayout n) = opens s fine (word 4 1 ++ word 4 n) wants.TypeName
 does s buffer book (typeName xs) = puts s wants.TypeName fine (textImage xs) wants.AttributeCount 0
-does s buffer book (attributeCount n) = attributes s wants.AttributeCount (unless (leb n 64) 4) (word 4 n) n
+does s buffer book (attributeCount n) = attributes s wants.AttributeCount (unless (leb n mostAttributes) 4) (word 4 n) n
 does s buffer book (attributeName xs) = puts s wants.AttributeName fine (textImage xs) wants.AttributeType (s .count)
 does s buffer book (attributeType t) =
     attributes s wants.AttributeType (kindOf 0 t 0 then λ _ _. fine) (word 4 t) (s .count - 1)
@@ -236,7 +237,7 @@ does s buffer book (finish n) = puts s wants.Element fine (word 4 3 ++ word 4 (s
 -- What the book takes of a layout's octets. Refusal 10: its number is known with other octets; 11: a new one would be the 65th, or pass 32,768 octets. A known one adds nothing.
 abbrev pub additionFor : Book → ℕ → List ℕ → Option Layout → Read (List ℕ)
 additionFor book used xs (some m) = unless (same (layoutImage m) xs) 10 then λ _ _. ok [] 0
-additionFor book used xs none = unless (ltb (length book) 64 && leb (used + length xs) 32768) 11 then λ _ _. ok xs 0
+additionFor book used xs none = unless (ltb (length book) mostLayouts && leb (used + length xs) bookRoom) 11 then λ _ _. ok xs 0
 
 abbrev pub addition : Bool → Book → ℕ → List ℕ → Read (List ℕ)
 addition false book used xs = ok [] 0

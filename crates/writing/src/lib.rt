@@ -6,6 +6,7 @@ ghost use mathlib.Core.List.{List, _++_};
 ghost use Prim.Native.Nat.{ℕ, _-_, _≤_};
 ghost use lib.ListN.{length};
 ghost use lib.Dec.{leb, eqb};
+ghost use Rattle.octets.specs.Limits.{};
 ghost use Rattle.octets.specs.Reading.{_then_};
 ghost use Rattle.octets.specs.Writing.{word, textImage};
 ghost use Rattle.kinds.specs.Kinds.{formOf, unsigned, kindOf};
@@ -136,7 +137,7 @@ fn in_bounds(s: State, len: usize) -> bool
     if most < count {
         return false;
     }
-    if 1048576 < rows {
+    if octets::MOST_ROWS < rows as usize {
         return false;
     }
     if head == 0 {
@@ -418,7 +419,7 @@ pub fn default_namespace(s: State, buf: &mut [u8], book: &[u8], used: usize, xs:
 pub fn namespace_count(s: State, buf: &mut [u8], book: &[u8], used: usize, n: u32) -> Answer
     ensures { λ r. ⌜ left r (now (buf .exit)) (now (book .entry)) ≡ leaves s (now (buf .entry)) (now (book .entry)) used (namespaceCount n) ⌝ }
 {
-    let fault = at_most(n, 16);
+    let fault = at_most(n, octets::MOST_LISTED);
     let next = turn_at(n, Turn::Uri, Turn::ServiceCount);
     give_number(
         s,
@@ -454,7 +455,7 @@ pub fn short_name(s: State, buf: &mut [u8], book: &[u8], used: usize, xs: &[u8])
 pub fn service_count(s: State, buf: &mut [u8], book: &[u8], used: usize, n: u32) -> Answer
     ensures { λ r. ⌜ left r (now (buf .exit)) (now (book .entry)) ≡ leaves s (now (buf .entry)) (now (book .entry)) used (serviceCount n) ⌝ }
 {
-    let fault = at_most(n, 16);
+    let fault = at_most(n, octets::MOST_LISTED);
     let next = turn_at(n, Turn::Service, Turn::DocumentId);
     give_number(
         s,
@@ -629,7 +630,7 @@ fn give_attribute(
 pub fn attribute_count(s: State, buf: &mut [u8], book: &mut [u8], used: usize, n: u32) -> Answer
     ensures { λ r. ⌜ left r (now (buf .exit)) (now (book .exit)) ≡ leaves s (now (buf .entry)) (now (book .entry)) used (attributeCount n) ⌝ }
 {
-    let fault = at_most(n, 64);
+    let fault = at_most(n, octets::MOST_ATTRIBUTES);
     give_attribute(s, buf, book, used, Turn::AttributeCount, fault, n, n)
 }
 

@@ -7,6 +7,7 @@ use mathlib.Core.Path.{_≡_, refl, sym, ap, _∙_}
 use mathlib.Core.List.{List}
 use denote.Ref.{now}
 use lib.ListN.{length}
+use Rattle.octets.specs.Limits.{longest, bookRoom}
 use Rattle.octets.specs.Writing.{over}
 use Rattle.octets.proofs.Spans.{each-octet}
 use Rattle.layouts.specs.Book.{bookIn}
@@ -23,17 +24,17 @@ module _ (b l : List ℕ) (used from at : ℕ) (xs : List ℕ) (x : Learning) (f
   refused : (n : ℕ) → f ≡ Is n → Completes b b l l used from at xs (Refused n)
   refused n e = (rw (← is) (sym said ∙ ap says e), refl, refl)
 
-  enters : used ≤ 32768 → 32768 ≤ length l → used + length (added x (whole b from at xs)) ≤ length l
-  enters h k = let fits : used + length (added x (whole b from at xs)) ≤ 32768 = rw is (added-fits (bookIn l used) used (whole b from at xs) h) in omega arith
+  enters : used ≤ bookRoom → bookRoom ≤ length l → used + length (added x (whole b from at xs)) ≤ length l
+  enters h k = let fits : used + length (added x (whole b from at xs)) ≤ bookRoom = rw is (added-fits (bookIn l used) used (whole b from at xs) h) in omega arith
 
-  module _ (e : f ≡ None) (r : ℕ) (k : r ≡ min (length b) 1048576) (p : at ≤ min (length b) 1048576) where
+  module _ (e : f ≡ None) (r : ℕ) (k : r ≡ min (length b) longest) (p : at ≤ min (length b) longest) where
     full : r - at < length xs → Completes b b l l used from at xs Full
-    full h = (rw (← is) (sym said ∙ ap says e), (lt-leb (at + length xs) (min (length b) 1048576) (omega arith), refl), refl)
+    full h = (rw (← is) (sym said ∙ ap says e), (lt-leb (at + length xs) (min (length b) longest) (omega arith), refl), refl)
 
     done : length xs ≤ r - at → {t q : ℕ} {y z : List ℕ} → (t ≡ used + length (added x (whole b from at xs))) × (z ≡ over l used (added x (whole b from at xs)))
         → (q ≡ at + length xs) × (y ≡ over b at xs) → Completes b y l z used from at xs (Done q t)
     done h (i, j) (m, n) =
-        (rw (← is) (sym said ∙ ap says e), (le-leb (at + length xs) (min (length b) 1048576) (omega arith), m, n), rw (← is) i, rw (← is) j)
+        (rw (← is) (sym said ∙ ap says e), (le-leb (at + length xs) (min (length b) longest) (omega arith), m, n), rw (← is) i, rw (← is) j)
 
 returns : tie.Need-returns
 returns c =

@@ -10,6 +10,7 @@ use mathlib.Core.List.{List, _++_}
 use denote.Ref.{now}
 use lib.ListN.{length, take, length-append}
 use lib.Dec.{leb}
+use Rattle.octets.specs.Limits.{longest, bookRoom}
 use Rattle.octets.specs.Reading.{be}
 use Rattle.octets.specs.Writing.{Each, Octet}
 use Rattle.octets.proofs.Spans.{each-octet}
@@ -47,10 +48,10 @@ octets k = each-octet (Octets k) (k .before .before .shared-slice-known .given)
 long : (k : Known) → Used k ≡ length (take (Used k) (Octets k))
 long k = sym (used-length (Octets k) (Used k) (octets k) (k .before .before .before .pre .0))
 
-small : (k : Known) → length (take (Used k) (Octets k)) ≤ 1048576
+small : (k : Known) → length (take (Used k) (Octets k)) ≤ longest
 small k = used-small (Octets k) (Used k) (octets k) (k .before .before .before .pre .0)
 
-room : (k : Known) → (32768 ≤ length (Octets k)) × (Used k ≤ 32768)
+room : (k : Known) → (bookRoom ≤ length (Octets k)) × (Used k ≤ bookRoom)
 room k = used-room (Octets k) (Used k) (octets k) (k .before .before .before .pre .0)
 
 image : (k : Known) → Image (take (Used k) (Octets k)) (Held k)
@@ -76,10 +77,10 @@ same-runs-requires c κs =
     (small (f .before .before .before), record { layout = w .layout; next = w .next; reads = w .reads })
 
 -- What is left in the book, and whether the two runs fit there.
-tested : (u a b : ℕ) (t : Bool) → u ≤ 32768 → t ≡ leb (a + (b + 0)) (32768 - u) → leb (u + (a + b)) 32768 ≡ t
+tested : (u a b : ℕ) (t : Bool) → u ≤ bookRoom → t ≡ leb (a + (b + 0)) (bookRoom - u) → leb (u + (a + b)) bookRoom ≡ t
 tested u a b t h e =
     let sum : a + (b + 0) + u ≡ u + (a + b) = omega arith in
-    sym (e ∙ (sub-leb (a + (b + 0)) u 32768 h ∙ ap (λ (n : ℕ). leb n 32768) sum))
+    sym (e ∙ (sub-leb (a + (b + 0)) u bookRoom h ∙ ap (λ (n : ℕ). leb n bookRoom) sum))
 
 returns : tie.Need-returns
 returns c =
@@ -92,7 +93,7 @@ returns c =
 abbrev From : tie.After-fits2 → Known
 From i = i .before .before .before .before .before .before .before .before
 
-fit : (i : tie.After-fits2) (t : Bool) → i .fits2 .result ≡ t → leb (Used (From i) + length (Front (From i) ++ Last (From i))) 32768 ≡ t
+fit : (i : tie.After-fits2) (t : Bool) → i .fits2 .result ≡ t → leb (Used (From i) + length (Front (From i) ++ Last (From i))) bookRoom ≡ t
 fit i t e =
     let k = From i in
     rw (length-append (Front k) (Last k)) (tested (Used k) (length (Front k)) (length (Last k)) (i .fits2 .result) (room k .1) (i .fits2 .ensures) ∙ e)
@@ -126,10 +127,10 @@ returns-4 c =
 
 -- The sum of the three does not wrap.
 sum : (i : tie.After-fits2) → i .fits2 .result ≡ true
-    → Used (From i) + (length (Front (From i)) + length (Last (From i))) ≤ 32768
+    → Used (From i) + (length (Front (From i)) + length (Last (From i))) ≤ bookRoom
 sum i e =
     let k = From i in
-    leb-true _ 32768 (tested (Used k) (length (Front k)) (length (Last k)) (i .fits2 .result) (room k .1) (i .fits2 .ensures) ∙ e)
+    leb-true _ bookRoom (tested (Used k) (length (Front k)) (length (Last k)) (i .fits2 .result) (room k .1) (i .fits2 .ensures) ∙ e)
 
 returns-5 : tie.Need-returns-5
 returns-5 c =

@@ -13,10 +13,11 @@ use lib.Dec.{leb}
 use Rattle.fields.proofs.Over.{length-three, sub-leb}
 use Rattle.fields.proofs.put_runs.Statement.{statement}
 use Rattle.fields.proofs.put_runs.Tie as tie
+use Rattle.octets.specs.Limits.{longest}
 
-module _ (b h x t : List ℕ) (at r : ℕ) (u : Bool) (p : at ≤ min (length b) 1048576) (k : r ≡ min (length b) 1048576)
+module _ (b h x t : List ℕ) (at r : ℕ) (u : Bool) (p : at ≤ min (length b) longest) (k : r ≡ min (length b) longest)
     (g : u ≡ leb (length h + (length x + length t)) (r - at)) where
-  tested : leb (at + length (h ++ (x ++ t))) (min (length b) 1048576) ≡ u
+  tested : leb (at + length (h ++ (x ++ t))) (min (length b) longest) ≡ u
   tested = rw (length-three h x t, ← k, add-comm at (length h + (length x + length t))) (sym (g ∙ sub-leb (length h + (length x + length t)) at r (rw (← k) at p)))
 
   inside : u ≡ true → at + (length h + (length x + length t)) ≤ length b

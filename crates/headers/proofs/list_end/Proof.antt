@@ -6,6 +6,7 @@ use Prim.Native.Nat.{ℕ, _*_, _≤_}
 use denote.Ref.{now}
 use mathlib.Core.Path.{_≡_, refl, sym, ap, _∙_}
 use lib.ListN.{length}
+use Rattle.octets.specs.Limits.{mostListed}
 use Rattle.octets.specs.Reading.{ok, count}
 use Rattle.octets.specs.Answers.{counts}
 use Rattle.octets.proofs.Ends.{count-is, behind}
@@ -17,7 +18,7 @@ abbrev Counted : Type 0
 Counted = tie.After-known-told2
 
 counted : (c : Counted)
-    → count 16 (now (c .before .before .before .before .before .args .s)) (c .before .before .before .before .before .args .at) ≡ ok (c .before .counted2 .given .0 .0) (c .before .counted2 .given .0 .1 .0)
+    → count mostListed (now (c .before .before .before .before .before .args .s)) (c .before .before .before .before .before .args .at) ≡ ok (c .before .counted2 .given .0 .0) (c .before .counted2 .given .0 .1 .0)
 counted c = sym (c .before .before .before .count-at .ensures .0) ∙ ap counts (c .before .counted2 .given .1)
 
 few : (k each : ℕ) → k ≤ 16 → each ≤ 2 → k * each ≤ 32

@@ -8,6 +8,7 @@ use mathlib.Core.List.{List}
 use lib.ListN.{length, length-set, length-replicate}
 use lib.Seq.{length-take-le}
 use denote.Ref.{now}
+use Rattle.octets.specs.Limits.{mostLayouts}
 use Rattle.octets.specs.Reading.{ok, ends}
 use Rattle.octets.specs.Answers.{says}
 use Rattle.octets.proofs.Ends.{ended}
@@ -18,10 +19,10 @@ use Rattle.layouts.proofs.are_layouts.Statement.{statement}
 use Rattle.layouts.proofs.are_layouts.Tie as tie
 
 abbrev Inv-loop : tie.InvT-loop
-Inv-loop s met₀ pos₀ k₀ met pos k = (pos ≤ length s) × (k ≤ 64) × (length met ≡ 64) × Met s met k pos
+Inv-loop s met₀ pos₀ k₀ met pos k = (pos ≤ length s) × (k ≤ mostLayouts) × (length met ≡ 64) × Met s met k pos
 
 abbrev μ-loop : tie.MeasureT-loop
-μ-loop s met₀ pos₀ k₀ met pos k = 64 - k
+μ-loop s met₀ pos₀ k₀ met pos k = mostLayouts - k
 
 loop-holds : tie.Need-loop-holds Inv-loop μ-loop
 loop-holds c = (search needs, search needs, length-replicate {A = ℕ} 64 0, met-start _ _)

@@ -10,6 +10,7 @@ use mir.Syntax.{w64}
 use mir.Facts.{toZ-ofZ}
 use lib.ListN.{length, take}
 use lib.Seq.{length-take-le}
+use Rattle.octets.specs.Limits.{longest}
 use Rattle.octets.specs.Reading.{isOk}
 use Rattle.octets.specs.Writing.{Each, Octet}
 use Rattle.octets.proofs.Spans.{each-octet}
@@ -46,7 +47,7 @@ module _ (t : Turn) where
   abbrev doc : List ℕ
   doc = now (t .before .before .before .before .args .doc)
 
-  short : length doc ≤ 1048576
+  short : length doc ≤ longest
   short = t .before .before .before .before .pre .1
 
   octets : Each Octet doc

@@ -7,6 +7,7 @@ use lib.ListN.{length}
 use mir.Syntax.{w64}
 use mir.Facts.{toZ-ofZ}
 use denote.Ref.{now}
+use Rattle.octets.specs.Limits.{longest}
 use Rattle.octets.specs.Reading.{ok}
 use Rattle.octets.proofs.Spans.{each-octet}
 use Rattle.headers.specs.Header.{Header, headerAt}
@@ -44,9 +45,9 @@ module _ (k : Told) where
   told : (h : Header) × (next : ℕ) × (headerAt doc ≡ ok h next) × (headOf h next ≡ head)
   told = headed-as (headerAt doc) head (sym (by .header .ensures) ∙ k .before .headed2 .given .1)
 
-  place : (head .next ≤ length doc) × (length doc ≤ 1048576)
+  place : (head .next ≤ length doc) × (length doc ≤ longest)
   place =
-      subst (λ (x : Head). (x .next ≤ length doc) × (length doc ≤ 1048576)) (told .3)
+      subst (λ (x : Head). (x .next ≤ length doc) × (length doc ≤ longest)) (told .3)
       (header-place doc (each-octet doc (by .before .before .shared-slice-known .given)) (told .0) (told .1) (told .2))
 
 returns-2 : tie.Need-returns-2

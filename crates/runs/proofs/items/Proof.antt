@@ -9,6 +9,7 @@ use mathlib.Core.List.{List}
 use mathlib.Core.Option.{none}
 use lib.ListN.{length, take, set, length-replicate}
 use lib.Seq.{length-take-le}
+use Rattle.octets.specs.Limits.{longest, mostRows, bookRoom}
 use Rattle.octets.specs.Reading.{ok, isOk}
 use Rattle.octets.specs.Writing.{Each, Octet}
 use Rattle.octets.proofs.Spans.{each-octet}
@@ -46,7 +47,7 @@ record Going (doc : List ℕ) (at rows : ℕ) (entry : List ℕ) (used : ℕ) (l
   pub run : OnRun doc (lentAt at rows entry used) lent words n (lentAt pos passed book filled)
   pub carried : Carried book filled numbers places steps tally
   pub inside : pos ≤ length doc
-  pub few : passed ≤ 1048577
+  pub few : passed ≤ mostRows + 1
   pub book-long : length book ≡ length entry
 
 abbrev Inv-loop : tie.InvT-loop
@@ -102,7 +103,7 @@ inv : (t : Round) → let a = Start t .args in let l = t .before .loop in
 inv t = t .before .loop .inv
 
 -- How far rows may follow.
-reached : (r : tie.After-reach Inv-loop μ-loop) → let l = r .before .before .loop in (l .n ≤ r .reach .result) × (r .reach .result ≤ 4096) × (r .reach .result ≤ l .n + (1048577 - l .passed))
+reached : (r : tie.After-reach Inv-loop μ-loop) → let l = r .before .before .loop in (l .n ≤ r .reach .result) × (r .reach .result ≤ 4096) × (r .reach .result ≤ l .n + (mostRows + 1 - l .passed))
 reached r = let e = r .reach .ensures in let t = r .before .loop-test .taken in (omega arith, omega arith, omega arith)
 
 rows-on-requires : tie.Need-rows-on-requires Inv-loop μ-loop
@@ -172,7 +173,7 @@ module _ (q : Strode) where
   abbrev words : List ℕ
   words = q .rows-on .last .1 .1 .1 .1 .1 .1 .0
 
-  short : length doc ≤ 1048576
+  short : length doc ≤ longest
   short = Start (Turned q) .pre .1
 
   doc-octets : Each Octet doc
@@ -184,7 +185,7 @@ module _ (q : Strode) where
   passage : Passage doc (spotAt (Turned q .before .loop .pos) (Turned q .before .loop .passed) book) numbers numbers (Turned q .before .loop .n) (Turned q .before .loop .words) words (q .rows-on .result)
   passage = q .rows-on .ensures .2 (Turned q .before .loop .passed) book (carried .kept .planned) .0
 
-  bounds : (n ≤ 4096) × (passed ≤ 1048577)
+  bounds : (n ≤ 4096) × (passed ≤ mostRows + 1)
   bounds = let r = q .before .before .before .before .before in (omega (arith, q .rows-on .ensures .1, reached r .1), omega (arith, q .rows-on .ensures .1, reached r .2, inv (Turned q) .few))
 
   going : Going doc at rows entry used lent octets words numbers places steps tally pos passed filled n
@@ -195,7 +196,7 @@ module _ (q : Strode) where
       let x : Spot = spotAt (l .pos) (l .passed) book in
       let y : Spot = spotAt pos (l .passed + length (h .seen)) book in
       let all : rowsOf (placedAll (h .seen)) ≡ length (h .seen) = omega (arith, path-rows doc (h .seen) x y (h .path)) in
-      let far : (0 < length (h .seen) → l .passed + length (h .seen) ≤ 1048577) = λ _. omega (arith, h .count, bounds, g .few) in
+      let far : (0 < length (h .seen) → l .passed + length (h .seen) ≤ mostRows + 1) = λ _. omega (arith, h .count, bounds, g .few) in
       let over = over-rows doc short octets filled (carried .is) (carried .octets-are) (h .seen) (l .pos) (l .passed) pos far all (h .path) in
       let said = words-same numbers book (h .seen) (path-way doc short doc-octets (h .seen) x y (g .inside) (h .path) .good) all (h .planned) in
       let run = run-path doc (lentAt at rows entry used) lent (g .run) (h .seen) (lentAt pos (l .passed + length (h .seen)) octets filled) over (omega (arith, h .count, bounds)) in
@@ -219,7 +220,7 @@ module _ (q : Strode) where
   shelf-long : length (take filled octets) ≡ filled
   shelf-long = let l = lent-book octets filled (carried .octets-are) (carried .is) in length-take-le filled octets (omega (arith, l .room, l .most))
 
-  shelf-small : filled ≤ 32768
+  shelf-small : filled ≤ bookRoom
   shelf-small = lent-book octets filled (carried .octets-are) (carried .is) .most
 
   -- The turn from here.
@@ -305,10 +306,10 @@ module _ (k : Item) where
   moves : let q = Of by in (pos q + 4 ≤ p .next) × (p .next ≤ length (doc q))
   moves = let q = Of by in item-moves (doc q) (doc-octets q) (short q) (pos q) (passed q) (book q) p y (goes-on .at-book)
 
-  near : gone .next ≤ 1048576
-  near = subst (λ (g : Gone). g .next ≤ 1048576) (met .3) (omega (arith, moves, short (Of by)))
+  near : gone .next ≤ longest
+  near = subst (λ (g : Gone). g .next ≤ longest) (met .3) (omega (arith, moves, short (Of by)))
 
-  counted : y .rows ≤ 1048577
+  counted : y .rows ≤ mostRows + 1
   counted =
       let q = Of by in
       omega (arith, turn-rows (doc q) (spotAt (pos q) (passed q) (book q)) p y (goes-on .at-book), few-rows (element.item (p .which)), goes-on .few)

@@ -14,16 +14,17 @@ use Rattle.headers.specs.declared.Placing.the-variants.{At, Refused}
 use Rattle.strings.specs.Heads.{Heads}
 use Rattle.strings.proofs.header_at.Statement.{statement}
 use Rattle.strings.proofs.header_at.Tie as tie
+use Rattle.octets.specs.Limits.{longest}
 
 returns : tie.Need-returns
 unfolding headerAt
 returns c = rw (lt-leb _ _ (c .if1 .taken)) refl
 
-short : (s : List ℕ) → length s ≤ 1048576 → headerAt s ≡ headerFrom s 0
+short : (s : List ℕ) → length s ≤ longest → headerAt s ≡ headerFrom s 0
 unfolding headerAt
-short s h = rw (le-leb (length s) 1048576 h) refl
+short s h = rw (le-leb (length s) longest h) refl
 
-heads : (s : List ℕ) → length s ≤ 1048576 → (r : Placing) → Locates s r → Heads s r
+heads : (s : List ℕ) → length s ≤ longest → (r : Placing) → Locates s r → Heads s r
 heads s h (At p) l = record { header = l .header; is = short s h ∙ l .reads; located = l .located; short = h }
 heads s h (Refused n p) l = short s h ∙ l
 

@@ -8,6 +8,7 @@ use mathlib.Core.Path.{_≡_, sym, ap, _∙_, subst}
 use mathlib.Core.List.{List, [], _∷_, _++_}
 use mathlib.Core.Option.{some}
 use lib.ListN.{length, replicate, length-replicate}
+use Rattle.octets.specs.Limits.{longest, mostRows}
 use Rattle.octets.specs.Reading.{isOk}
 use Rattle.octets.specs.Writing.{Each, Octet}
 use Rattle.octets.proofs.Spans.{each-octet}
@@ -107,7 +108,7 @@ module _ (q : Strode) where
   abbrev used : ℕ
   used = Turned q .loop .used
 
-  short : length doc ≤ 1048576
+  short : length doc ≤ longest
   short = Start (Turned q) .pre .1
 
   octets : Each Octet doc
@@ -136,7 +137,7 @@ module _ (q : Strode) where
   further-on : Turned q .loop .pos ≤ pos
   further-on = omega (arith, rows-further doc octets short first _ doc numbers places steps tally _ _ used way₀ passage)
 
-  few-rows : rows ≤ 1048576
+  few-rows : rows ≤ mostRows
   few-rows = omega (arith, way-few doc octets short first passed doc numbers places steps tally pos rows used way, way .inside, short)
 
   -- There is room for as many words as there was.

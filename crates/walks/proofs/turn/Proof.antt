@@ -18,6 +18,7 @@ use Rattle.walks.specs.Answers.{movedOf, stepMoved, Bears}
 use Rattle.walks.proofs.Moves.{step-moved}
 use Rattle.walks.proofs.turn.Statement.{statement}
 use Rattle.walks.proofs.turn.Tie as tie
+use Rattle.octets.specs.Limits.{mostLayouts}
 
 -- The number that was looked up, by names.
 abbrev Numbered : Type 0
@@ -42,7 +43,7 @@ module _ (n : Numbered) where
   abbrev Kept : Book → Type 0
   Kept book = Bears shelf (Start n .args .used) (now (Start n .args .numbers)) (now (Start n .args .places)) (Start n .args .known) book
 
-  few : Start n .args .known ≤ 64
+  few : Start n .args .known ≤ mostLayouts
   few = let b = Start n .pre .3 .bears .numbered in omega (arith, b .count, b .good .few)
 
 -- Where its layout was looked up.

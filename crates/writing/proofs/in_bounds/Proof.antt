@@ -54,4 +54,4 @@ returns-7 c =
 pub in-bounds-spec : {M : Type 1} → statement M
 in-bounds-spec =
     tie.close
-    (tie.spec (λ c κs. search needs) (λ c κs. search needs) returns returns-2 returns-3 returns-4 returns-5 returns-6 returns-7)
+    (tie.spec (λ c κs. search needs) (λ c κs. search needs) returns returns-2 returns-3 (λ c. search needs) returns-4 returns-5 returns-6 returns-7)
