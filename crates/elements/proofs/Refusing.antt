@@ -9,7 +9,9 @@ use lib.ListN.{length, take}
 use lib.Dec.{leb, ltb, eqb}
 use borrow.Author.Tests.{leb-true}
 use Rattle.octets.specs.Limits.{longest, mostRows, bookRoom, mostLayouts, mostAttributes, mostListed}
-use Rattle.octets.specs.Reading.{Read, ok, no, _then_, choose, isOk, Room, document, stated, reach, overrun, numberIn, octetsIn, textIn, number, text, count, exactly, run, same}
+use Rattle.octets.specs.Reading.{Read, ok, no, _then_, choose, isOk, reach, overrun, numberIn, ledIn, number, text, count, exactly, run, same}
+use Rattle.octets.specs.declared.Room.{Room}
+use Rattle.octets.specs.declared.Room.the-variants.{Document, Stated}
 use Rattle.kinds.specs.declared.Basic.{Basic}
 use Rattle.kinds.specs.declared.Form.{Form}
 use Rattle.kinds.specs.declared.Form.the-variants as form
@@ -17,7 +19,8 @@ use Rattle.kinds.specs.Kinds.{basicOf, formOf, known, kindAt}
 use Rattle.layouts.specs.Layout.{Attribute, Layout, attributeAt, layoutAt, layoutImage}
 use Rattle.layouts.specs.Book.{Book, find, bookImage, as17, layoutsAt, bookOf, learnAt, learn}
 use Rattle.headers.specs.Header.{namespaceAt, idAt, headerFrom, headerAt}
-use Rattle.rows.specs.Row.{valueIn, fieldsIn, filled, valuesAt, named, rowAt}
+use Rattle.rows.specs.Row.{fieldsIn, filled, valuesAt, named, rowAt}
+use Rattle.kinds.specs.Forms.{valueIn}
 use Rattle.elements.specs.Element.{Element, item, finish, Stepped, finishAt, elementAt}
 use Rattle.elements.specs.Walk.{Stop, ended, refused, Walk, onward, walk, turnBy, turnOf, Spot, spotAt, spotOf, turnAt, through}
 use Rattle.elements.specs.Steps.{lentBook, stepAt}
@@ -31,8 +34,8 @@ Stays P end (no n p) = P n × (p ≤ end)
 
 -- A room that a document has: its end and the place of its refusal are inside.
 abbrev Inside : (ℕ → Type 0) → ℕ → Room → Type 0
-Inside P end document = P 1
-Inside P end (stated to p) = P 13 × (to ≤ end) × (p ≤ end)
+Inside P end Document = P 1
+Inside P end (Stated to p) = P 13 × (to ≤ end) × (p ≤ end)
 
 -- What is assumed of the numbers of a header and of an element, besides 1.
 abbrev pub OfHeader : (ℕ → Type 0) → Type 0
@@ -69,12 +72,12 @@ module _ (P : ℕ → Type 0) (s : List ℕ) (end : ℕ) (long : length s ≤ en
   stays-run f h (suc k) at b = stays-then (f at) _ (h at b) λ a next c. stays-then (run f k next) _ (stays-run f h k next c) λ rest last d. d
 
   reach-inside : (room : Room) → Inside P end room → reach room s ≤ end
-  reach-inside document h = long
-  reach-inside (stated to p) h = h .1
+  reach-inside Document h = long
+  reach-inside (Stated to p) h = h .1
 
   stays-over : (A : Type 0) (room : Room) → Inside P end room → (at : ℕ) → at ≤ end → Stays P end (overrun {A = A} room at)
-  stays-over A document h at b = (h, b)
-  stays-over A (stated to p) h at b = (h .0, h .2)
+  stays-over A Document h at b = (h, b)
+  stays-over A (Stated to p) h at b = (h .0, h .2)
 
   module _ (room : Room) (inside : Inside P end room) where
     within : (next : ℕ) → leb next (reach room s) ≡ true → next ≤ end
@@ -84,38 +87,33 @@ module _ (P : ℕ → Type 0) (s : List ℕ) (end : ℕ) (long : length s ≤ en
     unfolding numberIn
     stays-number w at b = stays-choose (leb (at + w) (reach room s)) _ _ (λ t. within (at + w) t) (stays-over _ room inside at b)
 
-    stays-octets : (at : ℕ) → at ≤ end → Stays P end (octetsIn room s at)
-    unfolding octetsIn
-    stays-octets at b =
+    stays-led : (at : ℕ) → at ≤ end → Stays P end (ledIn room s at)
+    unfolding ledIn
+    stays-led at b =
         stays-then (numberIn room 4 s at) _ (stays-number 4 at b) λ n next c.
         stays-choose (leb (next + n) (reach room s)) _ _ (λ t. within (next + n) t) (stays-over _ room inside at b)
-
-    stays-text : (at : ℕ) → at ≤ end → Stays P end (textIn room s at)
-    unfolding textIn
-    stays-text at b = stays-octets at b
 
     stays-value : P 14 → (f : Form) (at : ℕ) → at ≤ end → Stays P end (valueIn room f s at)
     unfolding valueIn
     stays-value fourteen (form.Fixed w) at b = stays-then (numberIn room w s at) _ (stays-number w at b) λ n next c. c
     stays-value fourteen form.Truth at b =
         stays-then (numberIn room 1 s at) _ (stays-number 1 at b) λ n next c. stays-choose (leb n 1) _ _ (λ _. c) (fourteen, b)
-    stays-value fourteen form.Octets at b = stays-then (octetsIn room s at) _ (stays-octets at b) λ xs next c. c
-    stays-value fourteen form.Text at b = stays-then (textIn room s at) _ (stays-text at b) λ xs next c. c
+    stays-value fourteen form.Led at b = stays-then (ledIn room s at) _ (stays-led at b) λ xs next c. c
 
     stays-fields : P 14 → (attributes : List Attribute) (at : ℕ) → at ≤ end → Stays P end (fieldsIn room attributes s at)
     unfolding fieldsIn
     stays-fields fourteen [] at b = b
     stays-fields fourteen (a ∷ others) at b =
-        stays-then (valueIn room (formOf (a .kind .basic)) s at) _ (stays-value fourteen (formOf (a .kind .basic)) at b) λ v next c.
+        stays-then (valueIn room (formOf (a .kind)) s at) _ (stays-value fourteen (formOf (a .kind)) at b) λ v next c.
         stays-then (fieldsIn room others s next) _ (stays-fields fourteen others next c) λ rest last d. d
 
   module _ (one : P 1) where
     -- The fields that only the document's end bounds.
     pub number-stays : (w at : ℕ) → at ≤ end → Stays P end (number w s at)
-    number-stays = stays-number document one
+    number-stays = stays-number Document one
 
     text-stays : (at : ℕ) → at ≤ end → Stays P end (text s at)
-    text-stays = stays-text document one
+    text-stays = stays-led Document one
 
     count-stays : (most at : ℕ) → P 4 → at ≤ end → Stays P end (count most s at)
     unfolding count
@@ -188,7 +186,7 @@ module _ (P : ℕ → Type 0) (s : List ℕ) (end : ℕ) (long : length s ≤ en
       values-stays : (attributes : List Attribute) (length-at size : ℕ) → length-at + 4 ≤ end → Stays P end (valuesAt attributes s length-at size)
       unfolding valuesAt
       values-stays attributes length-at size b =
-          stays-choose (eqb size 0xffffffff) _ _ (λ _. stays-fields document one fourteen attributes (length-at + 4) b)
+          stays-choose (eqb size 0xffffffff) _ _ (λ _. stays-fields Document one fourteen attributes (length-at + 4) b)
           (stays-choose (leb to (length s)) _ _ (λ t. filled-stays (leb-true to (length s) t)) (one, before))
         where
           to : ℕ
@@ -199,7 +197,7 @@ module _ (P : ℕ → Type 0) (s : List ℕ) (end : ℕ) (long : length s ≤ en
 
           filled-stays : to ≤ length s → Stays P end (filled attributes s length-at to)
           filled-stays h =
-              stays-then (fieldsIn (stated to length-at) attributes s (length-at + 4)) _ (stays-fields (stated to length-at) (thirteen, omega arith, before) fourteen attributes (length-at + 4) b) λ fields last c.
+              stays-then (fieldsIn (Stated to length-at) attributes s (length-at + 4)) _ (stays-fields (Stated to length-at) (thirteen, omega arith, before) fourteen attributes (length-at + 4) b) λ fields last c.
               stays-choose (eqb last to) _ _ (λ _. c) (thirteen, before)
 
       pub row-stays : P 12 → (book : Book) (at : ℕ) → at ≤ end → Stays P end (rowAt book s at)

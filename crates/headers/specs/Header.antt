@@ -6,7 +6,7 @@ use lib.ListN.{length}
 use lib.Dec.{leb}
 use Rattle.octets.specs.Limits.{longest, mostListed}
 use Rattle.octets.specs.Reading.{Read, ok, no, _then_, choose, part, number, text, count, exactly, run}
-use Rattle.octets.specs.Writing.{word, textImage, images, Each, Octet, Text}
+use Rattle.octets.specs.Writing.{word, ledImage, images, Each, Octet, GoodLed}
 
 pub record Namespace : Type 0 where
   pub uri : List ℕ
@@ -51,27 +51,27 @@ unfoldable pub headerAt : List ℕ → Read Header
 headerAt s = choose (leb (length s) longest) (λ _. headerFrom s 0) (λ _. no 2 0)
 
 unfoldable pub namespaceImage : Namespace → List ℕ
-namespaceImage n = textImage (n .uri) ++ textImage (n .short)
+namespaceImage n = ledImage (n .uri) ++ ledImage (n .short)
 
 unfoldable pub headerImage : Header → List ℕ
 headerImage h =
-    word 4 4 ++ textImage (h .recorder) ++ word 8 (h .start) ++ textImage (h .default)
+    word 4 4 ++ ledImage (h .recorder) ++ word 8 (h .start) ++ ledImage (h .default)
     ++ word 4 (length (h .others)) ++ images namespaceImage (h .others)
-    ++ word 4 (length (h .services)) ++ images textImage (h .services)
+    ++ word 4 (length (h .services)) ++ images ledImage (h .services)
     ++ word 4 16 ++ h .id ++ word 4 0xffffffff
 
 pub record GoodNamespace (n : Namespace) : Type 0 where
-  pub uri : Text (n .uri)
-  pub short : Text (n .short)
+  pub uri : GoodLed (n .uri)
+  pub short : GoodLed (n .short)
 
 -- A header inside the limits: at most 16 other namespaces and 16 service definitions, an id of 16 octets.
 pub record GoodHeader (h : Header) : Type 0 where
-  pub recorder : Text (h .recorder)
+  pub recorder : GoodLed (h .recorder)
   pub start : h .start < 2 ^ 64
-  pub default : Text (h .default)
+  pub default : GoodLed (h .default)
   pub few-others : length (h .others) ≤ mostListed
   pub others : Each GoodNamespace (h .others)
   pub few-services : length (h .services) ≤ mostListed
-  pub services : Each Text (h .services)
+  pub services : Each GoodLed (h .services)
   pub id-length : length (h .id) ≡ 16
   pub id : Each Octet (h .id)

@@ -10,6 +10,7 @@ ghost use Rattle.headers.specs.Header.{idAt};
 ghost use Rattle.headers.specs.Answers.{Locates};
 use octets::Counted;
 use octets::Ended;
+use octets::Room;
 
 // Where the fields of an accepted header stand: the start time, the counts of both lists, the document id, and what is behind the header.
 pub struct Places {
@@ -61,7 +62,7 @@ pub fn texts_end(s: &[u8], at: usize, count: u32) -> Ended
     let mut pos = at;
     let mut i: u32 = 0;
     while i < count {
-        let one = octets::text_end(s, pos);
+        let one = octets::led_end(s, pos, Room::Document);
         match one {
             Ended::Refused(n, p) => {
                 return Ended::Refused(n, p);
@@ -82,7 +83,7 @@ fn list_end(s: &[u8], at: usize, each: u32) -> Ended
 {
     let counted = octets::count_at(s, at, octets::MOST_LISTED);
     match counted {
-        Counted::Not(n, p) => Ended::Refused(n, p),
+        Counted::Refused(n, p) => Ended::Refused(n, p),
         Counted::Count(k, next) => texts_end(s, next, k * each),
     }
 }
@@ -95,7 +96,7 @@ fn recorder_end(s: &[u8]) -> Ended
     let version = exactly_at(s, 0, 4, 3);
     match version {
         Ended::Refused(n, p) => Ended::Refused(n, p),
-        Ended::End(next) => octets::text_end(s, next),
+        Ended::End(next) => octets::led_end(s, next, Room::Document),
     }
 }
 
@@ -107,7 +108,7 @@ fn default_end(s: &[u8], at: usize) -> Ended
     if s.len() < at + 8 {
         return Ended::Refused(1, at);
     }
-    octets::text_end(s, at + 8)
+    octets::led_end(s, at + 8, Room::Document)
 }
 
 // The place behind the document id.

@@ -7,9 +7,15 @@ use Rattle.kinds.specs.declared.Typed.{Typed}
 use Rattle.kinds.specs.declared.Typed.the-variants.{Is, Not}
 use Rattle.kinds.specs.declared.Kinded.{Kinded}
 use Rattle.kinds.specs.declared.Kinded.the-variants.{At, Refused}
+use Rattle.octets.proofs.Ends.{value-is}
+use Rattle.octets.proofs.Contracts.{says-once}
 use Rattle.kinds.proofs.Table.{code-once}
 use Rattle.kinds.proofs.code_of as code-of
+use Rattle.kinds.proofs.form_by as form-by
 use Rattle.kinds.proofs.form_of as form-of
+use Rattle.kinds.proofs.kind_here as kind-here
+use Rattle.kinds.proofs.form_here as form-here
+use Rattle.kinds.proofs.value_end as value-end
 use Rattle.kinds.proofs.basic_of as basic-of
 use Rattle.kinds.proofs.signed8 as signed8
 use Rattle.kinds.proofs.signed16 as signed16
@@ -26,6 +32,10 @@ use Rattle.kinds.proofs.kind_at as kind-at
 
 pub record Contracts : Type 0 where
   pub of-code-of : Once code-of.Kinds.ps code-of.Kinds.r code-of.Reads.Pre code-of.Reads.Post
+  pub of-form-by : Once form-by.Kinds.ps form-by.Kinds.r form-by.Reads.Pre form-by.Reads.Post
+  pub of-kind-here : Once kind-here.Kinds.ps kind-here.Kinds.r kind-here.Reads.Pre kind-here.Reads.Post
+  pub of-form-here : Once form-here.Kinds.ps form-here.Kinds.r form-here.Reads.Pre form-here.Reads.Post
+  pub of-value-end : Once value-end.Kinds.ps value-end.Kinds.r value-end.Reads.Pre value-end.Reads.Post
   pub of-form-of : Once form-of.Kinds.ps form-of.Kinds.r form-of.Reads.Pre form-of.Reads.Post
   pub of-basic-of : Once basic-of.Kinds.ps basic-of.Kinds.r basic-of.Reads.Pre basic-of.Reads.Post
   pub of-signed8 : Once signed8.Kinds.ps signed8.Kinds.r signed8.Reads.Pre signed8.Reads.Post
@@ -58,6 +68,10 @@ pub contracts : Contracts
 contracts =
     record {
       of-code-of = λ κs a p x y u v e f. (e ∙ sym f, refl);
+      of-form-by = λ κs a p x y u v e f. (e ∙ sym f, refl);
+      of-kind-here = λ κs a p x y u v e f. let (k, next, is) = value-is _ p in (e k next is ∙ sym (f k next is), refl);
+      of-form-here = λ κs a p x y u v e f. let (k, next, is) = value-is _ p in (e .0 k next is ∙ sym (f .0 k next is), refl);
+      of-value-end = λ κs a p x y u v e f. (says-once x y (e .0 ∙ sym (f .0)), refl);
       of-form-of = λ κs a p x y u v e f. (e ∙ sym f, refl);
       of-basic-of = λ κs a p x y u v e f. (code-once x y (e ∙ sym f), refl);
       of-signed8 = λ κs a p x y u v e f. (e ∙ sym f, refl);

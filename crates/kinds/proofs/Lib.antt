@@ -1,4 +1,5 @@
 pub mod Table
+pub mod Forms
 pub mod Signed
 pub mod Unsigned
 pub mod Values

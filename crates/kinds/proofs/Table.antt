@@ -150,9 +150,9 @@ kind-is s at t =
     let h = number-room s at 4 (first-ok (number 4 s at) _ t) in
     (h, rw (number-ok s at 4 h) (kind-next at (be 4 s at) (at + 4) (rw (number-ok s at 4 h) at t)))
 
--- The low octet of a type that was read is its basic type's, which the table has.
+-- The number of a type that was read: its low octet is its basic type's, which the table has, the next is the derived octet, and there is no more.
 pub kind-code : (s : List ℕ) (at : ℕ) {k : Kind} {next : ℕ} → kindAt s at ≡ ok k next
-    → (be 4 s at % 256 ≡ codeOf (k .basic)) × (0x21 ≤ be 4 s at % 256) × (be 4 s at % 256 ≤ 0x2d)
+    → (be 4 s at % 256 ≡ codeOf (k .basic)) × (0x21 ≤ be 4 s at % 256) × (be 4 s at % 256 ≤ 0x2d) × (be 4 s at < 0x10000) × (be 4 s at / 256 ≡ k .derived)
 unfolding kindAt
 kind-code s at {k} e =
     let h = number-room s at 4 (first-ok (number 4 s at) _ (ap isOk e)) in
@@ -160,10 +160,19 @@ kind-code s at {k} e =
     let (t₁, e₁) = refused (leb (2 ^ 31) t) 9 at _ (rw (number-ok s at 4 h) at e) in
     let (t₂, e₂) = chosen (ltb t 0x10000) (λ _. known at t (at + 4) (basicOf (t % 256))) 8 at e₁ in
     let (b, f, e₃) = known-ok at t (at + 4) (basicOf (t % 256)) e₂ in
-    let basic : b ≡ k .basic = ap (λ (x : Kind). x .basic) (ok-value refl e₃) in
-    let code : codeOf b ≡ t % 256 = code-of-basic (t % 256) b f in
-    (sym code ∙ ap codeOf basic, omega (arith, code-known b .0), omega (arith, code-known b .1))
+    let is : record { derived = t / 256; basic = b } ≡ k = ok-value refl e₃ in
+    let code : codeOf b ≡ t % 256 = code-of-basic (t % 256) b f in (
+      sym code ∙ ap (λ (x : Kind). codeOf (x .basic)) is,
+      omega (arith, code-known b .0),
+      omega (arith, code-known b .1),
+      ltb-true t 0x10000 t₂,
+      ap (λ (x : Kind). x .derived) is,
+    )
 
 -- One code is one basic type.
 pub code-once : (b c : Basic) → codeOf b ≡ codeOf c → b ≡ c
 code-once b c e = let is : _≡_ {A = Option Basic} (some b) (some c) = sym (code-known b .2) ∙ (ap basicOf e ∙ code-known c .2) in cc
+
+-- A type by its two octets.
+pub kind-same : (d : ℕ) (b : Basic) (k : Kind) → d ≡ k .derived → b ≡ k .basic → record { derived = d; basic = b } ≡ k
+kind-same d b k p q = λ i. record { derived = p i; basic = q i }

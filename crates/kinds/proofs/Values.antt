@@ -6,7 +6,7 @@ use native.Mathlib.Omega.{arith}
 use lib.Dec.{eqb}
 use lib.IntN.{negsuc}
 use borrow.Author.Tests.{eqb-true, eqb-false}
-use Rattle.kinds.specs.Kinds.{formOf, signed}
+use Rattle.kinds.specs.Kinds.{formBy, signed}
 use Rattle.kinds.specs.Values.{numeral, basicOfValue, bitsOfValue}
 use Rattle.kinds.specs.declared.Basic.{Basic}
 use Rattle.kinds.specs.declared.Basic.the-variants as basic
@@ -19,8 +19,7 @@ use Rattle.kinds.proofs.Unsigned.{unsigned-signed}
 abbrev pub Bits : Form → ℕ → Type 0
 Bits (form.Fixed w) n = n < 256 ^ w
 Bits form.Truth n = n ≤ 1
-Bits form.Octets n = n ≡ 0
-Bits form.Text n = n ≡ 0
+Bits form.Led n = n ≡ 0
 
 pub numeral-basic : (b : Basic) (n : ℕ) → basicOfValue (numeral b n) ≡ b
 numeral-basic basic.Int n = refl
@@ -44,7 +43,7 @@ truth n h = go (eqb n 1) refl
     go true e = sym (eqb-true n 1 e)
     go false e = omega (arith, eqb-false n 1 e)
 
-pub numeral-bits : (b : Basic) (n : ℕ) → Bits (formOf b) n → bitsOfValue (numeral b n) ≡ n
+pub numeral-bits : (b : Basic) (n : ℕ) → Bits (formBy b) n → bitsOfValue (numeral b n) ≡ n
 numeral-bits basic.Int n h = unsigned-signed 4 n h
 numeral-bits basic.UnsignedInt n h = refl
 numeral-bits basic.Long n h = unsigned-signed 8 n h

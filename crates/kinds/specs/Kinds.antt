@@ -9,7 +9,7 @@ use Rattle.kinds.specs.declared.Basic.{Basic}
 use Rattle.kinds.specs.declared.Basic.the-variants.{Int, UnsignedInt, Long, UnsignedLong, Float, Double, HexBinary, String, Boolean, Byte, UnsignedByte, Short, UnsignedShort}
 use Rattle.kinds.specs.declared.Kind.{Kind}
 use Rattle.kinds.specs.declared.Form.{Form}
-use Rattle.kinds.specs.declared.Form.the-variants.{Fixed, Truth, Octets, Text}
+use Rattle.kinds.specs.declared.Form.the-variants.{Fixed, Truth, Led}
 
 -- The table of type numbers: each type's low octet.
 abbrev pub codeOf : Basic → ℕ
@@ -44,21 +44,25 @@ basicOf code = among code basics
 abbrev pub numberOf : Kind → ℕ
 numberOf k = k .derived * 256 + codeOf (k .basic)
 
--- The table's third column: so many octets, a 0 or 1 in one octet, octets or a string behind a length.
-abbrev pub formOf : Basic → Form
-formOf Int = Fixed 4
-formOf UnsignedInt = Fixed 4
-formOf Long = Fixed 8
-formOf UnsignedLong = Fixed 8
-formOf Float = Fixed 4
-formOf Double = Fixed 8
-formOf HexBinary = Octets
-formOf String = Text
-formOf Boolean = Truth
-formOf Byte = Fixed 1
-formOf UnsignedByte = Fixed 1
-formOf Short = Fixed 2
-formOf UnsignedShort = Fixed 2
+-- The table's third column: so many octets, a 0 or 1 in one octet, octets behind a length.
+abbrev pub formBy : Basic → Form
+formBy Int = Fixed 4
+formBy UnsignedInt = Fixed 4
+formBy Long = Fixed 8
+formBy UnsignedLong = Fixed 8
+formBy Float = Fixed 4
+formBy Double = Fixed 8
+formBy HexBinary = Led
+formBy String = Led
+formBy Boolean = Truth
+formBy Byte = Fixed 1
+formBy UnsignedByte = Fixed 1
+formBy Short = Fixed 2
+formBy UnsignedShort = Fixed 2
+
+-- The form of a type's values, which the octet that marks a derived type does not change.
+abbrev pub formOf : Kind → Form
+formOf k = formBy (k .basic)
 
 -- Two's complement: the signed number that has the bits n in w octets.
 unfoldable pub signed : ℕ → ℕ → ℤ

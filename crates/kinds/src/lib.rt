@@ -1,12 +1,18 @@
 // The thirteen basic types: their numbers, and what a type number stands for.
 
 ghost use mathlib.Core.Path.{_≡_};
+ghost use mathlib.Core.Bool.{true};
 ghost use Prim.Native.Nat.{ℕ, _+_, _≤_};
 ghost use lib.ListN.{length};
-ghost use Rattle.kinds.specs.Kinds.{codeOf, formOf, signed, unsigned, kindOf, kindAt};
+ghost use Rattle.kinds.specs.Kinds.{codeOf, formBy, formOf, signed, unsigned, kindOf, kindAt};
+ghost use Rattle.kinds.specs.Forms.{Slim, valueIn};
 ghost use Rattle.kinds.specs.Values.{basicOfValue, bitsOfValue};
 ghost use Rattle.kinds.specs.Answers.{kinds, kindSays, Fitting};
 ghost use Rattle.octets.specs.Limits.{longest};
+ghost use Rattle.octets.specs.Reading.{ok, ends, isOk, reach};
+ghost use Rattle.octets.specs.Answers.{says, Within};
+use octets::Ended;
+use octets::Room;
 
 // A basic type.
 pub enum Basic {
@@ -59,12 +65,11 @@ impl Kind {
     pub const UNSIGNED_SHORT: u32 = 0x2d;
 }
 
-// How a value stands: in so many octets, as 0 or 1 in one octet, as octets or as a string behind a length.
+// How a value stands: in so many octets, as 0 or 1 in one octet, as octets behind a length.
 pub enum Form {
     Fixed(usize),
     Truth,
-    Octets,
-    Text,
+    Led,
 }
 
 // A value by its basic type: float and double as bits; octets are not held here, they stand in a document.
@@ -118,8 +123,8 @@ pub fn code_of(b: Basic) -> u32
 }
 
 // The form of a basic type's values.
-pub fn form_of(b: Basic) -> Form
-    ensures { λ r. ⌜ r ≡ formOf b ⌝ }
+pub fn form_by(b: Basic) -> Form
+    ensures { λ r. ⌜ r ≡ formBy b ⌝ }
 {
     match b {
         Basic::Int => Form::Fixed(4),
@@ -128,14 +133,22 @@ pub fn form_of(b: Basic) -> Form
         Basic::UnsignedLong => Form::Fixed(8),
         Basic::Float => Form::Fixed(4),
         Basic::Double => Form::Fixed(8),
-        Basic::HexBinary => Form::Octets,
-        Basic::String => Form::Text,
+        Basic::HexBinary => Form::Led,
+        Basic::String => Form::Led,
         Basic::Boolean => Form::Truth,
         Basic::Byte => Form::Fixed(1),
         Basic::UnsignedByte => Form::Fixed(1),
         Basic::Short => Form::Fixed(2),
         Basic::UnsignedShort => Form::Fixed(2),
     }
+}
+
+// The form of a type's values.
+pub fn form_of(k: Kind) -> Form
+    ensures { λ r. ⌜ r ≡ formOf k ⌝ }
+{
+    let basic = k.basic;
+    form_by(basic)
 }
 
 // The basic type of a low octet that the table has.
@@ -324,5 +337,53 @@ pub fn kind_at(s: &[u8], at: usize) -> Kinded
     match typed {
         Typed::Is(kind) => Kinded::At(kind),
         Typed::Not(n) => Kinded::Refused(n, at),
+    }
+}
+
+// The type at a place that is known to be accepted.
+pub fn kind_here(s: &[u8], at: usize) -> Kind
+    requires { ⌜ isOk (kindAt (now s) at) ≡ true ⌝ }
+    ensures { λ r. ⌜ ((k : Kind) (next : ℕ) → kindAt (now (s .entry)) at ≡ ok k next → r ≡ k) ⌝ }
+{
+    let t = octets::u32_at(s, at);
+    let derived = (t / 256) as u8;
+    let basic = basic_of(t % 256);
+    Kind { derived, basic }
+}
+
+// The form of the values of the type at a place that is known to be accepted: the one place where a form is read off octets.
+pub fn form_here(s: &[u8], at: usize) -> Form
+    requires { ⌜ isOk (kindAt (now s) at) ≡ true ⌝ }
+    ensures { λ r. ⌜ ((k : Kind) (next : ℕ) → kindAt (now (s .entry)) at ≡ ok k next → r ≡ formOf k) × Slim r ⌝ }
+{
+    form_of(kind_here(s, at))
+}
+
+// The place behind a boolean.
+fn truth_end(s: &[u8], at: usize, room: Room) -> Ended
+    requires { ⌜ (at ≤ 4294967296) × (reach room (now s) ≤ length (now s)) × (length (now s) ≤ longest) ⌝ }
+    ensures { λ r. ⌜ (says r ≡ ends (valueIn room Form.Truth (now (s .entry)) at)) × Within at r (reach room (now (s .entry))) ⌝ }
+{
+    let one = octets::number_end(s, at, room, 1);
+    match one {
+        Ended::Refused(n, p) => Ended::Refused(n, p),
+        Ended::End(next) => {
+            if 1 < octets::u8_at(s, at) {
+                return Ended::Refused(14, at);
+            }
+            Ended::End(next)
+        }
+    }
+}
+
+// The place behind a value of a form.
+pub fn value_end(s: &[u8], at: usize, room: Room, form: Form) -> Ended
+    requires { ⌜ (at ≤ 4294967296) × (reach room (now s) ≤ length (now s)) × (length (now s) ≤ longest) × Slim form ⌝ }
+    ensures { λ r. ⌜ (says r ≡ ends (valueIn room form (now (s .entry)) at)) × Within at r (reach room (now (s .entry))) ⌝ }
+{
+    match form {
+        Form::Fixed(w) => octets::number_end(s, at, room, w),
+        Form::Truth => truth_end(s, at, room),
+        Form::Led => octets::led_end(s, at, room),
     }
 }

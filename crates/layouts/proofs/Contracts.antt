@@ -21,8 +21,6 @@ use Rattle.layouts.specs.declared.Found.the-variants.{At, Nothing}
 use Rattle.layouts.specs.declared.Learning.{Learning}
 use Rattle.layouts.specs.declared.Learning.the-variants.{Known, New, Refused}
 use Rattle.layouts.proofs.layout_end as layout-end
-use Rattle.layouts.proofs.name_end as name-end
-use Rattle.layouts.proofs.name_part as name-part
 use Rattle.layouts.proofs.attribute_skip as attribute-skip
 use Rattle.layouts.proofs.attributes_at as attributes-at
 use Rattle.layouts.proofs.layout_skip as layout-skip
@@ -33,13 +31,11 @@ use Rattle.layouts.proofs.judge as judge
 use Rattle.layouts.proofs.layout_number as layout-number
 use Rattle.layouts.proofs.type_name as type-name
 use Rattle.layouts.proofs.attribute_count as attribute-count
-use Rattle.layouts.proofs.kind_here as kind-here
+use Rattle.layouts.proofs.kind_behind as kind-behind
 use Rattle.layouts.proofs.attribute_kind as attribute-kind
 
 pub record Contracts : Type 0 where
   pub of-layout-end : Once layout-end.Kinds.ps layout-end.Kinds.r layout-end.Reads.Pre layout-end.Reads.Post
-  pub of-name-end : Once name-end.Kinds.ps name-end.Kinds.r name-end.Reads.Pre name-end.Reads.Post
-  pub of-name-part : OnceSeen name-part.Kinds.ps name-part.Kinds.r (λ κs x. now x) name-part.Reads.Pre name-part.Reads.Post
   pub of-attribute-skip : Once attribute-skip.Kinds.ps attribute-skip.Kinds.r attribute-skip.Reads.Pre attribute-skip.Reads.Post
   pub of-attributes-at : Once attributes-at.Kinds.ps attributes-at.Kinds.r attributes-at.Reads.Pre attributes-at.Reads.Post
   pub of-layout-skip : Once layout-skip.Kinds.ps layout-skip.Kinds.r layout-skip.Reads.Pre layout-skip.Reads.Post
@@ -50,7 +46,7 @@ pub record Contracts : Type 0 where
   pub of-layout-number : Once layout-number.Kinds.ps layout-number.Kinds.r layout-number.Reads.Pre layout-number.Reads.Post
   pub of-type-name : OnceSeen type-name.Kinds.ps type-name.Kinds.r (λ κs x. now x) type-name.Reads.Pre type-name.Reads.Post
   pub of-attribute-count : Once attribute-count.Kinds.ps attribute-count.Kinds.r attribute-count.Reads.Pre attribute-count.Reads.Post
-  pub of-kind-here : Once kind-here.Kinds.ps kind-here.Kinds.r kind-here.Reads.Pre kind-here.Reads.Post
+  pub of-kind-behind : Once kind-behind.Kinds.ps kind-behind.Kinds.r kind-behind.Reads.Pre kind-behind.Reads.Post
   pub of-attribute-kind : Once attribute-kind.Kinds.ps attribute-kind.Kinds.r attribute-kind.Reads.Pre attribute-kind.Reads.Post
 
 -- Of more than n attributes there is one of index n.
@@ -97,8 +93,6 @@ pub contracts : Contracts
 contracts =
     record {
       of-layout-end = λ κs a p x y u v e f. (says-once x y (e .0 ∙ sym (f .0)), refl);
-      of-name-end = λ κs a p x y u v e f. (ok-place (e .0) (f .0), refl);
-      of-name-part = λ κs a p x y u v e f. let (xs, next, is) = value-is _ (p .1) in (e xs next is ∙ sym (f xs next is), refl);
       of-attribute-skip = λ κs a p x y u v e f. (ok-place e f, refl);
       of-attributes-at = λ κs a p x y u v e f. (ok-place (e .0) (f .0), refl);
       of-layout-skip = λ κs a p x y u v e f. (ok-place e f, refl);
@@ -109,6 +103,6 @@ contracts =
       of-layout-number = λ κs a p x y u v e f. let (l, next, is) = value-is _ p in (e l next is ∙ sym (f l next is), refl);
       of-type-name = λ κs a p x y u v e f. let (l, next, is) = value-is _ (p .1) in (e l next is ∙ sym (f l next is), refl);
       of-attribute-count = λ κs a p x y u v e f. let (l, next, is) = value-is _ (p .1) in (e l next is ∙ sym (f l next is), refl);
-      of-kind-here = λ κs a p x y u v e f. let (b, next, is) = value-is _ (p .1) in (e b next is ∙ sym (f b next is), refl);
+      of-kind-behind = λ κs a p x y u v e f. let (b, next, is) = value-is _ (p .1) in (e b next is ∙ sym (f b next is), refl);
       of-attribute-kind = λ κs a p x y u v e f. let h = p .1 in let (b, more, is) = nth _ _ (h .more) in (e (h .layout) (h .end) b more (h .reads) is ∙ sym (f (h .layout) (h .end) b more (h .reads) is), refl);
     }

@@ -8,35 +8,17 @@ use lib.ListN.{length, drop}
 use native.Mathlib.Numerals.{add-one}
 use native.Mathlib.Omega.{arith}
 use Rattle.octets.specs.Limits.{mostAttributes}
-use Rattle.octets.specs.Reading.{Read, ok, ends, isOk, be, part, number, text, count, run}
+use Rattle.octets.specs.Reading.{Read, ok, ends, isOk, be, number, text, count, run}
 use Rattle.octets.specs.Writing.{Each, Octet}
 use Rattle.octets.proofs.Spans.{spans-front}
 use Rattle.octets.proofs.Inverse.{after, ok-value, ok-place}
-use Rattle.octets.proofs.Ends.{number-ok, number-room, text-ok, text-room, count-ok, count-room, ends-ok, value-is, run-on, run-none, run-first}
+use Rattle.octets.proofs.Ends.{one-end, number-ok, number-room, count-ok, count-room, ends-ok, value-is, run-on, run-none, run-first}
 use Rattle.octets.proofs.Runs.{run-item, run-length}
 use Rattle.kinds.specs.Kinds.{kindAt}
 use Rattle.kinds.proofs.Table.{kind-is}
 use Rattle.layouts.specs.Layout.{Attribute, Layout, attributeAt, layoutAt}
 use Rattle.layouts.specs.Answers.{Nth}
 use Rattle.layouts.proofs.Layouts.{layout-inverse}
-
--- A reading that is accepted ends at one place.
-pub one-end : {A : Type 0} (r : Read A) {a : A} {n m : ℕ} → r ≡ ok a n → ends r ≡ ok m m → m ≡ n
-one-end r e f = cc (ap ends e, f)
-
--- A string where it stands: its octets are those behind its length.
-pub record Written (s : List ℕ) (at : ℕ) (xs : List ℕ) (next : ℕ) : Type 0 where
-  pub head : at + 4 ≤ length s
-  pub inside : next ≤ length s
-  pub place : next ≡ at + 4 + be 4 s at
-  pub is : part s (at + 4) (be 4 s at) ≡ xs
-
-pub text-fields : (s : List ℕ) (at : ℕ) {xs : List ℕ} {next : ℕ} → text s at ≡ ok xs next → Written s at xs next
-text-fields s at e =
-    let (h, g) = text-room s at (ap isOk e) in
-    let f = text-ok s at h g in
-    let p = ok-place e f in
-    record { head = h; inside = omega arith; place = p; is = ok-value f e }
 
 -- An attribute's fields, its type behind its name.
 pub record Described (s : List ℕ) (at : ℕ) (a : Attribute) (next mid : ℕ) : Type 0 where
@@ -120,6 +102,9 @@ module _ (s : List ℕ) (at : ℕ) where
       ap ends e ∙ sym (rw q (ap ends (layout-fields mid f e .attributes)))
 
   -- The names of what is accepted are accepted.
+  pub attribute-typed : (mid : ℕ) → ends (text s at) ≡ ok mid mid → isOk (attributeAt s at) ≡ true → isOk (kindAt s mid) ≡ true
+  attribute-typed mid f t = let (a, next, e) = value-is (attributeAt s at) t in ap isOk (attribute-fields mid f e .kind)
+
   pub attribute-named : isOk (attributeAt s at) ≡ true → isOk (text s at) ≡ true
   attribute-named t = let (a, next, e) = value-is (attributeAt s at) t in ap isOk (attribute-split e .1 .name)
 

@@ -4,7 +4,7 @@ use mathlib.Core.List.{List, _++_}
 use lib.ListN.{length}
 use Rattle.octets.specs.Limits.{mostAttributes}
 use Rattle.octets.specs.Reading.{Read, ok, _then_, number, text, count, run}
-use Rattle.octets.specs.Writing.{word, textImage, images, Each, Text}
+use Rattle.octets.specs.Writing.{word, ledImage, images, Each, GoodLed}
 use Rattle.kinds.specs.declared.Kind.{Kind}
 use Rattle.kinds.specs.Kinds.{numberOf, kindAt}
 
@@ -31,20 +31,20 @@ layoutAt s at =
     ok (record { number = n; type-name = name; attributes = attributes }) end
 
 unfoldable pub attributeImage : Attribute → List ℕ
-attributeImage a = textImage (a .name) ++ word 4 (numberOf (a .kind))
+attributeImage a = ledImage (a .name) ++ word 4 (numberOf (a .kind))
 
 -- A layout's octets as a book holds them: without the kind.
 unfoldable pub layoutImage : Layout → List ℕ
 layoutImage l =
-    word 4 (l .number) ++ textImage (l .type-name) ++ word 4 (length (l .attributes)) ++ images attributeImage (l .attributes)
+    word 4 (l .number) ++ ledImage (l .type-name) ++ word 4 (length (l .attributes)) ++ images attributeImage (l .attributes)
 
 pub record GoodAttribute (a : Attribute) : Type 0 where
-  pub name : Text (a .name)
+  pub name : GoodLed (a .name)
   pub derived : a .kind .derived < 256
 
 -- A layout inside the limits: numbers that fit their octets, strings of octets, at most 64 attributes.
 pub record GoodLayout (l : Layout) : Type 0 where
   pub number : l .number < 2 ^ 32
-  pub type-name : Text (l .type-name)
+  pub type-name : GoodLed (l .type-name)
   pub few : length (l .attributes) ≤ mostAttributes
   pub attributes : Each GoodAttribute (l .attributes)

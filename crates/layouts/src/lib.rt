@@ -12,11 +12,11 @@ ghost use Rattle.kinds.specs.Kinds.{kindAt};
 ghost use Rattle.layouts.specs.Layout.{Attribute, Layout, attributeAt, layoutAt, layoutImage};
 ghost use Rattle.layouts.specs.Book.{Book, bookImage, bookOf, bookIn, IsBook, layoutsAt};
 ghost use Rattle.layouts.specs.Answers.{among, Image, Holds, Looks, Stood, Finds, Reads, Judges, Nth, Has};
-use kinds::Basic;
 use kinds::Kind;
 use kinds::Kinded;
 use octets::Counted;
 use octets::Ended;
+use octets::Room;
 
 // Where a number was looked up: the place of its layout, or how many layouts there are, none of them its.
 pub enum Looked {
@@ -54,7 +54,7 @@ fn attribute_end(s: &[u8], at: usize) -> Ended
     requires { ⌜ (at ≤ length (now s)) × (length (now s) ≤ longest) ⌝ }
     ensures { λ r. ⌜ (says r ≡ ends (attributeAt (now (s .entry)) at)) × Within at r (length (now (s .entry))) ⌝ }
 {
-    let name = octets::text_end(s, at);
+    let name = octets::led_end(s, at, Room::Document);
     match name {
         Ended::Refused(n, p) => Ended::Refused(n, p),
         Ended::End(next) => kind_end(s, next),
@@ -91,35 +91,17 @@ pub fn layout_end(s: &[u8], at: usize) -> Ended
     if s.len() < at + 4 {
         return Ended::Refused(1, at);
     }
-    let name = octets::text_end(s, at + 4);
+    let name = octets::led_end(s, at + 4, Room::Document);
     match name {
         Ended::Refused(n, p) => Ended::Refused(n, p),
         Ended::End(counted) => {
             let count = octets::count_at(s, counted, octets::MOST_ATTRIBUTES);
             match count {
-                Counted::Not(n, p) => Ended::Refused(n, p),
+                Counted::Refused(n, p) => Ended::Refused(n, p),
                 Counted::Count(k, first) => attributes_end(s, first, k),
             }
         }
     }
-}
-
-// The place behind a name that is known to be accepted.
-pub fn name_end(s: &[u8], at: usize) -> usize
-    requires { ⌜ (length (now s) ≤ longest) × (isOk (text (now s) at) ≡ true) ⌝ }
-    ensures { λ r. ⌜ (ends (text (now (s .entry)) at) ≡ ok r r) × (at + 4 ≤ r) × (r ≤ length (now (s .entry))) ⌝ }
-{
-    at + 4 + (octets::u32_at(s, at) as usize)
-}
-
-// The octets of a name that is known to be accepted.
-pub fn name_part<'s>(s: &'s [u8], at: usize) -> &'s [u8]
-    requires { ⌜ (length (now s) ≤ longest) × (isOk (text (now s) at) ≡ true) ⌝ }
-    ensures { λ r. ⌜ ((xs : List ℕ) (next : ℕ) → text (now (s .entry)) at ≡ ok xs next → now r ≡ xs) ⌝ }
-{
-    let stop = name_end(s, at);
-    let start = at + 4;
-    return &s[start..stop];
 }
 
 // The place behind an attribute that is known to be accepted.
@@ -127,7 +109,7 @@ pub fn attribute_skip(s: &[u8], at: usize) -> usize
     requires { ⌜ (length (now s) ≤ longest) × (isOk (attributeAt (now s) at) ≡ true) ⌝ }
     ensures { λ r. ⌜ ends (attributeAt (now (s .entry)) at) ≡ ok r r ⌝ }
 {
-    name_end(s, at) + 4
+    octets::led_skip(s, at) + 4
 }
 
 // The place of the count of attributes of a layout that is known to be accepted: right behind its type name.
@@ -135,7 +117,7 @@ pub fn attributes_at(s: &[u8], at: usize) -> usize
     requires { ⌜ (length (now s) ≤ longest) × (isOk (layoutAt (now s) at) ≡ true) ⌝ }
     ensures { λ r. ⌜ (ends (text (now (s .entry)) (at + 4)) ≡ ok r r) × (r + 4 ≤ length (now (s .entry))) ⌝ }
 {
-    name_end(s, at + 4)
+    octets::led_skip(s, at + 4)
 }
 
 // The place behind a layout that is known to be accepted: lengths alone are read.
@@ -299,7 +281,7 @@ pub fn type_name<'s>(s: &'s [u8], at: usize) -> &'s [u8]
     requires { ⌜ (length (now s) ≤ longest) × (isOk (layoutAt (now s) at) ≡ true) ⌝ }
     ensures { λ r. ⌜ ((l : Layout) (end : ℕ) → layoutAt (now (s .entry)) at ≡ ok l end → now r ≡ l .type-name) ⌝ }
 {
-    name_part(s, at + 4)
+    octets::led_part(s, at + 4)
 }
 
 // The count of attributes of a layout that is known to be accepted.
@@ -324,19 +306,12 @@ pub fn attribute_place(s: &[u8], at: usize, n: u32) -> usize
     pos
 }
 
-// The type of an attribute that is known to be accepted at a place: a refusal does not come about.
-pub fn kind_here(s: &[u8], at: usize) -> Kind
+// The type behind the name of an attribute that is known to be accepted at a place.
+pub fn kind_behind(s: &[u8], at: usize) -> Kind
     requires { ⌜ (length (now s) ≤ longest) × (isOk (attributeAt (now s) at) ≡ true) ⌝ }
     ensures { λ r. ⌜ ((a : Attribute) (next : ℕ) → attributeAt (now (s .entry)) at ≡ ok a next → r ≡ a .kind) ⌝ }
 {
-    let kind = kinds::kind_at(s, name_end(s, at));
-    match kind {
-        Kinded::At(k) => k,
-        Kinded::Refused(n, p) => Kind {
-            derived: 0,
-            basic: Basic::Int,
-        },
-    }
+    kinds::kind_here(s, octets::led_skip(s, at))
 }
 
 // The type of attribute n.
@@ -345,5 +320,5 @@ pub fn attribute_kind(s: &[u8], at: usize, n: u32) -> Kind
     ensures { λ r. ⌜ ((l : Layout) (end : ℕ) (a : Attribute) (more : List Attribute) → layoutAt (now (s .entry)) at ≡ ok l end → drop n (l .attributes) ≡ a ∷ more → r ≡ a .kind) ⌝ }
 {
     let place = attribute_place(s, at, n);
-    kind_here(s, place)
+    kind_behind(s, place)
 }

@@ -216,7 +216,7 @@ fn element_lines<'d, 'o>(doc: &'d [u8], at: usize, out: &'o mut [u8], n: usize) 
     let mut numbers = [0u64; 64];
     let mut places = [0u32; 64];
     let mut steps = [0u16; 1216];
-    let mut tally = walks::nothing();
+    let mut tally = shelves::nothing();
     let mut pos = at;
     let mut rows: usize = 0;
     let mut used: usize = 0;
@@ -244,7 +244,7 @@ fn element_lines<'d, 'o>(doc: &'d [u8], at: usize, out: &'o mut [u8], n: usize) 
                 to = element_line(doc, pos, rows, &book, used, met, out, to);
                 if used < gone.used {
                     elements::grow(doc, pos, gone.next, &mut book, used);
-                    tally = walks::keep(
+                    tally = shelves::keep(
                         doc,
                         pos + 4,
                         used,

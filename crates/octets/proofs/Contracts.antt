@@ -1,22 +1,25 @@
 -- The contracts of octets themselves: each allows one answer, and one final content of what is lent to be changed. Assumes nothing.
 use Prim.Native.Nat.{ℕ}
 use mathlib.Core.Path.{_≡_, refl, sym, _∙_}
-use Rattle.octets.specs.Contracts.{Once}
-use Rattle.octets.specs.Reading.{Read, stated}
-use Rattle.octets.specs.Answers.{says, counts, reached}
+use Rattle.octets.specs.Contracts.{Once, OnceSeen}
+use Rattle.octets.specs.Reading.{Read}
+use Rattle.octets.specs.Answers.{says, counts}
 use Rattle.octets.specs.declared.Ended.{Ended}
 use Rattle.octets.specs.declared.Ended.the-variants.{End, Refused}
-use Rattle.octets.specs.declared.Reached.{Reached}
-use Rattle.octets.specs.declared.Reached.the-variants.{To, Over}
 use Rattle.octets.specs.declared.Counted.{Counted}
-use Rattle.octets.specs.declared.Counted.the-variants.{Count, Not}
+use Rattle.octets.specs.declared.Counted.the-variants as counted
+use denote.Ref.{now}
+use Rattle.octets.proofs.Ends.{value-is}
+use Rattle.octets.proofs.Inverse.{ok-place}
 use Rattle.octets.proofs.Alike.{_also_}
 use Rattle.octets.proofs.u8_at as u8-at
 use Rattle.octets.proofs.u16_at as u16-at
 use Rattle.octets.proofs.u32_at as u32-at
 use Rattle.octets.proofs.u64_at as u64-at
-use Rattle.octets.proofs.octets_reach as octets-reach
-use Rattle.octets.proofs.text_end as text-end
+use Rattle.octets.proofs.number_end as number-end
+use Rattle.octets.proofs.led_end as led-end
+use Rattle.octets.proofs.led_skip as led-skip
+use Rattle.octets.proofs.led_part as led-part
 use Rattle.octets.proofs.count_at as count-at
 use Rattle.octets.proofs.octets_same as octets-same
 use Rattle.octets.proofs.stands as stands
@@ -30,8 +33,10 @@ pub record Contracts : Type 0 where
   pub of-u16-at : Once u16-at.Kinds.ps u16-at.Kinds.r u16-at.Reads.Pre u16-at.Reads.Post
   pub of-u32-at : Once u32-at.Kinds.ps u32-at.Kinds.r u32-at.Reads.Pre u32-at.Reads.Post
   pub of-u64-at : Once u64-at.Kinds.ps u64-at.Kinds.r u64-at.Reads.Pre u64-at.Reads.Post
-  pub of-octets-reach : Once octets-reach.Kinds.ps octets-reach.Kinds.r octets-reach.Reads.Pre octets-reach.Reads.Post
-  pub of-text-end : Once text-end.Kinds.ps text-end.Kinds.r text-end.Reads.Pre text-end.Reads.Post
+  pub of-number-end : Once number-end.Kinds.ps number-end.Kinds.r number-end.Reads.Pre number-end.Reads.Post
+  pub of-led-end : Once led-end.Kinds.ps led-end.Kinds.r led-end.Reads.Pre led-end.Reads.Post
+  pub of-led-skip : Once led-skip.Kinds.ps led-skip.Kinds.r led-skip.Reads.Pre led-skip.Reads.Post
+  pub of-led-part : OnceSeen led-part.Kinds.ps led-part.Kinds.r (λ κs x. now x) led-part.Reads.Pre led-part.Reads.Post
   pub of-count-at : Once count-at.Kinds.ps count-at.Kinds.r count-at.Reads.Pre count-at.Reads.Post
   pub of-octets-same : Once octets-same.Kinds.ps octets-same.Kinds.r octets-same.Reads.Pre octets-same.Reads.Post
   pub of-stands : Once stands.Kinds.ps stands.Kinds.r stands.Reads.Pre stands.Reads.Post
@@ -48,17 +53,10 @@ says-once (Refused n p) (End q) e = cc
 says-once (Refused n p) (Refused m q) e = cc
 
 pub counts-once : (x y : Counted) → counts x ≡ counts y → x ≡ y
-counts-once (Count k p) (Count l q) e = cc
-counts-once (Count k p) (Not m q) e = cc
-counts-once (Not n p) (Count l q) e = cc
-counts-once (Not n p) (Not m q) e = cc
-
--- Inside a stated room.
-reached-once : (end at : ℕ) (x y : Reached) → reached (stated end 0) at x ≡ reached (stated end 0) at y → x ≡ y
-reached-once end at (To p) (To q) e = cc
-reached-once end at (To p) Over e = cc
-reached-once end at Over (To q) e = cc
-reached-once end at Over Over e = refl
+counts-once (counted.Count k p) (counted.Count l q) e = cc
+counts-once (counted.Count k p) (counted.Refused m q) e = cc
+counts-once (counted.Refused n p) (counted.Count l q) e = cc
+counts-once (counted.Refused n p) (counted.Refused m q) e = cc
 
 pub contracts : Contracts
 contracts =
@@ -67,8 +65,10 @@ contracts =
       of-u16-at = λ κs a p x y u v e f. (e ∙ sym f, refl);
       of-u32-at = λ κs a p x y u v e f. (e ∙ sym f, refl);
       of-u64-at = λ κs a p x y u v e f. (e ∙ sym f, refl);
-      of-octets-reach = λ κs a p x y u v e f. (reached-once _ _ x y (e .0 (stated _ 0) refl ∙ sym (f .0 (stated _ 0) refl)), refl);
-      of-text-end = λ κs a p x y u v e f. (says-once x y (e .0 ∙ sym (f .0)), refl);
+      of-number-end = λ κs a p x y u v e f. (says-once x y (e .0 ∙ sym (f .0)), refl);
+      of-led-end = λ κs a p x y u v e f. (says-once x y (e .0 ∙ sym (f .0)), refl);
+      of-led-skip = λ κs a p x y u v e f. (ok-place (e .0) (f .0), refl);
+      of-led-part = λ κs a p x y u v e f. let (xs, next, is) = value-is _ (p .1) in (e xs next is ∙ sym (f xs next is), refl);
       of-count-at = λ κs a p x y u v e f. (counts-once x y (e .0 ∙ sym (f .0)), refl);
       of-octets-same = λ κs a p x y u v e f. (e ∙ sym f, refl);
       of-stands = λ κs a p x y u v e f. (e ∙ sym f, refl);

@@ -4,6 +4,8 @@ use mathlib.Core.List.{List, [], _∷_}
 use mathlib.Core.Bool.{Bool, true, false, _&&_}
 use lib.ListN.{length, getD, take, drop}
 use lib.Dec.{leb, eqb}
+use Rattle.octets.specs.declared.Room.{Room}
+use Rattle.octets.specs.declared.Room.the-variants.{Document, Stated}
 
 -- What is read: the value and the next place, or the refusal's number and place and nothing else.
 pub data Read (A : Type 0) : Type 0 where
@@ -45,39 +47,31 @@ unfoldable pub part : List ℕ → ℕ → ℕ → List ℕ
 part s at n = take n (drop at s)
 
 -- How far a field may reach: to the document's end, or to the end of a row whose stated length stands at a place.
-pub data Room : Type 0 where
-  document : Room
-  stated : ℕ → ℕ → Room
-
 abbrev pub reach : Room → List ℕ → ℕ
-reach document s = length s
-reach (stated end length-at) s = end
+reach Document s = length s
+reach (Stated end length-at) s = end
 
 -- Refusal 1, at the field or the length that passes the document's end; 13, at the row's length, inside a stated row.
 abbrev pub overrun : {A : Type 0} → Room → ℕ → Read A
-overrun document at = no 1 at
-overrun (stated end length-at) at = no 13 length-at
+overrun Document at = no 1 at
+overrun (Stated end length-at) at = no 13 length-at
 
 -- A number of w octets.
 unfoldable pub numberIn : Room → ℕ → List ℕ → ℕ → Read ℕ
 numberIn room w s at = choose (leb (at + w) (reach room s)) (λ _. ok (be w s at) (at + w)) (λ _. overrun room at)
 
 -- A four-octet length and that many octets, perhaps none; where they do not fit, the place is the length's.
-unfoldable pub octetsIn : Room → List ℕ → ℕ → Read (List ℕ)
-octetsIn room s at =
+unfoldable pub ledIn : Room → List ℕ → ℕ → Read (List ℕ)
+ledIn room s at =
     numberIn room 4 s at then λ n next.
     choose (leb (next + n) (reach room s)) (λ _. ok (part s next n) (next + n)) (λ _. overrun room at)
 
--- A string: its octets are unchecked.
-unfoldable pub textIn : Room → List ℕ → ℕ → Read (List ℕ)
-textIn room s at = octetsIn room s at
-
--- A number and a string that only the document's end bounds.
+-- A number and a string that only the document's end bounds; a string is octets behind a length, of which nothing more is asked.
 abbrev pub number : ℕ → List ℕ → ℕ → Read ℕ
-number = numberIn document
+number = numberIn Document
 
 abbrev pub text : List ℕ → ℕ → Read (List ℕ)
-text = textIn document
+text = ledIn Document
 
 -- Refusal 4: a count over its limit, at the count.
 unfoldable pub count : ℕ → List ℕ → ℕ → Read ℕ

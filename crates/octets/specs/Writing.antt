@@ -9,8 +9,8 @@ word zero n = []
 word (suc w) n = word w (n / 256) ++ n % 256 ∷ []
 
 -- A four-octet length and that many octets. No padding anywhere.
-unfoldable pub textImage : List ℕ → List ℕ
-textImage xs = word 4 (length xs) ++ xs
+unfoldable pub ledImage : List ℕ → List ℕ
+ledImage xs = word 4 (length xs) ++ xs
 
 -- The images of a list's items, one after another.
 unfoldable pub images : {A : Type 0} → (A → List ℕ) → List A → List ℕ
@@ -30,5 +30,5 @@ abbrev pub Octet : ℕ → Type 0
 Octet x = x < 256
 
 -- Octets whose count fits a four-octet length: those that have an image.
-abbrev pub Text : List ℕ → Type 0
-Text xs = Each Octet xs × (length xs < 2 ^ 32)
+abbrev pub GoodLed : List ℕ → Type 0
+GoodLed xs = Each Octet xs × (length xs < 2 ^ 32)

@@ -1,13 +1,14 @@
 // Numbers and length-led octets: read at a place, compared where they stand, put into the rest of a lent buffer.
 
 ghost use mathlib.Core.Path.{_≡_};
-ghost use mathlib.Core.List.{_++_};
-ghost use Prim.Native.Nat.{_+_, _≤_, _<_};
+ghost use mathlib.Core.Bool.{true};
+ghost use mathlib.Core.List.{List, _++_};
+ghost use Prim.Native.Nat.{ℕ, _+_, _≤_, _<_};
 ghost use lib.ListN.{length, drop};
 ghost use Rattle.octets.specs.Limits.{longest};
-ghost use Rattle.octets.specs.Reading.{Room, reach, be, part, same, ends, octetsIn, text, count};
+ghost use Rattle.octets.specs.Reading.{ok, reach, overrun, be, part, same, ends, isOk, numberIn, ledIn, text, count};
 ghost use Rattle.octets.specs.Writing.{word, over};
-ghost use Rattle.octets.specs.Answers.{says, counts, reached, Within, Counting, Reaching};
+ghost use Rattle.octets.specs.Answers.{says, counts, Within, CountWithin};
 
 // The most octets of a document, and the most rows that a step may be told.
 pub const LONGEST: usize = 1048576;
@@ -36,13 +37,13 @@ pub enum Ended {
 // A count with the place behind it, or a refusal by number and place.
 pub enum Counted {
     Count(u32, usize),
-    Not(u32, usize),
+    Refused(u32, usize),
 }
 
-// The place behind what was read, or that it passes the end of its room.
-pub enum Reached {
-    To(usize),
-    Over,
+// How far a field may reach: to the document's end, or to the end of a row whose length is stated, with the place of that length.
+pub enum Room {
+    Document,
+    Stated(usize, usize),
 }
 
 fn wide(x: u8) -> u32
@@ -95,44 +96,90 @@ pub fn u64_at(s: &[u8], at: usize) -> u64
     high * 4294967296 + low
 }
 
-// The place behind length-led octets that may reach to an end: a document's, or a stated row's.
-pub fn octets_reach(s: &[u8], at: usize, end: usize) -> Reached
-    requires { ⌜ (at ≤ end) × (end ≤ length (now s)) × (length (now s) ≤ longest) ⌝ }
-    ensures { λ r. ⌜ ((room : Room) → reach room (now (s .entry)) ≡ end → reached room at r ≡ ends (octetsIn room (now (s .entry)) at)) × Reaching at r end ⌝ }
+// How far a room reaches.
+fn reach(room: Room, s: &[u8]) -> usize
+    ensures { λ r. ⌜ r ≡ reach room (now (s .entry)) ⌝ }
 {
-    if end < at + 4 {
-        return Reached::Over;
+    match room {
+        Room::Document => s.len(),
+        Room::Stated(end, length_at) => end,
     }
-    let n = u32_at(s, at) as usize;
-    if end < at + 4 + n {
-        return Reached::Over;
-    }
-    Reached::To(at + 4 + n)
 }
 
-// The place behind the string at a place of a document or a book.
-pub fn text_end(s: &[u8], at: usize) -> Ended
-    requires { ⌜ (at ≤ length (now s)) × (length (now s) ≤ longest) ⌝ }
-    ensures { λ r. ⌜ (says r ≡ ends (text (now (s .entry)) at)) × Within at r (length (now (s .entry))) ⌝ }
+// The refusal of a field that passes the end of its room.
+fn overrun(room: Room, at: usize) -> Ended
+    ensures { λ r. ⌜ says r ≡ overrun room at ⌝ }
 {
-    let reached = octets_reach(s, at, s.len());
-    match reached {
-        Reached::To(next) => Ended::End(next),
-        Reached::Over => Ended::Refused(1, at),
+    match room {
+        Room::Document => Ended::Refused(1, at),
+        Room::Stated(end, length_at) => Ended::Refused(13, length_at),
     }
+}
+
+// The place behind a number of so many octets.
+pub fn number_end(s: &[u8], at: usize, room: Room, w: usize) -> Ended
+    requires { ⌜ (at ≤ 4294967296) × (reach room (now s) ≤ length (now s)) × (length (now s) ≤ longest) × (w ≤ 8) ⌝ }
+    ensures { λ r. ⌜ (says r ≡ ends (numberIn room w (now (s .entry)) at)) × Within at r (reach room (now (s .entry))) ⌝ }
+{
+    if reach(room, s) < at + w {
+        return overrun(room, at);
+    }
+    Ended::End(at + w)
+}
+
+// The place behind the octets whose length stands at a place: the one place that says where they end.
+fn led_behind(s: &[u8], at: usize) -> usize
+    requires { ⌜ (at + 4 ≤ length (now s)) × (length (now s) ≤ longest) ⌝ }
+    ensures { λ r. ⌜ r ≡ at + 4 + be 4 (now (s .entry)) at ⌝ }
+{
+    at + 4 + (u32_at(s, at) as usize)
+}
+
+// The place behind octets and their length.
+pub fn led_end(s: &[u8], at: usize, room: Room) -> Ended
+    requires { ⌜ (at ≤ 4294967296) × (reach room (now s) ≤ length (now s)) × (length (now s) ≤ longest) ⌝ }
+    ensures { λ r. ⌜ (says r ≡ ends (ledIn room (now (s .entry)) at)) × Within at r (reach room (now (s .entry))) ⌝ }
+{
+    let end = reach(room, s);
+    if end < at + 4 {
+        return overrun(room, at);
+    }
+    let next = led_behind(s, at);
+    if end < next {
+        return overrun(room, at);
+    }
+    Ended::End(next)
+}
+
+// The place behind octets that are known to be accepted.
+pub fn led_skip(s: &[u8], at: usize) -> usize
+    requires { ⌜ (length (now s) ≤ longest) × (isOk (text (now s) at) ≡ true) ⌝ }
+    ensures { λ r. ⌜ (ends (text (now (s .entry)) at) ≡ ok r r) × (at + 4 ≤ r) × (r ≤ length (now (s .entry))) ⌝ }
+{
+    led_behind(s, at)
+}
+
+// The octets behind a length that are known to be accepted.
+pub fn led_part<'s>(s: &'s [u8], at: usize) -> &'s [u8]
+    requires { ⌜ (length (now s) ≤ longest) × (isOk (text (now s) at) ≡ true) ⌝ }
+    ensures { λ r. ⌜ ((xs : List ℕ) (next : ℕ) → text (now (s .entry)) at ≡ ok xs next → now r ≡ xs) ⌝ }
+{
+    let stop = led_skip(s, at);
+    let start = at + 4;
+    return &s[start..stop];
 }
 
 // The count at a place, which is at most a limit.
 pub fn count_at(s: &[u8], at: usize, most: u32) -> Counted
     requires { ⌜ (at ≤ length (now s)) × (length (now s) ≤ longest) ⌝ }
-    ensures { λ r. ⌜ (counts r ≡ count most (now (s .entry)) at) × Counting at r (length (now (s .entry))) ⌝ }
+    ensures { λ r. ⌜ (counts r ≡ count most (now (s .entry)) at) × CountWithin at r (length (now (s .entry))) ⌝ }
 {
     if s.len() < at + 4 {
-        return Counted::Not(1, at);
+        return Counted::Refused(1, at);
     }
     let n = u32_at(s, at);
     if most < n {
-        return Counted::Not(4, at);
+        return Counted::Refused(4, at);
     }
     Counted::Count(n, at + 4)
 }

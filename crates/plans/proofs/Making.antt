@@ -49,10 +49,10 @@ begins-set s at j x xs b e h =
 plan-some : (sum : ℕ) (xs : List Attribute) → 0 < length (planOf sum xs)
 unfolding planOf
 plan-some sum [] = omega arith
-plan-some sum (a ∷ others) = go (eqb (mark (formOf (a .kind .basic)) % 4) 0) (plan-some (sum + mark (formOf (a .kind .basic))) others)
+plan-some sum (a ∷ others) = go (eqb (mark (formOf (a .kind)) % 4) 0) (plan-some (sum + mark (formOf (a .kind))) others)
   where
-    go : (b : Bool) → 0 < length (planOf (sum + mark (formOf (a .kind .basic))) others)
-        → 0 < length (choose b (λ _. planOf (sum + mark (formOf (a .kind .basic))) others) (λ _. (sum + mark (formOf (a .kind .basic))) ∷ planOf 0 others))
+    go : (b : Bool) → 0 < length (planOf (sum + mark (formOf (a .kind))) others)
+        → 0 < length (choose b (λ _. planOf (sum + mark (formOf (a .kind))) others) (λ _. (sum + mark (formOf (a .kind))) ∷ planOf 0 others))
     go true h = h
     go false h = omega arith
 
@@ -77,9 +77,9 @@ module _ (doc : List ℕ) (xs : List Attribute) (last from : ℕ) where
       pub attribute : Attribute
       pub next : ℕ
       pub reads : attributeAt doc place ≡ ok attribute next
-      pub on : mark (formOf (attribute .kind .basic)) % 4 ≡ 0 → Making doc steps xs last from k next j (sum + mark (formOf (attribute .kind .basic)))
-      pub close : (mark (formOf (attribute .kind .basic)) % 4 ≡ 0 → ⊥) → j < length steps
-          → Making doc (set steps j (sum + mark (formOf (attribute .kind .basic)))) xs last from k next (j + 1) 0
+      pub on : mark (formOf (attribute .kind)) % 4 ≡ 0 → Making doc steps xs last from k next j (sum + mark (formOf (attribute .kind)))
+      pub close : (mark (formOf (attribute .kind)) % 4 ≡ 0 → ⊥) → j < length steps
+          → Making doc (set steps j (sum + mark (formOf (attribute .kind)))) xs last from k next (j + 1) 0
 
     pub making-next : Next
     unfolding run planOf
@@ -89,7 +89,7 @@ module _ (doc : List ℕ) (xs : List Attribute) (last from : ℕ) where
         let is : m .others ≡ a ∷ rest = ok-value e₄ refl in
         let place : last ≡ end = ok-place e₄ refl in
         let reads : run (attributeAt doc) k next ≡ ok rest last = e₃ ∙ ap (ok rest) (sym place) in
-        let n = mark (formOf (a .kind .basic)) in
+        let n = mark (formOf (a .kind)) in
         let split : planOf 0 xs ≡ m .made ++ planOf sum (a ∷ rest) = m .split ∙ ap (λ (ys : List Attribute). m .made ++ planOf sum ys) is in
         record {
           attribute = a;

@@ -8,17 +8,24 @@ use native.Mathlib.Omega.{arith}
 use lib.ListN.{length, getD}
 use lib.Dec.{leb}
 use borrow.Author.Tests.{leb-true, leb-false, eq-eqb, ne-eqb}
-use Rattle.octets.specs.Reading.{ok, ends, isOk, be, Room, reach, overrun, octetsIn}
+use Rattle.octets.specs.Reading.{ok, ends, isOk, be, reach, ledIn}
+use Rattle.octets.specs.Answers.{says, Within}
+use Rattle.octets.specs.declared.Room.{Room}
+use Rattle.octets.specs.declared.Room.the-variants.{Stated}
+use Rattle.octets.specs.declared.Ended.{Ended}
+use Rattle.octets.specs.declared.Ended.the-variants.{End, Refused}
 use Rattle.octets.proofs.Spans.{Spans, middle, one-is, part-spans, part-is}
 use Rattle.kinds.specs.declared.Form.{Form}
 use Rattle.kinds.specs.declared.Form.the-variants as form
 use Rattle.kinds.specs.Kinds.{formOf}
 use Rattle.layouts.specs.Layout.{Attribute}
-use Rattle.rows.specs.Row.{valueIn, fieldsIn}
-use Rattle.octets.proofs.Ends.{ends-ok, ok-alike, overrun-ends, overrun-no, octets-in, octets-cut, octets-over}
-use Rattle.rows.proofs.Values.{fixed-ok, fixed-over, truth-ok, truth-over, truth-bad, octets-value, text-value, fields-none, fields-on, fields-no}
+use Rattle.rows.specs.Row.{fieldsIn}
+use Rattle.kinds.specs.Forms.{valueIn}
+use Rattle.octets.proofs.Ends.{ends-ok, ok-alike, number-in, number-over, overrun-ends, overrun-no}
+use Rattle.kinds.proofs.Forms.{fixed-ends, led-ends, truth-ok, truth-over, truth-bad, value-ends, value-refused}
+use Rattle.rows.proofs.Values.{fields-none, fields-on, fields-no}
 use Rattle.plans.specs.Plan.{mark, planOf, Begins}
-use Rattle.plans.specs.Answers.{closing}
+use Rattle.plans.specs.Answers.{passedOf, closing, Closes}
 
 -- What the first step of a plan behind v octets says, of values that end and of values that are refused.
 pub data Walk (v : ℕ) (xs : List Attribute) : Type 0 where
@@ -30,20 +37,22 @@ pub data Walk (v : ℕ) (xs : List Attribute) : Type 0 where
       → ((room : Room) (s : List ℕ) (at : ℕ) → isOk (valueIn room (closing k) s (at + w)) ≡ false → isOk (fieldsIn room xs s at) ≡ false) → Walk v xs
 
 module _ (v : ℕ) (a : Attribute) (others : List Attribute) where
-  plan-on : mark (formOf (a .kind .basic)) % 4 ≡ 0 → planOf (v * 4) (a ∷ others) ≡ planOf (v * 4 + mark (formOf (a .kind .basic))) others
+  plan-on : mark (formOf (a .kind)) % 4 ≡ 0 → planOf (v * 4) (a ∷ others) ≡ planOf (v * 4 + mark (formOf (a .kind))) others
   unfolding planOf
-  plan-on e = rw (eq-eqb (mark (formOf (a .kind .basic)) % 4) 0 e) refl
+  plan-on e = rw (eq-eqb (mark (formOf (a .kind)) % 4) 0 e) refl
 
-  plan-close : (mark (formOf (a .kind .basic)) % 4 ≡ 0 → ⊥) → planOf (v * 4) (a ∷ others) ≡ (v * 4 + mark (formOf (a .kind .basic))) ∷ planOf 0 others
+  plan-close : (mark (formOf (a .kind)) % 4 ≡ 0 → ⊥) → planOf (v * 4) (a ∷ others) ≡ (v * 4 + mark (formOf (a .kind))) ∷ planOf 0 others
   unfolding planOf
-  plan-close e = rw (ne-eqb (mark (formOf (a .kind .basic)) % 4) 0 e) refl
+  plan-close e = rw (ne-eqb (mark (formOf (a .kind)) % 4) 0 e) refl
 
   -- A number joins the sum.
-  fixed : (w : ℕ) → formOf (a .kind .basic) ≡ form.Fixed w → Walk (v + w) others → Walk v (a ∷ others)
+  fixed : (w : ℕ) → formOf (a .kind) ≡ form.Fixed w → Walk (v + w) others → Walk v (a ∷ others)
   fixed w f walk = go walk
     where
       value : (room : Room) (s : List ℕ) (at : ℕ) → at + w ≤ reach room s → ends (fieldsIn room (a ∷ others) s at) ≡ ends (fieldsIn room others s (at + w))
-      value room s at h = fields-on room s at a others (at + w) (ap (λ (x : Form). ends (valueIn room x s at)) f ∙ fixed-ok room s at w h)
+      value room s at h =
+          fields-on room s at a others (at + w)
+          (ap (λ (x : Form). ends (valueIn room x s at)) f ∙ (fixed-ends room s at w ∙ ap ends (number-in room s at w h)))
 
       -- Where the values behind it are refused, or it passes the end, all are.
       refused : (room : Room) (s : List ℕ) (at : ℕ) → (at + w ≤ reach room s → isOk (fieldsIn room others s (at + w)) ≡ false) → isOk (fieldsIn room (a ∷ others) s at) ≡ false
@@ -56,7 +65,8 @@ module _ (v : ℕ) (a : Attribute) (others : List Attribute) where
           split false t =
               fields-no room s at a others
               (ap (λ (x : Form). isOk (valueIn room x s at)) f
-              ∙ overrun-no (valueIn room (form.Fixed w) s at) room at (fixed-over room s at w (leb-false (at + w) (reach room s) t)))
+              ∙ overrun-no (valueIn room (form.Fixed w) s at) room at
+              (fixed-ends room s at w ∙ (ap ends (number-over room s at w (leb-false (at + w) (reach room s) t)) ∙ overrun-ends ℕ room at)))
 
       plan : planOf (v * 4) (a ∷ others) ≡ planOf ((v + w) * 4) others
       plan = plan-on (ap (λ (x : Form). mark x % 4) f ∙ omega arith) ∙ ap (λ (n : ℕ). planOf n others) (ap (λ (x : Form). v * 4 + mark x) f ∙ omega arith)
@@ -73,18 +83,17 @@ module _ (v : ℕ) (a : Attribute) (others : List Attribute) where
           λ room s at q. refused room s at λ m. bad room s (at + w) (subst (λ (m : ℕ). isOk (valueIn room (closing k) s m) ≡ false) (omega arith) q)
 
   -- Any other value closes the step.
-  closes : (f : Form) (k : ℕ) → formOf (a .kind .basic) ≡ f → mark f ≡ k → 0 < k → k < 4
-      → ((room : Room) (s : List ℕ) (at : ℕ) → ends (valueIn room f s at) ≡ ends (valueIn room (closing k) s at)) → Walk v (a ∷ others)
-  closes f k e m z y alike =
-      let is : mark (formOf (a .kind .basic)) ≡ k = ap mark e ∙ m in
-      more 0 k others z y (plan-close (λ q. absurd (never k z y (sym (ap (λ (n : ℕ). n % 4) is) ∙ q))) ∙ ap (λ (n : ℕ). n ∷ planOf 0 others) (sum (mark (formOf (a .kind .basic))) is))
+  closes : (f : Form) (k : ℕ) → formOf (a .kind) ≡ f → mark f ≡ k → 0 < k → k < 4 → closing k ≡ f → Walk v (a ∷ others)
+  closes f k e m z y is-form =
+      let is : mark (formOf (a .kind)) ≡ k = ap mark e ∙ m in
+      let same : formOf (a .kind) ≡ closing k = e ∙ sym is-form in
+      more 0 k others z y (plan-close (λ q. absurd (never k z y (sym (ap (λ (n : ℕ). n % 4) is) ∙ q))) ∙ ap (λ (n : ℕ). n ∷ planOf 0 others) (sum (mark (formOf (a .kind))) is))
       (λ room s at p h q.
       fields-on room s at a others p
-      (ap (λ (x : Form). ends (valueIn room x s at)) e ∙ (alike room s at ∙ subst (λ (n : ℕ). ends (valueIn room (closing k) s n) ≡ ok p p) (omega arith) q)))
+      (ap (λ (x : Form). ends (valueIn room x s at)) same ∙ subst (λ (n : ℕ). ends (valueIn room (closing k) s n) ≡ ok p p) (omega arith) q))
       λ room s at q.
       fields-no room s at a others
-      (ap (λ (x : Form). isOk (valueIn room x s at)) e
-      ∙ (ok-alike (valueIn room f s at) (valueIn room (closing k) s at) (alike room s at) ∙ subst (λ (n : ℕ). isOk (valueIn room (closing k) s n) ≡ false) (omega arith) q))
+      (ap (λ (x : Form). isOk (valueIn room x s at)) same ∙ subst (λ (n : ℕ). isOk (valueIn room (closing k) s n) ≡ false) (omega arith) q)
     where
       never : (k : ℕ) → 0 < k → k < 4 → k % 4 ≡ 0 → ⊥
       never k z y q = omega arith
@@ -96,13 +105,12 @@ pub walk : (v : ℕ) (xs : List Attribute) → Walk v xs
 unfolding planOf
 walk v [] =
     last 0 (ap (λ (m : ℕ). m ∷ []) (omega arith)) (λ room s at h. fields-none room s at ∙ ap (λ (m : ℕ). ok m m) (omega arith)) λ room s at h q. absurd (omega arith)
-walk v (a ∷ others) = go (formOf (a .kind .basic)) refl (λ w. walk (v + w) others)
+walk v (a ∷ others) = go (formOf (a .kind)) refl (λ w. walk (v + w) others)
   where
-    go : (f : Form) → formOf (a .kind .basic) ≡ f → ((w : ℕ) → Walk (v + w) others) → Walk v (a ∷ others)
+    go : (f : Form) → formOf (a .kind) ≡ f → ((w : ℕ) → Walk (v + w) others) → Walk v (a ∷ others)
     go (form.Fixed w) e again = fixed v a others w e (again w)
-    go form.Truth e again = closes v a others form.Truth 2 e refl (omega arith) (omega arith) (λ room s at. refl)
-    go form.Octets e again = closes v a others form.Octets 1 e refl (omega arith) (omega arith) (λ room s at. refl)
-    go form.Text e again = closes v a others form.Text 1 e refl (omega arith) (omega arith) (λ room s at. text-value room s at ∙ sym (octets-value room s at))
+    go form.Truth e again = closes v a others form.Truth 2 e refl (omega arith) (omega arith) refl
+    go form.Led e again = closes v a others form.Led 1 e refl (omega arith) (omega arith) refl
 
 -- What begins at a place, as a span and back.
 pub begins-spans : (s : List ℕ) (at : ℕ) (xs : List ℕ) → Begins s at xs → Spans s (length s) at (at + length xs) xs
@@ -196,25 +204,24 @@ module _ (s steps : List ℕ) (end : ℕ) (xs : List Attribute) (at pos j : ℕ)
             rest : (w m : ℕ) → 0 < m → m < 4 → step ≡ (0 + w) * 4 + m → m ≡ step % 4
             rest w m z y e = omega arith
 
--- The value that closes a step.
-module _ (room : Room) (s : List ℕ) (at kind : ℕ) where
-  over : octetsIn room s at ≡ overrun room at → isOk (valueIn room form.Octets s at) ≡ false
-  over e = overrun-no (valueIn room form.Octets s at) room at (octets-value room s at ∙ (ap ends e ∙ overrun-ends (List ℕ) room at))
+-- Octets that close a step, by their end in one room of that reach.
+pub closes-led : (s : List ℕ) (at end kind : ℕ) (x : Ended) → kind ≡ 1 → says x ≡ ends (ledIn (Stated end 0) s at) → Within at x end → Closes s at end kind (passedOf x)
+closes-led s at end kind (End p) k e w =
+    (w .0, w .1, λ room h. rw (eq-eqb kind 1 k) (value-ends s at form.Led (Stated end 0) room (sym h) p (led-ends (Stated end 0) s at ∙ sym e)))
+closes-led s at end kind (Refused n p) k e w = λ room h.
+    rw (eq-eqb kind 1 k)
+    (value-refused s at form.Led (Stated end 0) room (sym h)
+    (sym (ends-ok (valueIn (Stated end 0) form.Led s at)) ∙ (ap isOk (led-ends (Stated end 0) s at) ∙ sym (ap isOk e))))
 
-  pub close-octets : kind ≡ 1 → at + 4 ≤ reach room s → at + 4 + be 4 s at ≤ reach room s → ends (valueIn room (closing kind) s at) ≡ ok (at + 4 + be 4 s at) (at + 4 + be 4 s at)
-  close-octets e h g = rw (eq-eqb kind 1 e) (octets-value room s at ∙ ap ends (octets-in room s at h g))
+-- A boolean that closes a step.
+module _ (room : Room) (s : List ℕ) (at kind : ℕ) (other : kind ≡ 1 → ⊥) where
+  pub close-truth : at + 1 ≤ reach room s → be 1 s at ≤ 1 → ends (valueIn room (closing kind) s at) ≡ ok (at + 1) (at + 1)
+  close-truth h g = rw (ne-eqb kind 1 other) (truth-ok room s at h g)
 
-  pub close-truth : (kind ≡ 1 → ⊥) → at + 1 ≤ reach room s → be 1 s at ≤ 1 → ends (valueIn room (closing kind) s at) ≡ ok (at + 1) (at + 1)
-  close-truth e h g = rw (ne-eqb kind 1 e) (truth-ok room s at h g)
+  pub close-none : reach room s < at + 1 → isOk (valueIn room (closing kind) s at) ≡ false
+  close-none h =
+      rw (ne-eqb kind 1 other)
+      (overrun-no (valueIn room form.Truth s at) room at (truth-over room s at h))
 
-  pub close-cut : kind ≡ 1 → reach room s < at + 4 → isOk (valueIn room (closing kind) s at) ≡ false
-  close-cut e h = rw (eq-eqb kind 1 e) (over (octets-cut room s at h))
-
-  pub close-over : kind ≡ 1 → at + 4 ≤ reach room s → reach room s < at + 4 + be 4 s at → isOk (valueIn room (closing kind) s at) ≡ false
-  close-over e h g = rw (eq-eqb kind 1 e) (over (octets-over room s at h g))
-
-  pub close-none : (kind ≡ 1 → ⊥) → reach room s < at + 1 → isOk (valueIn room (closing kind) s at) ≡ false
-  close-none e h = rw (ne-eqb kind 1 e) (overrun-no (valueIn room form.Truth s at) room at (truth-over room s at h))
-
-  pub close-bad : (kind ≡ 1 → ⊥) → at + 1 ≤ reach room s → 1 < be 1 s at → isOk (valueIn room (closing kind) s at) ≡ false
-  close-bad e h g = rw (ne-eqb kind 1 e) (sym (ends-ok (valueIn room form.Truth s at)) ∙ ap isOk (truth-bad room s at h g))
+  pub close-bad : at + 1 ≤ reach room s → 1 < be 1 s at → isOk (valueIn room (closing kind) s at) ≡ false
+  close-bad h g = rw (ne-eqb kind 1 other) (sym (ends-ok (valueIn room form.Truth s at)) ∙ ap isOk (truth-bad room s at h g))

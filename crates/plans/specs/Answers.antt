@@ -5,11 +5,15 @@ use mathlib.Core.List.{List}
 use mathlib.Core.Bool.{false}
 use lib.ListN.{length}
 use lib.Dec.{eqb}
-use Rattle.octets.specs.Reading.{ok, ends, isOk, choose, be, Room, reach}
+use Rattle.octets.specs.Reading.{ok, ends, isOk, choose, be, reach}
+use Rattle.octets.specs.declared.Room.{Room}
+use Rattle.octets.specs.declared.Ended.{Ended}
+use Rattle.octets.specs.declared.Ended.the-variants as ended
 use Rattle.kinds.specs.declared.Form.{Form}
 use Rattle.kinds.specs.declared.Form.the-variants as form
 use Rattle.layouts.specs.Layout.{Attribute}
-use Rattle.rows.specs.Row.{valueIn, fieldsIn, valuesAt}
+use Rattle.rows.specs.Row.{fieldsIn, valuesAt}
+use Rattle.kinds.specs.Forms.{valueIn}
 use Rattle.plans.specs.Plan.{planOf, Begins}
 use Rattle.plans.specs.declared.Put.{Put}
 use Rattle.plans.specs.declared.Put.the-variants as put
@@ -21,9 +25,14 @@ abbrev pub Puts : List ℕ → ℕ → ℕ → List ℕ → Put → Type 0
 Puts steps from to plan (put.To end) = (end ≡ from + length plan) × (end ≤ to) × Begins steps from plan
 Puts steps from to plan put.Full = to < from + length plan
 
+-- An end, or that there is none.
+abbrev pub passedOf : Ended → Passed
+passedOf (ended.End p) = passed.To p
+passedOf (ended.Refused n p) = passed.Unsure
+
 -- The form of the value that closes a step.
 abbrev pub closing : ℕ → Form
-closing kind = choose (eqb kind 1) (λ _. form.Octets) (λ _. form.Truth)
+closing kind = choose (eqb kind 1) (λ _. form.Led) (λ _. form.Truth)
 
 -- The value that closes a step ends at a place, or is refused.
 abbrev pub Closes : List ℕ → ℕ → ℕ → ℕ → Passed → Type 0

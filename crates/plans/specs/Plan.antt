@@ -14,15 +14,14 @@ use Rattle.layouts.specs.Layout.{Attribute, Layout}
 abbrev pub mark : Form → ℕ
 mark (form.Fixed w) = w * 4
 mark form.Truth = 2
-mark form.Octets = 1
-mark form.Text = 1
+mark form.Led = 1
 
 -- The steps of attributes behind a sum. The last step is a multiple of four, every other is not.
 unfoldable pub planOf : ℕ → List Attribute → List ℕ
 planOf sum [] = sum ∷ []
 planOf sum (a ∷ others) =
-    choose (eqb (mark (formOf (a .kind .basic)) % 4) 0) (λ _. planOf (sum + mark (formOf (a .kind .basic))) others)
-    (λ _. (sum + mark (formOf (a .kind .basic))) ∷ planOf 0 others)
+    choose (eqb (mark (formOf (a .kind)) % 4) 0) (λ _. planOf (sum + mark (formOf (a .kind))) others)
+    (λ _. (sum + mark (formOf (a .kind))) ∷ planOf 0 others)
 
 -- A layout's plan.
 abbrev pub planFor : Layout → List ℕ

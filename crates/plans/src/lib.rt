@@ -8,10 +8,13 @@ ghost use lib.ListN.{length, take};
 ghost use Rattle.octets.specs.Limits.{longest, mostAttributes};
 ghost use Rattle.octets.specs.Reading.{ok, run};
 ghost use Rattle.layouts.specs.Layout.{Attribute, attributeAt};
-ghost use Rattle.rows.specs.Answers.{Slim, Attributes};
+ghost use Rattle.rows.specs.Answers.{Attributes};
+ghost use Rattle.kinds.specs.Forms.{Slim};
 ghost use Rattle.plans.specs.Plan.{mark, planOf, Plan};
-ghost use Rattle.plans.specs.Answers.{Puts, Closes, Follows, Lasts};
+ghost use Rattle.plans.specs.Answers.{Puts, passedOf, Closes, Follows, Lasts};
 use kinds::Form;
+use octets::Ended;
+use octets::Room;
 
 // The place behind values, or that the exact readers are to be asked.
 pub enum Passed {
@@ -40,8 +43,7 @@ fn mark_of(form: Form) -> u16
     match form {
         Form::Fixed(w) => (w * 4) as u16,
         Form::Truth => 2,
-        Form::Octets => 1,
-        Form::Text => 1,
+        Form::Led => 1,
     }
 }
 
@@ -62,8 +64,8 @@ pub fn put_plan<'d, 'p>(
     let mut sum: u16 = 0;
     let mut i: u32 = 0;
     while i < count {
-        let kind = layouts::name_end(doc, place);
-        let form = rows::form_here(doc, kind);
+        let kind = octets::led_skip(doc, place);
+        let form = kinds::form_here(doc, kind);
         let more = mark_of(form);
         place = kind + 4;
         i += 1;
@@ -85,20 +87,23 @@ pub fn put_plan<'d, 'p>(
     Put::To(j + 1)
 }
 
+// An end where there is one: a plan asks for no refusal.
+fn passed_of(ended: Ended) -> Passed
+    ensures { λ r. ⌜ r ≡ passedOf ended ⌝ }
+{
+    match ended {
+        Ended::End(next) => Passed::To(next),
+        Ended::Refused(n, p) => Passed::Unsure,
+    }
+}
+
 // The place behind the value that closes a step.
 fn close_end(doc: &[u8], at: usize, end: usize, kind: usize) -> Passed
     requires { ⌜ (end ≤ length (now doc)) × (length (now doc) ≤ longest) × (at ≤ 2097152) ⌝ }
     ensures { λ r. ⌜ Closes (now (doc .entry)) at end kind r ⌝ }
 {
     if kind == 1 {
-        if end < at + 4 {
-            return Passed::Unsure;
-        }
-        let next = at + 4 + (octets::u32_at(doc, at) as usize);
-        if end < next {
-            return Passed::Unsure;
-        }
-        return Passed::To(next);
+        return passed_of(octets::led_end(doc, at, Room::Stated(end, 0)));
     }
     if end < at + 1 {
         return Passed::Unsure;

@@ -6,12 +6,13 @@ use lib.ListN.{length, take, set, replicate, length-replicate}
 use lib.Dec.{lit<}
 use borrow.Author.Tests.{lt-leb}
 use Rattle.octets.specs.Limits.{longest}
-use Rattle.octets.specs.Reading.{Read, no, be, part, numberIn, octetsIn, textIn, count, exactly, run}
-use Rattle.octets.specs.Writing.{word, textImage, images}
+use Rattle.octets.specs.Reading.{Read, no, be, part, numberIn, ledIn, count, exactly, run}
+use Rattle.octets.specs.Writing.{word, ledImage, images}
 use Rattle.kinds.specs.Kinds.{among, basicOf, kindAt}
 use Rattle.layouts.specs.Layout.{attributeAt, layoutAt, attributeImage, layoutImage}
 use Rattle.layouts.specs.Book.{find, bookImage, layoutsAt, bookOf, learn}
-use Rattle.rows.specs.Row.{valueIn, fieldsIn, valuesAt, rowAt}
+use Rattle.rows.specs.Row.{fieldsIn, valuesAt, rowAt}
+use Rattle.kinds.specs.Forms.{valueIn}
 use Rattle.headers.specs.Header.{Header, namespaceAt, idAt, headerFrom, headerAt}
 use Rattle.elements.specs.Element.{Stepped, finishAt, elementAt}
 use Rattle.elements.specs.Steps.{lentBook, stepAt}
@@ -56,7 +57,7 @@ headerInputs : List (List ℕ)
 headerInputs = [] ∷ long ∷ set specimen 3 3 ∷ set specimen 23 17 ∷ set specimen 31 15 ∷ set specimen 51 0 ∷ []
 
 header-each : refusalsOf headerAt headerInputs ≡ headerNumbers
-unfolding headerInputs specimen be part numberIn octetsIn textIn count exactly run namespaceAt idAt headerFrom headerAt
+unfolding headerInputs specimen be part numberIn ledIn count exactly run namespaceAt idAt headerFrom headerAt
 header-each = ap (λ (r : Read Header). 1 ∷ refusalOf r ∷ 3 ∷ 4 ∷ 5 ∷ 6 ∷ []) header-long
 
 abbrev step : Inputs → Read Stepped
@@ -81,7 +82,7 @@ stepInputs =
     ∷ []
 
 step-each : refusalsOf step stepInputs ≡ stepNumbers
-unfolding stepInputs specimen layoutBook emptyBook be part numberIn octetsIn textIn count exactly run word textImage images among basicOf kindAt attributeAt layoutAt attributeImage layoutImage find bookImage layoutsAt bookOf learn valueIn fieldsIn valuesAt rowAt finishAt elementAt lentBook stepAt
+unfolding stepInputs specimen layoutBook emptyBook be part numberIn ledIn count exactly run word ledImage images among basicOf kindAt attributeAt layoutAt attributeImage layoutImage find bookImage layoutsAt bookOf learn valueIn fieldsIn valuesAt rowAt finishAt elementAt lentBook stepAt
 step-each = ap (λ (r : Read Stepped). refusalOf r ∷ 17 ∷ elementNumbers) step-long
 
 wholeInputs : List (List ℕ)
@@ -91,7 +92,7 @@ wholeInputs =
     ∷ set specimen 94 8 ∷ set specimen 98 6 ∷ set specimen 86 0x29 ∷ set specimen 128 3 ∷ (specimen ++ 0 ∷ []) ∷ []
 
 whole-each : refusalsOf whole wholeInputs ≡ wholeNumbers
-unfolding wholeInputs specimen be part numberIn octetsIn textIn count exactly run word textImage images among basicOf kindAt attributeAt layoutAt attributeImage layoutImage find bookImage learn valueIn fieldsIn valuesAt rowAt namespaceAt idAt headerFrom headerAt finishAt elementAt walk through reading whole
+unfolding wholeInputs specimen be part numberIn ledIn count exactly run word ledImage images among basicOf kindAt attributeAt layoutAt attributeImage layoutImage find bookImage learn valueIn fieldsIn valuesAt rowAt namespaceAt idAt headerFrom headerAt finishAt elementAt walk through reading whole
 whole-each = ap (λ (r : Read ℕ). 1 ∷ refusalOf r ∷ 3 ∷ 4 ∷ 5 ∷ 6 ∷ 7 ∷ 8 ∷ 9 ∷ 10 ∷ 11 ∷ 12 ∷ 13 ∷ 14 ∷ 15 ∷ 16 ∷ []) whole-long
 
 pub refusals : Refusals

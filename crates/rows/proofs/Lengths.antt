@@ -6,12 +6,15 @@ use mathlib.Core.Option.{some}
 use lib.ListN.{length}
 use lib.Dec.{leb, ltb, eqb}
 use borrow.Author.Tests.{le-leb, lt-leb, eq-eqb, ne-eqb}
-use Rattle.octets.specs.Reading.{ok, no, ends, be, Room, document, stated}
+use Rattle.octets.specs.Reading.{ok, no, ends, be}
+use Rattle.octets.specs.declared.Room.{Room}
+use Rattle.octets.specs.declared.Room.the-variants.{Document, Stated}
 use Rattle.octets.proofs.Inverse.{after, either, chosen}
 use Rattle.octets.proofs.Ends.{stop, ended, refused, number-ok, number-no}
 use Rattle.layouts.specs.Layout.{Attribute, Layout}
 use Rattle.kinds.specs.Kinds.{formOf}
-use Rattle.rows.specs.Row.{Field, valueIn, fieldsIn, filled, valuesAt, named}
+use Rattle.rows.specs.Row.{Field, fieldsIn, filled, valuesAt, named}
+use Rattle.kinds.specs.Forms.{valueIn}
 use Rattle.rows.specs.Answers.{shape}
 
 -- There are as many fields as attributes.
@@ -19,24 +22,24 @@ pub fields-length : (room : Room) (xs : List Attribute) (s : List ℕ) (at : ℕ
 unfolding fieldsIn
 fields-length room [] s at {fields} e = let none : [] ≡ fields = cc in ap length (sym none)
 fields-length room (a ∷ xs) s at {fields} e =
-    after (valueIn room (formOf (a .kind .basic)) s at) _ e λ v next e₁ e₂.
+    after (valueIn room (formOf (a .kind)) s at) _ e λ v next e₁ e₂.
     after (fieldsIn room xs s next) _ e₂ λ rest last e₃ e₄.
     let is : record { attribute = a; value = v } ∷ rest ≡ fields = cc in
     ap length (sym is) ∙ ap suc (fields-length room xs s next e₃)
 
 module _ (xs : List Attribute) (s : List ℕ) (at : ℕ) where
   module _ (end : ℕ) where
-    pub filled-no : (n p : ℕ) → ends (fieldsIn (stated end at) xs s (at + 4)) ≡ no n p → ends (filled xs s at end) ≡ no n p
-    filled-no n p e = stop (fieldsIn (stated end at) xs s (at + 4)) _ n p e
+    pub filled-no : (n p : ℕ) → ends (fieldsIn (Stated end at) xs s (at + 4)) ≡ no n p → ends (filled xs s at end) ≡ no n p
+    filled-no n p e = stop (fieldsIn (Stated end at) xs s (at + 4)) _ n p e
 
-    pub filled-short : (next : ℕ) → ends (fieldsIn (stated end at) xs s (at + 4)) ≡ ok next next → (next ≡ end → ⊥) → ends (filled xs s at end) ≡ no 13 at
-    filled-short next e h = let (fields, f) = ended (fieldsIn (stated end at) xs s (at + 4)) next e in rw (f, ne-eqb next end h) refl
+    pub filled-short : (next : ℕ) → ends (fieldsIn (Stated end at) xs s (at + 4)) ≡ ok next next → (next ≡ end → ⊥) → ends (filled xs s at end) ≡ no 13 at
+    filled-short next e h = let (fields, f) = ended (fieldsIn (Stated end at) xs s (at + 4)) next e in rw (f, ne-eqb next end h) refl
 
-    pub filled-ok : (next : ℕ) → ends (fieldsIn (stated end at) xs s (at + 4)) ≡ ok next next → next ≡ end → ends (filled xs s at end) ≡ ok next next
-    filled-ok next e h = let (fields, f) = ended (fieldsIn (stated end at) xs s (at + 4)) next e in rw (f, eq-eqb next end h) refl
+    pub filled-ok : (next : ℕ) → ends (fieldsIn (Stated end at) xs s (at + 4)) ≡ ok next next → next ≡ end → ends (filled xs s at end) ≡ ok next next
+    filled-ok next e h = let (fields, f) = ended (fieldsIn (Stated end at) xs s (at + 4)) next e in rw (f, eq-eqb next end h) refl
 
   module _ (size : ℕ) where
-    pub values-open : size ≡ 0xffffffff → valuesAt xs s at size ≡ fieldsIn document xs s (at + 4)
+    pub values-open : size ≡ 0xffffffff → valuesAt xs s at size ≡ fieldsIn Document xs s (at + 4)
     unfolding valuesAt
     values-open e = rw (eq-eqb size 0xffffffff e) refl
 
@@ -51,13 +54,13 @@ module _ (xs : List Attribute) (s : List ℕ) (at : ℕ) where
     pub values-length : {fields : List Field} {end : ℕ} → valuesAt xs s at size ≡ ok fields end → length fields ≡ length xs
     unfolding valuesAt
     values-length {fields = all} e =
-        either (eqb size 0xffffffff) _ _ e (λ t f. fields-length document xs s (at + 4) f)
+        either (eqb size 0xffffffff) _ _ e (λ t f. fields-length Document xs s (at + 4) f)
         λ t f.
         let (t₁, f₁) = chosen (leb (at + 4 + size) (length s)) (λ _. filled xs s at (at + 4 + size)) 1 at f in
-        after (fieldsIn (stated (at + 4 + size) at) xs s (at + 4)) _ f₁ λ fields last f₂ f₃.
+        after (fieldsIn (Stated (at + 4 + size) at) xs s (at + 4)) _ f₁ λ fields last f₂ f₃.
         let (t₂, f₄) = chosen (eqb last (at + 4 + size)) (λ _. ok fields last) 13 at f₃ in
         let same : all ≡ fields = cc in
-        ap length same ∙ fields-length (stated (at + 4 + size) at) xs s (at + 4) f₂
+        ap length same ∙ fields-length (Stated (at + 4 + size) at) xs s (at + 4) f₂
 
 -- A row, from its length on.
 module _ (s : List ℕ) (at n length-at : ℕ) (l : Layout) where

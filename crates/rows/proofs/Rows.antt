@@ -1,4 +1,4 @@
--- Values, fields and rows: reading and image are inverse, a value by its form, fields one behind another, a row over the book that has its layout.
+-- Fields and rows: reading and image are inverse, fields one behind another, a row over the book that has its layout.
 use mathlib.Core.Path.{_≡_, refl, sym, subst}
 use mathlib.Core.List.{List, [], _∷_, _++_}
 use mathlib.Core.Bool.{Bool, true, false}
@@ -10,64 +10,24 @@ use lib.ListN.{length}
 use lib.Dec.{leb, ltb, eqb, lit<}
 use borrow.Author.Tests.{leb-true, eqb-true, eqb-false, le-leb, eq-eqb, ne-eqb, lt-ltb, le-ltb}
 use Rattle.octets.specs.Limits.{longest}
-use Rattle.octets.specs.Reading.{ok, Room, document, stated, reach, numberIn, octetsIn, textIn, number}
-use Rattle.octets.specs.Writing.{word, images, Each, Octet, Text}
-use Rattle.kinds.specs.declared.Form.{Form}
-use Rattle.kinds.specs.declared.Form.the-variants as form
+use Rattle.octets.specs.Reading.{ok, reach, number}
+use Rattle.octets.specs.declared.Room.{Room}
+use Rattle.octets.specs.declared.Room.the-variants.{Document, Stated}
+use Rattle.octets.specs.Writing.{word, images, Each, Octet}
 use Rattle.kinds.specs.Kinds.{formOf}
 use Rattle.layouts.specs.Layout.{Attribute, Layout}
 use Rattle.layouts.specs.Book.{Book, find}
-use Rattle.rows.specs.Row.{Value, bits, held, Field, Row, valueIn, fieldsIn, valuesAt, named, rowAt, valueImage, fieldImage, lengthImage, rowImage, GoodValue, FieldsOf}
+use Rattle.rows.specs.Row.{Field, Row, fieldsIn, valuesAt, named, rowAt, fieldImage, lengthImage, rowImage, FieldsOf}
+use Rattle.kinds.specs.Forms.{valueIn, GoodValue}
+use Rattle.kinds.proofs.Forms.{value-inverse}
 use Rattle.octets.proofs.Spans.{Spans, moved, join, middle, length-word, word-octets, none-spans, none-place, each-append}
 use Rattle.octets.proofs.Inverse.{Inverse, Answer, Any, after, settle, chosen}
-use Rattle.octets.proofs.Fields.{number-inverse, octets-inverse, text-inverse, number-whole}
+use Rattle.octets.proofs.Fields.{number-whole}
 
 module _ (s : List ℕ) (room : Room) (fits : reach room s ≤ length s) where
-  value-back : (f : Form) (v : Value) {at next : ℕ} → GoodValue f v → Spans s (reach room s) at next (valueImage f v)
-      → valueIn room f s at ≡ ok v next
-  unfolding valueIn
-  value-back (form.Fixed w) (bits n) g p = rw (number-inverse s room fits w .back n tt g p)
-  value-back (form.Fixed w) (held xs) g p = absurd g
-  value-back form.Truth (bits n) g p = rw (number-inverse s room fits 1 .back n tt (omega arith) p, le-leb n 1 g)
-  value-back form.Truth (held xs) g p = absurd g
-  value-back form.Octets (bits n) g p = absurd g
-  value-back form.Octets (held xs) g p = rw (octets-inverse s room fits .back xs tt g p)
-  value-back form.Text (bits n) g p = absurd g
-  value-back form.Text (held xs) g p = rw (text-inverse s room fits .back xs tt g p)
-
-  value-forth : (f : Form) → Each Octet s → {v : Value} {at next : ℕ} → at ≤ reach room s → valueIn room f s at ≡ ok v next
-      → Answer s (reach room s) (valueImage f) Any (GoodValue f) at v next
-  unfolding valueIn
-  value-forth (form.Fixed w) o {at = at} h e =
-      after (numberIn room w s at) _ e λ n next e₁ e₂.
-      settle (Answer s (reach room s) (valueImage (form.Fixed w)) Any (GoodValue (form.Fixed w)) at) e₂ (number-inverse s room fits w .forth o h e₁)
-  value-forth form.Truth o {at = at} h e =
-      after (numberIn room 1 s at) _ e λ n next e₁ e₂.
-      let (t, e₃) = chosen (leb n 1) (λ _. ok (bits n) next) 14 at e₂ in
-      settle (Answer s (reach room s) (valueImage form.Truth) Any (GoodValue form.Truth) at) e₃ (tt, leb-true n 1 t, number-inverse s room fits 1 .forth o h e₁ .2)
-  value-forth form.Octets o {at = at} h e =
-      after (octetsIn room s at) _ e λ xs next e₁ e₂.
-      settle (Answer s (reach room s) (valueImage form.Octets) Any (GoodValue form.Octets) at) e₂ (octets-inverse s room fits .forth o h e₁)
-  value-forth form.Text o {at = at} h e =
-      after (textIn room s at) _ e λ xs next e₁ e₂.
-      settle (Answer s (reach room s) (valueImage form.Text) Any (GoodValue form.Text) at) e₂ (text-inverse s room fits .forth o h e₁)
-
-  value-octets : (f : Form) (v : Value) → GoodValue f v → Each Octet (valueImage f v)
-  value-octets (form.Fixed w) (bits n) g = word-octets w n
-  value-octets (form.Fixed w) (held xs) g = absurd g
-  value-octets form.Truth (bits n) g = word-octets 1 n
-  value-octets form.Truth (held xs) g = absurd g
-  value-octets form.Octets (bits n) g = absurd g
-  value-octets form.Octets (held xs) g = octets-inverse s room fits .octets xs tt g
-  value-octets form.Text (bits n) g = absurd g
-  value-octets form.Text (held xs) g = text-inverse s room fits .octets xs tt g
-
-  pub value-inverse : (f : Form) → Inverse s (reach room s) (valueIn room f s) (valueImage f) Any (GoodValue f)
-  value-inverse f = record { back = λ v _ g p. value-back f v g p; forth = value-forth f; octets = λ v _ g. value-octets f v g }
-
   -- A field's value is good by the field's own attribute.
-  own : {a : Attribute} (f : Field) → f .attribute ≡ a → GoodValue (formOf (a .kind .basic)) (f .value) → GoodValue (formOf (f .attribute .kind .basic)) (f .value)
-  own f e g = subst (λ (x : Attribute). GoodValue (formOf (x .kind .basic)) (f .value)) (sym e) g
+  own : {a : Attribute} (f : Field) → f .attribute ≡ a → GoodValue (formOf (a .kind)) (f .value) → GoodValue (formOf (f .attribute .kind)) (f .value)
+  own f e g = subst (λ (x : Attribute). GoodValue (formOf (x .kind)) (f .value)) (sym e) g
 
   fields-back : (attributes : List Attribute) (fs : List Field) {at next : ℕ} → FieldsOf attributes fs → Spans s (reach room s) at next (images fieldImage fs)
       → fieldsIn room attributes s at ≡ ok fs next
@@ -77,16 +37,16 @@ module _ (s : List ℕ) (room : Room) (fits : reach room s ≤ length s) where
   fields-back (a ∷ others) [] g p = absurd g
   fields-back (a ∷ others) (f ∷ fs) g p =
       let (p₁, p₂) = middle (fieldImage f) (images fieldImage fs) p in
-      rw (← g .0, value-inverse (formOf (f .attribute .kind .basic)) .back (f .value) tt (own f (g .0) (g .1)) p₁, fields-back others fs (g .2) p₂)
+      rw (← g .0, value-inverse s room fits (formOf (f .attribute .kind)) .back (f .value) tt (own f (g .0) (g .1)) p₁, fields-back others fs (g .2) p₂)
 
   fields-forth : (attributes : List Attribute) → Each Octet s → {fs : List Field} {at next : ℕ} → at ≤ reach room s → fieldsIn room attributes s at ≡ ok fs next
       → Answer s (reach room s) (images fieldImage) Any (FieldsOf attributes) at fs next
   unfolding fieldsIn images fieldImage
   fields-forth [] o {at = at} h e = settle (Answer s (reach room s) (images fieldImage) Any (FieldsOf []) at) e (tt, tt, none-spans at h)
   fields-forth (a ∷ others) o {at = at} h e =
-      after (valueIn room (formOf (a .kind .basic)) s at) _ e λ v next e₁ e₂.
+      after (valueIn room (formOf (a .kind)) s at) _ e λ v next e₁ e₂.
       after (fieldsIn room others s next) _ e₂ λ rest last e₃ e₄.
-      let (u, g, p) = value-inverse (formOf (a .kind .basic)) .forth o h e₁ in
+      let (u, g, p) = value-inverse s room fits (formOf (a .kind)) .forth o h e₁ in
       let (w, gs, q) = fields-forth others o (p .inside) e₃ in
       settle (Answer s (reach room s) (images fieldImage) Any (FieldsOf (a ∷ others)) at) e₄ (tt, (refl, g, gs), join p q)
 
@@ -96,7 +56,7 @@ module _ (s : List ℕ) (room : Room) (fits : reach room s ≤ length s) where
   fields-octets [] (f ∷ fs) g = absurd g
   fields-octets (a ∷ others) [] g = absurd g
   fields-octets (a ∷ others) (f ∷ fs) g =
-      each-append (fieldImage f) (images fieldImage fs) (value-octets (formOf (f .attribute .kind .basic)) (f .value) (own f (g .0) (g .1))) (fields-octets others fs (g .2))
+      each-append (fieldImage f) (images fieldImage fs) (value-inverse s room fits (formOf (f .attribute .kind)) .octets (f .value) tt (own f (g .0) (g .1))) (fields-octets others fs (g .2))
 
   pub fields-inverse : (attributes : List Attribute) → Inverse s (reach room s) (fieldsIn room attributes s) (images fieldImage) Any (FieldsOf attributes)
   fields-inverse attributes =
@@ -125,7 +85,7 @@ module _ (s : List ℕ) (short : length s ≤ longest) where
         number-whole s 4 .back size tt (omega arith) p,
         ne-eqb size 0xffffffff (λ z. omega arith),
         le-leb (length-at + 4 + size) (length s) inside,
-        fields-inverse s (stated (length-at + 4 + size) length-at) inside (l .attributes) .back fields tt g
+        fields-inverse s (Stated (length-at + 4 + size) length-at) inside (l .attributes) .back fields tt g
             (moved (length-at + 4 + size) (length-at + 4) (length-at + 4 + size) q place end (le-refl (length-at + 4 + size))),
         eq-eqb (length-at + 4 + size) (length-at + 4 + size) refl,
         lt-ltb size 0xffffffff small,
@@ -133,7 +93,7 @@ module _ (s : List ℕ) (short : length s ≤ longest) where
       )
   named-back false l n at {length-at} {mid} fields g p q =
       let place : mid ≡ length-at + 4 = omega (arith, p .place, length-word 4 0xffffffff) in
-      rw (number-whole s 4 .back 0xffffffff tt (lit< tt) p, fields-inverse s document (le-refl (length s)) (l .attributes) .back fields tt g (rw place at q))
+      rw (number-whole s 4 .back 0xffffffff tt (lit< tt) p, fields-inverse s Document (le-refl (length s)) (l .attributes) .back fields tt g (rw place at q))
 
   -- The values behind a length, and the length as the row has it.
   abbrev Values : List Attribute → ℕ → ℕ → List Field → ℕ → Type 0
@@ -146,14 +106,14 @@ module _ (s : List ℕ) (short : length s ≤ longest) where
       → Values attributes length-at size fields end
   unfolding valuesAt
   values-forth true attributes length-at size end fields o t small p e =
-      let (u, g, q) = fields-inverse s document (le-refl (length s)) attributes .forth o (p .inside) (rw t at e) in
+      let (u, g, q) = fields-inverse s Document (le-refl (length s)) attributes .forth o (p .inside) (rw t at e) in
       (g, rw (le-ltb size 0xffffffff (omega (arith, eqb-true size 0xffffffff t))) (rw (eqb-true size 0xffffffff t) at p), q)
   values-forth false attributes length-at size end fields o t small p e =
       let (t₁, e₁) = chosen (leb (length-at + 4 + size) (length s)) _ 1 length-at (rw t at e) in
       let inside : length-at + 4 + size ≤ length s = leb-true (length-at + 4 + size) (length s) t₁ in
-      after (fieldsIn (stated (length-at + 4 + size) length-at) attributes s (length-at + 4)) _ e₁ λ fs last e₂ e₃.
+      after (fieldsIn (Stated (length-at + 4 + size) length-at) attributes s (length-at + 4)) _ e₁ λ fs last e₂ e₃.
       let (t₂, e₄) = chosen (eqb last (length-at + 4 + size)) (λ _. ok fs last) 13 length-at e₃ in
-      let (u, g, q) = fields-inverse s (stated (length-at + 4 + size) length-at) inside attributes .forth o (omega arith) e₂ in
+      let (u, g, q) = fields-inverse s (Stated (length-at + 4 + size) length-at) inside attributes .forth o (omega arith) e₂ in
       let long : size ≡ length (images fieldImage fs) = omega (arith, q .place, eqb-true last (length-at + 4 + size) t₂) in
       settle (Values attributes length-at size) e₄
       (g, rw (lt-ltb size 0xffffffff (omega (arith, eqb-false size 0xffffffff t))) (rw long at p), moved (length s) (length-at + 4) last q refl refl (omega (arith, q .inside)))
@@ -189,5 +149,5 @@ module _ (s : List ℕ) (short : length s ≤ longest) where
             let size : ℕ = length (images fieldImage (r .fields)) in
             each-append (word 4 (r .number) ++ lengthImage (r .is-stated) size) (images fieldImage (r .fields))
             (each-append (word 4 (r .number)) (lengthImage (r .is-stated) size) (word-octets 4 (r .number)) (length-octets (r .is-stated) size))
-            (fields-inverse s document (le-refl (length s)) (g .1 .0 .attributes) .octets (r .fields) tt (g .1 .2));
+            (fields-inverse s Document (le-refl (length s)) (g .1 .0 .attributes) .octets (r .fields) tt (g .1 .2));
       }

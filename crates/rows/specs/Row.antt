@@ -6,18 +6,14 @@ use mathlib.Core.Bool.{Bool, true, false}
 use mathlib.Core.Option.{Option, some, none}
 use lib.ListN.{length}
 use lib.Dec.{leb, ltb, eqb}
-use Rattle.octets.specs.Reading.{Read, ok, no, _then_, choose, Room, document, stated, numberIn, octetsIn, textIn, number}
-use Rattle.octets.specs.Writing.{word, textImage, images, Text}
-use Rattle.kinds.specs.declared.Form.{Form}
-use Rattle.kinds.specs.declared.Form.the-variants as form
+use Rattle.octets.specs.Reading.{Read, ok, no, _then_, choose, number}
+use Rattle.octets.specs.Writing.{word, images}
+use Rattle.octets.specs.declared.Room.{Room}
+use Rattle.octets.specs.declared.Room.the-variants.{Document, Stated}
 use Rattle.kinds.specs.Kinds.{formOf}
+use Rattle.kinds.specs.Forms.{Value, valueIn, valueImage, GoodValue}
 use Rattle.layouts.specs.Layout.{Layout, Attribute}
 use Rattle.layouts.specs.Book.{Book, find}
-
--- A number by its bits, or octets.
-pub data Value : Type 0 where
-  bits : ℕ → Value
-  held : List ℕ → Value
 
 -- A field: its name and type, which the layout gives, and its value.
 pub record Field : Type 0 where
@@ -29,30 +25,23 @@ pub record Row : Type 0 where
   pub is-stated : Bool
   pub fields : List Field
 
--- A value by its form. Refusal 14: a boolean that is not 0 or 1, at that octet.
-unfoldable pub valueIn : Room → Form → List ℕ → ℕ → Read Value
-valueIn room (form.Fixed w) s at = numberIn room w s at then λ n next. ok (bits n) next
-valueIn room form.Truth s at = numberIn room 1 s at then λ n next. choose (leb n 1) (λ _. ok (bits n) next) (λ _. no 14 at)
-valueIn room form.Octets s at = octetsIn room s at then λ xs next. ok (held xs) next
-valueIn room form.Text s at = textIn room s at then λ xs next. ok (held xs) next
-
 -- The values in layout order, each with its attribute.
 unfoldable pub fieldsIn : Room → List Attribute → List ℕ → ℕ → Read (List Field)
 fieldsIn room [] s at = ok [] at
 fieldsIn room (a ∷ others) s at =
-    valueIn room (formOf (a .kind .basic)) s at then λ v next.
+    valueIn room (formOf (a .kind)) s at then λ v next.
     fieldsIn room others s next then λ rest end. ok (record { attribute = a; value = v } ∷ rest) end
 
 -- The values of a stated row, from its length to the end that it states: 13 at the length where they do not reach just that end.
 abbrev pub filled : List Attribute → List ℕ → ℕ → ℕ → Read (List Field)
 filled attributes s length-at end =
-    fieldsIn (stated end length-at) attributes s (length-at + 4) then λ fields last.
+    fieldsIn (Stated end length-at) attributes s (length-at + 4) then λ fields last.
     choose (eqb last end) (λ _. ok fields last) (λ _. no 13 length-at)
 
 -- The values behind a row's length. FF FF FF FF is unstated; any other length is just the octets of the values; one that passes the document's end is 1 at the length.
 unfoldable pub valuesAt : List Attribute → List ℕ → ℕ → ℕ → Read (List Field)
 valuesAt attributes s length-at size =
-    choose (eqb size 0xffffffff) (λ _. fieldsIn document attributes s (length-at + 4))
+    choose (eqb size 0xffffffff) (λ _. fieldsIn Document attributes s (length-at + 4))
     (λ _. choose (leb (length-at + 4 + size) (length s)) (λ _. filled attributes s length-at (length-at + 4 + size)) (λ _. no 1 length-at))
 
 -- A row of a layout that was looked up: 12 at its number where there is none, before the length is read.
@@ -67,18 +56,8 @@ named s at n length-at (some l) =
 unfoldable pub rowAt : Book → List ℕ → ℕ → Read Row
 rowAt book s at = number 4 s at then λ n length-at. named s at n length-at (find n book)
 
-abbrev pub valueImage : Form → Value → List ℕ
-valueImage (form.Fixed w) (bits n) = word w n
-valueImage (form.Fixed w) (held xs) = []
-valueImage form.Truth (bits n) = word 1 n
-valueImage form.Truth (held xs) = []
-valueImage form.Octets (bits n) = []
-valueImage form.Octets (held xs) = textImage xs
-valueImage form.Text (bits n) = []
-valueImage form.Text (held xs) = textImage xs
-
 unfoldable pub fieldImage : Field → List ℕ
-fieldImage f = valueImage (formOf (f .attribute .kind .basic)) (f .value)
+fieldImage f = valueImage (formOf (f .attribute .kind)) (f .value)
 
 -- A row's length: that of its values, or FF FF FF FF where it is unstated.
 abbrev pub lengthImage : Bool → ℕ → List ℕ
@@ -89,20 +68,9 @@ lengthImage false n = word 4 0xffffffff
 unfoldable pub rowImage : Row → List ℕ
 rowImage r = word 4 (r .number) ++ lengthImage (r .is-stated) (length (images fieldImage (r .fields))) ++ images fieldImage (r .fields)
 
--- A value that its form has an image for.
-abbrev pub GoodValue : Form → Value → Type 0
-GoodValue (form.Fixed w) (bits n) = n < 256 ^ w
-GoodValue (form.Fixed w) (held xs) = ⊥
-GoodValue form.Truth (bits n) = n ≤ 1
-GoodValue form.Truth (held xs) = ⊥
-GoodValue form.Octets (bits n) = ⊥
-GoodValue form.Octets (held xs) = Text xs
-GoodValue form.Text (bits n) = ⊥
-GoodValue form.Text (held xs) = Text xs
-
 -- Fields that are a layout's, in its order.
 abbrev pub FieldsOf : List Attribute → List Field → Type 0
 FieldsOf [] [] = Unit {0}
 FieldsOf [] (f ∷ fs) = ⊥
 FieldsOf (a ∷ rest) [] = ⊥
-FieldsOf (a ∷ rest) (f ∷ fs) = (f .attribute ≡ a) × GoodValue (formOf (a .kind .basic)) (f .value) × FieldsOf rest fs
+FieldsOf (a ∷ rest) (f ∷ fs) = (f .attribute ≡ a) × GoodValue (formOf (a .kind)) (f .value) × FieldsOf rest fs

@@ -95,7 +95,7 @@ fn items<'d, 'b, 'w>(
     let mut numbers = [0u64; 64];
     let mut places = [0u32; 64];
     let mut steps = [0u16; 1216];
-    let mut tally = walks::index(&book[..used], &mut numbers, &mut places, &mut steps);
+    let mut tally = shelves::index(&book[..used], &mut numbers, &mut places, &mut steps);
     let mut pos = at;
     let mut passed = rows;
     let mut filled = used;
@@ -153,7 +153,7 @@ fn items<'d, 'b, 'w>(
                     n += 1;
                     if filled < gone.used {
                         elements::grow(doc, pos, gone.next, book, filled);
-                        tally = walks::keep(
+                        tally = shelves::keep(
                             doc,
                             pos + 4,
                             filled,

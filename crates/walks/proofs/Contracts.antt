@@ -1,4 +1,4 @@
--- The contracts of walks themselves that settle the answer: one turn, a stretch of rows, the rows counted, a row in one number, and the tally before any layout. Assumes nothing.
+-- The contracts of walks themselves that settle the answer: one turn, a stretch of rows, the rows counted, and a row in one number. Assumes nothing.
 use mathlib.Core.Path.{_≡_, refl, sym, _∙_}
 use Rattle.octets.specs.Contracts.{Once}
 use Rattle.octets.proofs.Alike.{_also_}
@@ -6,14 +6,12 @@ use Rattle.walks.specs.Answers.{countSays}
 use Rattle.walks.specs.declared.Counting.{Counting}
 use Rattle.walks.specs.declared.Counting.the-variants.{Rows, Refused}
 use Rattle.walks.proofs.Stretches.{stretch-once}
-use Rattle.walks.proofs.nothing as nothing
 use Rattle.walks.proofs.row_word as row-word
 use Rattle.walks.proofs.turn as turn
 use Rattle.walks.proofs.rows_on as rows-on
 use Rattle.walks.proofs.rows_from as rows-from
 
 pub record Contracts : Type 0 where
-  pub of-nothing : Once nothing.Kinds.ps nothing.Kinds.r nothing.Reads.Pre nothing.Reads.Post
   pub of-row-word : Once row-word.Kinds.ps row-word.Kinds.r row-word.Reads.Pre row-word.Reads.Post
   pub of-turn : Once turn.Kinds.ps turn.Kinds.r turn.Reads.Pre turn.Reads.Post
   pub of-rows-on : Once rows-on.Kinds.ps rows-on.Kinds.r rows-on.Reads.Pre rows-on.Reads.Post
@@ -28,7 +26,6 @@ count-says-once (Refused n p) (Refused m q) e = cc
 pub contracts : Contracts
 contracts =
     record {
-      of-nothing = λ κs a p x y u v e f. (e ∙ sym f, refl);
       of-row-word = λ κs a p x y u v e f. (e ∙ sym f, refl);
       of-turn = λ κs a p x y u v e f. let b = p .3 in (e (b .book) (b .bears) ∙ sym (f (b .book) (b .bears)), refl);
       of-rows-on = λ κs a p x y u v e f.

@@ -1,8 +1,4 @@
-pub mod Marks
-pub mod Shelves
 pub mod Rows
-pub mod Keeping
-pub mod Indexing
 pub mod Moves
 pub mod Ways
 pub mod Lents

@@ -12,7 +12,7 @@ use Rattle.elements.specs.declared.Met.{Met}
 use Rattle.elements.specs.declared.Met.the-variants as met
 use Rattle.elements.specs.declared.Step.{Step}
 use Rattle.elements.specs.Walk.{ended, refused, Seen, Turn, goes, stops, Spot}
-use Rattle.walks.specs.Kept.{Numbered, Shelved}
+use Rattle.shelves.specs.Kept.{Numbered, Shelved}
 use Rattle.walks.specs.declared.Gone.{Gone}
 use Rattle.walks.specs.declared.Moved.{Moved}
 use Rattle.walks.specs.declared.Moved.the-variants as moved

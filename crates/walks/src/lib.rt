@@ -1,33 +1,20 @@
-// Walking through elements: what is kept of a book's layouts, and how a walk goes on, by a stretch of rows or by one element.
-// Kept are, of the i-th layout of the book, its number in numbers[i], with 2^32 added where it has no plan; its place in places[i]; and where its plan stands in steps[i]. Plans stand behind the first 64 steps, one behind another.
+// Walking through elements: how a walk goes on, by a stretch of rows or by one element, over the layouts that crate shelves keeps. The definition is Walk, in crate elements.
 
 ghost use mathlib.Core.Path.{_≡_};
-ghost use mathlib.Core.List.{List, []};
-ghost use mathlib.Core.Bool.{true};
-ghost use Prim.Native.Nat.{ℕ, _+_, _*_, _≤_, _<_};
-ghost use lib.ListN.{length, getD, set};
-ghost use Rattle.octets.specs.Limits.{longest, mostRows, mostLayouts};
-ghost use Rattle.octets.specs.Reading.{ok, isOk};
-ghost use Rattle.layouts.specs.Layout.{Layout, layoutAt};
-ghost use Rattle.layouts.specs.Book.{Book, position};
-ghost use Rattle.layouts.specs.Answers.{Looks};
+ghost use mathlib.Core.List.{[]};
+ghost use Prim.Native.Nat.{ℕ, _≤_, _<_};
+ghost use lib.ListN.{length, set};
+ghost use Rattle.octets.specs.Limits.{longest, mostRows};
+ghost use Rattle.layouts.specs.Book.{Book};
 ghost use Rattle.elements.specs.Walk.{spotAt, turnAt, through};
 ghost use Rattle.elements.specs.Reading.{rowsRead};
-ghost use Rattle.walks.specs.Kept.{nothing, Numbered, Shelved, Planned, Plans, Kept, Lacks, Keeps, Image, Images};
+ghost use Rattle.shelves.specs.Kept.{Planned, Plans};
 ghost use Rattle.walks.specs.Rows.{rowWord, Refuses, Tried, Passage};
 ghost use Rattle.walks.specs.Answers.{movedOf, stepMoved, Bears, Borne, countSays};
 use elements::Met;
 use elements::Step;
 use elements::Stepping;
-use layouts::Looked;
 use plans::Passed;
-use plans::Put;
-
-// How many layouts are kept, and the index behind the last plan.
-pub struct Tally {
-    pub known: usize,
-    pub filled: usize,
-}
 
 // The place behind a row and its layout's position, or that the exact reader is to be asked.
 pub enum Quick {
@@ -63,62 +50,6 @@ pub enum Counting {
     Refused(u32, usize),
 }
 
-fn place_of(x: u32) -> usize
-    ensures { λ r. ⌜ r ≡ x ⌝ }
-{
-    x as usize
-}
-
-// Before any layout is kept: plans are put behind the steps that say where they stand.
-pub fn nothing() -> Tally
-    ensures { λ r. ⌜ r ≡ nothing ⌝ }
-{
-    Tally {
-        known: 0,
-        filled: 64,
-    }
-}
-
-// The position of a number in the book whose layouts are known by their numbers, with a plan or without.
-fn position_of(numbers: &[u64; 64], known: usize, number: u32) -> usize
-    requires { ⌜ known ≤ mostLayouts ⌝ }
-    ensures { λ r. ⌜ ((book : Book) → Numbered (now (numbers .entry)) known book → r ≡ position number book) ⌝ }
-{
-    let mut i = 0;
-    while i < known {
-        if numbers[i] % 4294967296 == number as u64 {
-            return i;
-        }
-        i += 1;
-    }
-    known
-}
-
-// The index of a number that has a plan: the index that was last, or the one behind it, or the number's position; all known where it has none.
-fn index_of(numbers: &[u64; 64], known: usize, last: usize, number: u32) -> usize
-    requires { ⌜ known ≤ mostLayouts ⌝ }
-    ensures { λ r. ⌜ (r < known → getD (now (numbers .entry)) r 0 ≡ number) × (known ≤ r → (book : Book) → Numbered (now (numbers .entry)) known book → Lacks (now (numbers .entry)) known number) ⌝ }
-{
-    let title = number as u64;
-    if last < known {
-        if numbers[last] == title {
-            return last;
-        }
-        if last + 1 < known {
-            if numbers[last + 1] == title {
-                return last + 1;
-            }
-        }
-    }
-    let i = position_of(numbers, known, number);
-    if i < known {
-        if numbers[i] == title {
-            return i;
-        }
-    }
-    known
-}
-
 // The row at a place, passed by the plan of its layout.
 fn quick_row<'d, 'n, 'p>(
     doc: &'d [u8],
@@ -137,7 +68,7 @@ fn quick_row<'d, 'n, 'p>(
     if octets::u32_at(doc, at) != 2 {
         return Quick::Unsure;
     }
-    let i = index_of(numbers, known, last, octets::u32_at(doc, at + 4));
+    let i = shelves::index_of(numbers, known, last, octets::u32_at(doc, at + 4));
     if known <= i {
         return Quick::Unsure;
     }
@@ -211,75 +142,6 @@ pub fn rows_on<'d, 'n, 'p, 'k, 'w>(
     }
 }
 
-// Keeps a layout that stands at a place of the document behind those known: its number, a place at which it is found, and its plan if there is room for it that leaves eight steps to each layout that may follow.
-pub fn keep<'d, 'n, 'l, 'p>(
-    doc: &'d [u8],
-    at: usize,
-    place: usize,
-    numbers: &'n mut [u64; 64],
-    places: &'l mut [u32; 64],
-    steps: &'p mut [u16; 1216],
-    tally: Tally,
-) -> Tally
-    requires { ⌜ (length (now doc) ≤ longest) × (isOk (layoutAt (now doc) at) ≡ true) × (length (now steps) ≡ 1216) × (tally .known < mostLayouts) × (64 ≤ tally .filled) × (tally .filled ≤ 704 + tally .known * 8) × (place < 4294967296) ⌝ }
-    ensures { λ r. ⌜ ((l : Layout) (end : ℕ) → layoutAt (now (doc .entry)) at ≡ ok l end → Keeps l place (now (numbers .entry)) (now (places .entry)) (now (steps .entry)) tally (now (numbers .exit)) (now (places .exit)) (now (steps .exit)) r) ⌝ }
-{
-    let known = tally.known;
-    let filled = tally.filled;
-    let number = layouts::layout_number(doc, at) as u64;
-    let counted = layouts::attributes_at(doc, at);
-    let count = octets::u32_at(doc, counted);
-    places[known] = place as u32;
-    let put = plans::put_plan(doc, counted + 4, count, steps, filled, 712 + known * 8);
-    match put {
-        Put::Full => {
-            numbers[known] = number + 4294967296;
-            Tally {
-                known: known + 1,
-                filled,
-            }
-        }
-        Put::To(end) => {
-            numbers[known] = number;
-            steps[known] = filled as u16;
-            Tally {
-                known: known + 1,
-                filled: end,
-            }
-        }
-    }
-}
-
-// Keeps all layouts of a book by their places in its octets.
-pub fn index<'s, 'n, 'l, 'p>(
-    s: &'s [u8],
-    numbers: &'n mut [u64; 64],
-    places: &'l mut [u32; 64],
-    steps: &'p mut [u16; 1216],
-) -> Tally
-    requires { ⌜ (length (now s) ≤ longest) × (length (now numbers) ≡ 64) × (length (now places) ≡ 64) × (length (now steps) ≡ 1216) × Images (now s) ⌝ }
-    ensures { λ r. ⌜ ((book : Book) → Image (now (s .entry)) book → Kept (now (s .entry)) (now (numbers .exit)) (now (places .exit)) (now (steps .exit)) r book) ⌝ }
-{
-    let mut pos = 0;
-    let mut tally = nothing();
-    while pos < s.len() {
-        tally = keep(s, pos, pos, numbers, places, steps, tally);
-        pos = layouts::layout_skip(s, pos);
-    }
-    tally
-}
-
-// Where a layout stands by its position.
-fn looked_at(places: &[u32; 64], known: usize, i: usize) -> Looked
-    requires { ⌜ known ≤ mostLayouts ⌝ }
-    ensures { λ r. ⌜ ((shelf numbers : List ℕ) (number : ℕ) (book : Book) → Numbered numbers known book → Shelved shelf (now (places .entry)) known book → i ≡ position number book → Looks shelf number book r) ⌝ }
-{
-    if known <= i {
-        return Looked::Missing(known);
-    }
-    Looked::There(place_of(places[i]))
-}
-
 // What a turn tells of a step that was read, with the position of its layout.
 fn told(step: Step, position: usize) -> Moved
     ensures { λ r. ⌜ r ≡ stepMoved step position ⌝ }
@@ -318,8 +180,8 @@ pub fn turn<'d, 's, 'n, 'l>(
     requires { ⌜ (length (now doc) ≤ longest) × (rows ≤ mostRows) × (length (now shelf) ≤ longest) × Borne (now shelf) used (now numbers) (now places) known ⌝ }
     ensures { λ r. ⌜ ((book : Book) → Bears (now (shelf .entry)) used (now (numbers .entry)) (now (places .entry)) known book → r ≡ movedOf (turnAt (now (doc .entry)) (spotAt at rows book))) ⌝ }
 {
-    let position = position_of(numbers, known, elements::number_behind(doc, at));
-    let looked = looked_at(places, known, position);
+    let position = shelves::position_of(numbers, known, elements::number_behind(doc, at));
+    let looked = shelves::looked_at(places, known, position);
     let one = elements::element_over(doc, at, rows, shelf, looked, used);
     match one {
         Stepping::Refused(n, p) => Moved::Refused(n, p),
@@ -335,7 +197,7 @@ pub fn rows_from(doc: &[u8], at: usize) -> Counting
     let mut numbers = [0u64; 64];
     let mut places = [0u32; 64];
     let mut steps = [0u16; 1216];
-    let mut tally = nothing();
+    let mut tally = shelves::nothing();
     let mut pos = at;
     let mut rows: usize = 0;
     let mut used: usize = 0;
@@ -365,7 +227,7 @@ pub fn rows_from(doc: &[u8], at: usize) -> Counting
             Moved::Item(gone) => {
                 if used < gone.used {
                     let here = pos + 4;
-                    tally = keep(
+                    tally = shelves::keep(
                         doc,
                         here,
                         here,

@@ -28,14 +28,14 @@ returns : tie.Need-returns Inv-loop μ-loop
 returns c =
     let a = c .before .before .before .before .before .before .before .args in
     let l = c .before .before .before .before .before .loop in
-    let h = sym (c .before .before .before .text-end .ensures .0) ∙ ap says (c .before .one .given .1) in
+    let h = sym (c .before .before .before .led-end .ensures .0) ∙ ap says (c .before .one .given .1) in
     (sym (l .inv .3 ∙ (ap (λ (k : ℕ). ends (run (text (now (a .s))) k (l .pos))) (left-suc (a .count) (l .i) (omega arith)) ∙ run-stop (text (now (a .s))) (l .pos) _ _ _ h)), tt)
 
 loop-again : tie.Need-loop-again Inv-loop μ-loop
 loop-again c =
     let a = c .before .before .before .before .before .before .before .args in
     let l = c .before .before .before .before .before .loop in
-    let t = c .before .before .before .text-end in
+    let t = c .before .before .before .led-end in
     let w = rw (c .before .one2 .given .1) at (t .ensures .1) in
     let h = sym (t .ensures .0) ∙ ap says (c .before .one2 .given .1) in (
       omega arith,

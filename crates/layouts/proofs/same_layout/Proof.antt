@@ -9,7 +9,8 @@ use denote.Ref.{now}
 use Rattle.octets.specs.Reading.{isOk, same}
 use Rattle.octets.proofs.Spans.{each-octet}
 use Rattle.layouts.specs.Layout.{layoutImage}
-use Rattle.layouts.proofs.Parts.{one-end, layout-number}
+use Rattle.layouts.proofs.Parts.{layout-number}
+use Rattle.octets.proofs.Ends.{one-end}
 use Rattle.layouts.proofs.Lends.{layout-part}
 use Rattle.layouts.proofs.same_layout.Statement.{statement}
 use Rattle.layouts.proofs.same_layout.Tie as tie

@@ -7,20 +7,20 @@ use Rattle.layouts.proofs.Parts.{layout-named, layout-number, layout-te
 use Rattle.layouts.proofs.type_name.Statement.{statement}
 use Rattle.layouts.proofs.type_name.Tie as tie
 
-add-name-part : tie.Need-add-name-part
-add-name-part c =
+add-led-part : tie.Need-add-led-part
+add-led-part c =
     let s = c .before in
     let (l, end, e) = value-is (layoutAt (now (s .args .s)) (s .args .at)) (s .pre .1) in
     omega (arith, layout-number (now (s .args .s)) (s .args .at) e .0)
 
-name-part-requires : tie.Need-name-part-requires
-name-part-requires c κs = let s = c .before in (s .pre .0, layout-named (now (s .args .s)) (s .args .at) (s .pre .1))
+led-part-requires : tie.Need-led-part-requires
+led-part-requires c κs = let s = c .before in (s .pre .0, layout-named (now (s .args .s)) (s .args .at) (s .pre .1))
 
 returns : tie.Need-returns
 returns c = λ l end e.
     let a = c .before .before .args in
     let (mid, named) = layout-text (now (a .s)) (a .at) e in
-    c .name-part .ensures (l .type-name) mid named
+    c .led-part .ensures (l .type-name) mid named
 
 pub type-name-spec : {M : Type 1} → statement M
-type-name-spec = tie.close (tie.spec add-name-part name-part-requires returns)
+type-name-spec = tie.close (tie.spec add-led-part led-part-requires returns)

@@ -19,7 +19,7 @@ use Rattle.elements.specs.Walk.{spotAt, turnAt}
 use Rattle.walks.specs.Answers.{movedOf}
 use Rattle.walks.specs.declared.Gone.{Gone}
 use Rattle.walks.specs.declared.Moved.{Moved}
-use Rattle.walks.proofs.Marks.{tally-bounds}
+use Rattle.shelves.proofs.Marks.{tally-bounds}
 use Rattle.printing.specs.Text.{Prints}
 use Rattle.printing.proofs.Puts.{says}
 use Rattle.listing.specs.Lines.{endText, elementText}

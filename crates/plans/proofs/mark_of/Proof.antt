@@ -3,7 +3,7 @@ use borrow.Author.Needs.{needs}
 use native.Mathlib.Omega.{arith}
 use Prim.Native.Nat.{_≤_}
 use mathlib.Core.Path.{sym, ap, subst}
-use Rattle.rows.specs.Answers.{Slim}
+use Rattle.kinds.specs.Forms.{Slim}
 use Rattle.plans.specs.Plan.{mark}
 use Rattle.plans.proofs.mark_of.Statement.{statement}
 use Rattle.plans.proofs.mark_of.Tie as tie
@@ -18,5 +18,5 @@ returns c = let s = slim c in (sym (ap mark (c .before .form .given .1)), omega 
 pub mark-of-spec : {M : Type 1} → statement M
 mark-of-spec =
     tie.close
-    (tie.spec (λ c. search needs) (λ c. let s = slim c in omega arith) (λ c. let s = slim c in omega arith) (λ c. search needs) (λ c. search needs) (λ c. search needs) returns
-    (λ c. search needs) (λ c. search needs) (λ c. search needs))
+    (tie.spec (λ c. search needs) (λ c. let s = slim c in omega arith) (λ c. let s = slim c in omega arith) (λ c. search needs) (λ c. search needs) returns
+    (λ c. search needs) (λ c. search needs))

@@ -12,8 +12,7 @@ use Rattle.octets.specs.Reading.{ok, isOk, run}
 use Rattle.octets.proofs.Ends.{left-suc, none-left, sub-none}
 use Rattle.kinds.specs.Kinds.{formOf}
 use Rattle.layouts.specs.Layout.{Attribute, attributeAt}
-use Rattle.layouts.proofs.Parts.{Described, attribute-fields, attribute-named}
-use Rattle.rows.proofs.Values.{attribute-kind}
+use Rattle.layouts.proofs.Parts.{Described, attribute-fields, attribute-named, attribute-typed}
 use Rattle.plans.specs.Plan.{mark}
 use Rattle.plans.proofs.Making.{Making, making-start, Next, making-next, making-full, making-last}
 use Rattle.plans.proofs.put_plan.Statement.{statement}
@@ -74,12 +73,12 @@ abbrev Of : Marked → Turn
 Of s = s .before .before .before
 
 abbrev Kind : Marked → ℕ
-Kind s = s .before .before .name-end .result
+Kind s = s .before .before .led-skip .result
 
 described : (s : Marked) (a : Attribute) (next : ℕ) → attributeAt (Doc (Of s)) (Of s .before .loop .place) ≡ ok a next → Described (Doc (Of s)) (Of s .before .loop .place) a next (Kind s)
-described s a next e = attribute-fields (Doc (Of s)) (Of s .before .loop .place) (Kind s) (s .before .before .name-end .ensures .0) e
+described s a next e = attribute-fields (Doc (Of s)) (Of s .before .loop .place) (Kind s) (s .before .before .led-skip .ensures .0) e
 
-is-mark : (s : Marked) (a : Attribute) (next : ℕ) → attributeAt (Doc (Of s)) (Of s .before .loop .place) ≡ ok a next → mark (formOf (a .kind .basic)) ≡ s .mark-of .result
+is-mark : (s : Marked) (a : Attribute) (next : ℕ) → attributeAt (Doc (Of s)) (Of s .before .loop .place) ≡ ok a next → mark (formOf (a .kind)) ≡ s .mark-of .result
 is-mark s a next e = sym (s .mark-of .ensures .0 ∙ ap mark (s .before .form-here .ensures .0 (a .kind) next (described s a next e .kind)))
 
 is-place : (s : Marked) (a : Attribute) (next : ℕ) → attributeAt (Doc (Of s)) (Of s .before .loop .place) ≡ ok a next → next ≡ Kind s + 4
@@ -106,7 +105,7 @@ loop-again c =
           let (m, n) = next-of t xs last e in
           let q = is-mark s (n .attribute) (n .next) (n .reads) in
           subst (λ (x : ℕ). Making (Doc t) (t .before .loop .steps) xs last (Start t .args .from) (More t) (Kind s + 4) (t .before .loop .j) (t .before .loop .sum + x)) q
-          (subst (λ (p : ℕ). Making (Doc t) (t .before .loop .steps) xs last (Start t .args .from) (More t) p (t .before .loop .j) (t .before .loop .sum + mark (formOf (n .attribute .kind .basic))))
+          (subst (λ (p : ℕ). Making (Doc t) (t .before .loop .steps) xs last (Start t .args .from) (More t) p (t .before .loop .j) (t .before .loop .sum + mark (formOf (n .attribute .kind))))
           (is-place s (n .attribute) (n .next) (n .reads)) (n .on (ap (λ (x : ℕ). x % 4) q ∙ c .if1 .taken))),
     )
 
@@ -136,7 +135,7 @@ loop-again-2 c =
           let (m, n) = next-of t xs last e in
           let q = is-mark s (n .attribute) (n .next) (n .reads) in
           subst (λ (x : ℕ). Making (Doc t) (set (t .before .loop .steps) (t .before .loop .j) (t .before .loop .sum + x)) xs last (Start t .args .from) (More t) (Kind s + 4) (t .before .loop .j + 1) 0) q
-          (subst (λ (p : ℕ). Making (Doc t) (set (t .before .loop .steps) (t .before .loop .j) (t .before .loop .sum + mark (formOf (n .attribute .kind .basic)))) xs last (Start t .args .from) (More t) p (t .before .loop .j + 1) 0)
+          (subst (λ (p : ℕ). Making (Doc t) (set (t .before .loop .steps) (t .before .loop .j) (t .before .loop .sum + mark (formOf (n .attribute .kind)))) xs last (Start t .args .from) (More t) p (t .before .loop .j + 1) 0)
           (is-place s (n .attribute) (n .next) (n .reads)) (n .close (λ z. c .before .if1 .left (sym (ap (λ (x : ℕ). x % 4) q) ∙ z)) (omega (arith, c .if2 .left, l .4, Start t .pre .3)))),
     )
 
@@ -177,8 +176,8 @@ pub put-plan-spec : {M : Type 1} → statement M
 put-plan-spec =
     tie.close
     (tie.spec Inv-loop μ-loop loop-holds (λ c κs. (Start c .pre .0, attribute-named (Doc c) (c .before .loop .place) (accepted c)))
-    (λ c κs. attribute-kind (Doc (c .before)) (c .before .before .loop .place) (c .name-end .result) (c .name-end .ensures .0) (accepted (c .before))) (λ c κs. c .form-here .ensures .1)
-    (λ c. omega (arith, c .before .before .name-end .ensures .2, Start (Of c) .pre .0)) (λ c. let t = Of c in omega (arith, t .loop-test .taken))
+    (λ c κs. attribute-typed (Doc (c .before)) (c .before .before .loop .place) (c .led-skip .result) (c .led-skip .ensures .0) (accepted (c .before))) (λ c κs. c .form-here .ensures .1)
+    (λ c. omega (arith, c .before .before .led-skip .ensures .2, Start (Of c) .pre .0)) (λ c. let t = Of c in omega (arith, t .loop-test .taken))
     (λ c. omega (arith, sum-small (c .before))) (λ c. let t = Of (c .before) in omega (arith, t .loop-test .taken)) loop-again returns
     (λ c. omega (arith, sum-small (c .before .before))) (λ c. omega (arith, c .if2 .left, Start (Of (c .before .before)) .pre .3)) (λ c. omega (arith, c .if2 .left, Start (Of (c .before .before)) .pre .3))
     (λ c. omega (arith, c .if2 .left, Start (Of (c .before .before)) .pre .3))

@@ -7,26 +7,27 @@ use denote.Ref.{now}
 use mathlib.Core.Path.{_≡_, sym, ap, _∙_, subst}
 use mathlib.Core.List.{List}
 use mathlib.Core.Bool.{true}
-use Rattle.octets.specs.Reading.{ok, ends, isOk, Room, reach, run}
+use Rattle.octets.specs.Reading.{ok, ends, isOk, reach, run}
+use Rattle.octets.specs.declared.Room.{Room}
 use Rattle.octets.proofs.Ends.{left-suc, none-left, sub-none}
 use Rattle.kinds.specs.declared.Form.{Form}
 use Rattle.kinds.specs.Kinds.{formOf}
 use Rattle.layouts.specs.Layout.{Attribute, attributeAt}
-use Rattle.layouts.proofs.Parts.{attribute-fields, attribute-named}
-use Rattle.rows.specs.declared.Valued.{Valued}
-use Rattle.rows.specs.Row.{valueIn}
-use Rattle.rows.specs.Answers.{valued}
-use Rattle.rows.proofs.Values.{attribute-kind, Left, left-all, Next, left-next, left-none}
+use Rattle.layouts.proofs.Parts.{attribute-fields, attribute-named, attribute-typed}
+use Rattle.octets.specs.declared.Ended.{Ended}
+use Rattle.kinds.specs.Forms.{valueIn}
+use Rattle.octets.specs.Answers.{says}
+use Rattle.rows.proofs.Values.{Left, left-all, Next, left-next, left-none}
 use Rattle.rows.proofs.fields_end.Statement.{statement}
 use Rattle.rows.proofs.fields_end.Tie as tie
 
 abbrev Inv-loop : tie.InvT-loop
-Inv-loop doc at end book first count pos₀ place₀ i₀ pos place i =
-    (i ≤ count) × (at ≤ pos) × (pos ≤ end)
-    × ((xs : List Attribute) (last : ℕ) → run (attributeAt book) count first ≡ ok xs last → Left book doc end xs at (count - i) place last pos)
+Inv-loop doc at room book first count pos₀ place₀ i₀ pos place i =
+    (i ≤ count) × (at ≤ pos) × (pos ≤ reach room doc)
+    × ((xs : List Attribute) (last : ℕ) → run (attributeAt book) count first ≡ ok xs last → Left book doc room xs at last (count - i) place pos)
 
 abbrev μ-loop : tie.MeasureT-loop
-μ-loop doc at end book first count pos₀ place₀ i₀ pos place i = count - i
+μ-loop doc at room book first count pos₀ place₀ i₀ pos place i = count - i
 
 loop-holds : tie.Need-loop-holds Inv-loop μ-loop
 loop-holds c =
@@ -34,7 +35,7 @@ loop-holds c =
       search needs,
       search needs,
       c .before .before .pre .0,
-      λ xs last e. left-all (now (a .book)) (now (a .doc)) (a .end) xs (a .at) last (a .count - 0) (a .first) (subst (λ (k : ℕ). run (attributeAt (now (a .book))) k (a .first) ≡ ok xs last) (sub-none (a .count)) e),
+      λ xs last e. left-all (now (a .book)) (now (a .doc)) (a .room) xs (a .at) last (a .count - 0) (a .first) (subst (λ (k : ℕ). run (attributeAt (now (a .book))) k (a .first) ≡ ok xs last) (sub-none (a .count)) e),
     )
 
 -- The turn by names.
@@ -50,8 +51,8 @@ Doc t = now (Start t .args .doc)
 abbrev Book : Turn → List ℕ
 Book t = now (Start t .args .book)
 
-abbrev End : Turn → ℕ
-End t = Start t .args .end
+abbrev In : Turn → Room
+In t = Start t .args .room
 
 abbrev Pos : Turn → ℕ
 Pos t = t .before .loop .pos
@@ -64,10 +65,10 @@ More t = Start t .args .count - (t .before .loop .i + 1)
 
 -- The attribute here, of any that are read and of those that are required.
 next-of : (t : Turn) (xs : List Attribute) (last : ℕ) → run (attributeAt (Book t)) (Start t .args .count) (Start t .args .first) ≡ ok xs last
-    → Next (Book t) (Doc t) (End t) xs (Start t .args .at) last (More t) (Place t) (Pos t)
+    → Next (Book t) (Doc t) (In t) xs (Start t .args .at) last (More t) (Place t) (Pos t)
 next-of t xs last e =
-    left-next (Book t) (Doc t) (End t) xs (Start t .args .at) last (More t) (Place t) (Pos t)
-    (subst (λ (k : ℕ). Left (Book t) (Doc t) (End t) xs (Start t .args .at) k (Place t) last (Pos t)) (left-suc (Start t .args .count) (t .before .loop .i) (t .loop-test .taken)) (t .before .loop .inv .3 xs last e))
+    left-next (Book t) (Doc t) (In t) xs (Start t .args .at) last (More t) (Place t) (Pos t)
+    (subst (λ (k : ℕ). Left (Book t) (Doc t) (In t) xs (Start t .args .at) last k (Place t) (Pos t)) (left-suc (Start t .args .count) (t .before .loop .i) (t .loop-test .taken)) (t .before .loop .inv .3 xs last e))
 
 accepted : (t : Turn) → isOk (attributeAt (Book t) (Place t)) ≡ true
 accepted t = let r = Start t .pre .4 in ap isOk (next-of t (r .list) (r .end) (r .reads) .reads)
@@ -79,13 +80,13 @@ Answered = tie.After-value-end Inv-loop μ-loop
 abbrev Of : Answered → Turn
 Of v = v .before .before .before
 
-answered : (v : Answered) (x : Valued) → v .value-end .result ≡ x → (a : Attribute) (next : ℕ) → attributeAt (Book (Of v)) (Place (Of v)) ≡ ok a next
-    → (room : Room) → reach room (Doc (Of v)) ≡ End (Of v) → ends (valueIn room (formOf (a .kind .basic)) (Doc (Of v)) (Pos (Of v))) ≡ valued room x
-answered v x e a next r room h =
+answered : (v : Answered) (x : Ended) → v .value-end .result ≡ x → (a : Attribute) (next : ℕ) → attributeAt (Book (Of v)) (Place (Of v)) ≡ ok a next
+    → ends (valueIn (In (Of v)) (formOf (a .kind)) (Doc (Of v)) (Pos (Of v))) ≡ says x
+answered v x e a next r =
     let f = v .before in
-    let n = f .before .name-end in
+    let n = f .before .led-skip in
     let form = f .form-here .ensures .0 (a .kind) next (attribute-fields (Book (Of v)) (Place (Of v)) (n .result) (n .ensures .0) r .kind) in
-    ap (λ (f : Form). ends (valueIn room f (Doc (Of v)) (Pos (Of v)))) (sym form) ∙ (sym (v .value-end .ensures .0 room h) ∙ ap (valued room) e)
+    ap (λ (f : Form). ends (valueIn (In (Of v)) f (Doc (Of v)) (Pos (Of v)))) (sym form) ∙ (sym (v .value-end .ensures .0) ∙ ap says e)
 
 loop-again : tie.Need-loop-again Inv-loop μ-loop
 loop-again c =
@@ -97,37 +98,28 @@ loop-again c =
       w .1,
       λ xs last e.
           let n = next-of t xs last e in
-          let m = v .before .before .name-end in
+          let m = v .before .before .led-skip in
           let place : n .next ≡ m .result + 4 = attribute-fields (Book t) (Place t) (m .result) (m .ensures .0) (n .reads) .place in
-          subst (λ (p : ℕ). Left (Book t) (Doc t) (End t) xs (Start t .args .at) (More t) p last (c .before .one .given .0 .0)) place
+          subst (λ (p : ℕ). Left (Book t) (Doc t) (In t) xs (Start t .args .at) last (More t) p (c .before .one .given .0 .0)) place
           (n .on _ (answered v _ (c .before .one .given .1) (n .attribute) (n .next) (n .reads))),
     )
 
 returns : tie.Need-returns Inv-loop μ-loop
 returns c =
     let v = c .before .before .before in (
-      λ xs last e room h.
+      λ xs last e.
           let n = next-of (Of v) xs last e in
-          sym (n .over room h _ (answered v _ (c .before .one2 .given .1) (n .attribute) (n .next) (n .reads) room h)),
+          sym (n .stops _ _ (answered v _ (c .before .one2 .given .1) (n .attribute) (n .next) (n .reads))),
       tt,
     )
 
 returns-2 : tie.Need-returns-2 Inv-loop μ-loop
 returns-2 c =
-    let v = c .before .before .before in (
-      λ xs last e room h.
-          let n = next-of (Of v) xs last e in
-          sym (n .stops room h 14 _ (answered v _ (c .before .one3 .given .1) (n .attribute) (n .next) (n .reads) room h)),
-      tt,
-    )
-
-returns-3 : tie.Need-returns-3 Inv-loop μ-loop
-returns-3 c =
     let l = c .before .loop in
     let a = c .before .before .before .before .args in (
-      λ xs last e room h.
-          sym (left-none (now (a .book)) (now (a .doc)) (a .end) xs (a .at) last (l .place) (l .pos)
-          (subst (λ (k : ℕ). Left (now (a .book)) (now (a .doc)) (a .end) xs (a .at) k (l .place) last (l .pos)) (none-left (a .count) (l .i) (c .loop-test .left)) (l .inv .3 xs last e)) room h),
+      λ xs last e.
+          sym (left-none (now (a .book)) (now (a .doc)) (a .room) xs (a .at) last (l .place) (l .pos)
+          (subst (λ (k : ℕ). Left (now (a .book)) (now (a .doc)) (a .room) xs (a .at) last k (l .place) (l .pos)) (none-left (a .count) (l .i) (c .loop-test .left)) (l .inv .3 xs last e))),
       (l .inv .1, l .inv .2),
     )
 
@@ -135,7 +127,7 @@ pub fields-end-spec : {M : Type 1} → statement M
 fields-end-spec =
     tie.close
     (tie.spec Inv-loop μ-loop loop-holds (λ c κs. (Start c .pre .3, attribute-named (Book c) (Place c) (accepted c)))
-    (λ c κs. let t = c .before in attribute-kind (Book t) (Place t) (c .name-end .result) (c .name-end .ensures .0) (accepted t))
+    (λ c κs. let t = c .before in attribute-typed (Book t) (Place t) (c .led-skip .result) (c .led-skip .ensures .0) (accepted t))
     (λ c. search needs) (λ c. search needs)
-    (λ c κs. let t = c .before .before in (t .before .loop .inv .2, Start t .pre .1, Start t .pre .2, c .form-here .ensures .1)) (λ c. search needs)
-    (λ c. omega arith) loop-again (λ c. search needs) returns (λ c. search needs) returns-2 returns-3)
+    (λ c κs. let t = c .before .before in (omega (arith, t .before .loop .inv .2, Start t .pre .1, Start t .pre .2), Start t .pre .1, Start t .pre .2, c .form-here .ensures .1)) (λ c. search needs)
+    (λ c. omega arith) loop-again (λ c. search needs) returns returns-2)

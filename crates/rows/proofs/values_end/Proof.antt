@@ -16,7 +16,7 @@ returns : tie.Need-returns
 returns c =
     let a = c .before .before .before .before .before .args in
     let n = c .before .before .u32-at .ensures in
-    let v = c .open-end in (
+    let v = c .fields-end in (
       λ xs last r. v .ensures .0 xs last r ∙ sym (ap ends (values-open xs (now (a .doc)) (a .at) _ (sym n ∙ c .before .if1 .taken))),
       behind (a .at) (a .at + 4) (v .result) (length (now (a .doc))) (omega arith) (v .ensures .1),
     )
