@@ -1,16 +1,16 @@
 -- A run of steps: a walk over lent octets of at most 4,096 items, each told in one number.
-use Prim.Native.Nat.{ℕ, _+_, _-_, _*_, _^_, min}
+use Prim.Native.Nat.{ℕ, _+_, _-_, min}
 use mathlib.Core.List.{List, [], _∷_}
 use Rattle.octets.specs.Limits.{mostRows}
 use Rattle.octets.specs.Reading.{Read, ok, _then_}
 use Rattle.elements.specs.Element.{Item, layout, row}
 use Rattle.elements.specs.Steps.{stepAt}
 use Rattle.elements.specs.Walk.{Seen, Walk, walk, Lent, turnOver}
-use Rattle.walks.specs.Rows.{rowWord}
+use Rattle.walks.specs.Rows.{packed, rowWord}
 
--- A layout in one number: its number in the high 32 bits, the next place in the low 30; the two bits between say that it is no row.
+-- A layout in one number, labelled by its own: it is no row, and has no length to state.
 abbrev pub layoutWord : ℕ → ℕ → ℕ
-layoutWord number next = number * 2 ^ 32 + next
+layoutWord number next = packed number 0 0 next
 
 abbrev pub itemWord : Item → ℕ → ℕ
 itemWord (layout l) next = layoutWord (l .number) next

@@ -30,7 +30,7 @@ fn layout_word(number: u32, next: usize) -> u64
     requires { ⌜ next < 1073741824 ⌝ }
     ensures { λ r. ⌜ r ≡ layoutWord number next ⌝ }
 {
-    (number as u64) * 4294967296 + (next as u64)
+    (number as u64) * walks::LABEL + (next as u64)
 }
 
 // An item in one number, by what is told of it.

@@ -14,10 +14,13 @@ use Rattle.walks.specs.declared.Quick.{Quick}
 use Rattle.walks.specs.declared.Quick.the-variants as quick
 use Rattle.walks.specs.declared.Stretch.{Stretch}
 
--- A row in one number: a label of its layout in the high 32 bits; then a bit for a row and a bit for a stated length; the next place in the low 30.
+-- An item in one number: a label of its layout in the high 32 bits, a bit that says whether it is a row, a bit that says whether its length is stated, and the next place in the low 30.
+abbrev pub packed : ℕ → ℕ → ℕ → ℕ → ℕ
+packed label is-row is-stated next = ((label * 2 + is-row) * 2 + is-stated) * 2 ^ 30 + next
+
 abbrev pub rowWord : ℕ → Bool → ℕ → ℕ
-rowWord label true next = label * 2 ^ 32 + 2 ^ 31 + 2 ^ 30 + next
-rowWord label false next = label * 2 ^ 32 + 2 ^ 31 + next
+rowWord label true next = packed label 1 1 next
+rowWord label false next = packed label 1 0 next
 
 -- The word of an item seen, with the low 32 bits of the label of its layout's position; a layout has none.
 abbrev pub wordBy : List ℕ → Item → ℕ → ℕ → ℕ

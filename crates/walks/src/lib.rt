@@ -79,15 +79,22 @@ fn quick_row<'d, 'n, 'p>(
     }
 }
 
+// What the label, the bit of a row and the bit of a stated length count in a word: 2^32, 2^31 and 2^30.
+pub const LABEL: u64 = 0x1_0000_0000;
+
+const ROW: u64 = 0x8000_0000;
+
+const STATED: u64 = 0x4000_0000;
+
 // A row in one number.
 pub fn row_word(label: u32, stated: bool, next: usize) -> u64
     requires { ⌜ next < 1073741824 ⌝ }
     ensures { λ r. ⌜ r ≡ rowWord label stated next ⌝ }
 {
     if stated {
-        return (label as u64) * 4294967296 + 3221225472 + (next as u64);
+        return (label as u64) * LABEL + ROW + STATED + (next as u64);
     }
-    (label as u64) * 4294967296 + 2147483648 + (next as u64)
+    (label as u64) * LABEL + ROW + (next as u64)
 }
 
 // Puts a word at an index, where there is one.
@@ -128,7 +135,7 @@ pub fn rows_on<'d, 'n, 'p, 'k, 'w>(
             }
             Quick::Row(next, i) => {
                 let stated = octets::u32_at(doc, pos + 8) < 0xffff_ffff;
-                let label = (labels[i] % 4294967296) as u32;
+                let label = (labels[i] % LABEL) as u32;
                 put_word(words, n, row_word(label, stated, next));
                 n += 1;
                 pos = next;
