@@ -24,7 +24,7 @@ use Rattle.reading.proofs.Times.{Timed, header-timed, step-timed}
 use Rattle.questions.specs.Questions.{kindAsked, bookAsked, firstOf, nth, rowOf, rowAsked, fieldAsked}
 use Rattle.questions.specs.Answers.{bitsOf, octetsOf, valueOf}
 use Rattle.questions.proofs.Asked.{kind-forth}
-use Rattle.writing.specs.Writer.{startTime, value, inForm, valueCall, finish}
+use Rattle.writer.specs.Writer.{startTime, value, inForm, valueCall, finish}
 use Rattle.promises_writing.specs.Copies.{Copies}
 
 -- A value that its form has an image for is what its bits and octets say.

@@ -13,9 +13,9 @@ use Rattle.octets.specs.Writing.{word, textImage, images, Each, Octet, Text}
 use Rattle.octets.proofs.Spans.{each-join}
 use Rattle.octets.proofs.Ends.{chosen-ok}
 use Rattle.headers.specs.Header.{Namespace, Header, headerImage, GoodNamespace, GoodHeader}
-use Rattle.writing.specs.declared.Turn.{Turn}
-use Rattle.writing.specs.declared.Turn.the-variants as wants
-use Rattle.writing.specs.Writer.{Call, recorder, startTime, defaultNamespace, namespaceCount, uri, shortName, serviceCount, service, documentId, fine, unless, turnAt, does}
+use Rattle.writer.specs.declared.Wanted.{Wanted}
+use Rattle.writer.specs.declared.Wanted.the-variants as wants
+use Rattle.writer.specs.Writer.{Call, recorder, startTime, defaultNamespace, namespaceCount, uri, shortName, serviceCount, service, documentId, fine, unless, turnAt, does}
 use Rattle.promises_writing.specs.Promise.{namespaceCalls, serviceCalls, headerCalls, Told, adds, tell}
 use Rattle.promises_writing.proofs.Standing.{Spot, spot, stateAt, behind}
 use Rattle.promises_writing.proofs.Put.{octetsOf, images-snoc, each-snoc, header-octets}
@@ -36,7 +36,7 @@ good-header g₁ g₂ g₃ g₄ g₅ g₆ g₇ g₈ g₉ =
     record { recorder = g₁; start = g₂; default = g₃; few-others = g₄; others = g₅; few-services = g₆; services = g₇; id-length = g₈; id = g₉ }
 
 -- One call more of a header.
-on : {calls more : Header → ℕ → List ℕ → List Call} {Counts Next : Header → ℕ → Type 0} {x : Spot} {done : List ℕ} {told : Told} (c : Call) (u : Turn) (j : ℕ)
+on : {calls more : Header → ℕ → List ℕ → List Call} {Counts Next : Header → ℕ → Type 0} {x : Spot} {done : List ℕ} {told : Told} (c : Call) (u : Wanted) (j : ℕ)
     (i : InHeader calls Counts x done told) (h : Header) (n : ℕ) (name : List ℕ) → GoodHeader h → Text name → Next h n
     → calls (i .h) (i .n) (i .name) ++ c ∷ [] ≡ more h n name → InHeader more Next (spot (x .book) u j (x .start) (x .rows)) (done ++ octetsOf c) (adds told c)
 on {told = told} c u j i h n name good text counts said =

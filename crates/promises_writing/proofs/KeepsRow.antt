@@ -26,9 +26,9 @@ use Rattle.rows.specs.Row.{Value, bits, held, Field, valueImage, fieldImage, le
 use Rattle.headers.specs.Header.{headerImage}
 use Rattle.elements.specs.Element.{row}
 use Rattle.elements.specs.Document.{Document, itemImage, image}
-use Rattle.writing.specs.declared.Turn.{Turn}
-use Rattle.writing.specs.declared.Turn.the-variants as wants
-use Rattle.writing.specs.Writer.{Call, openRow, value, closeRow, giveUp, finish, isOpen, fine, unless, known, rowLayout, suits, isNext, does}
+use Rattle.writer.specs.declared.Wanted.{Wanted}
+use Rattle.writer.specs.declared.Wanted.the-variants as wants
+use Rattle.writer.specs.Writer.{Call, openRow, value, closeRow, giveUp, finish, isOpen, fine, unless, inBook, rowLayout, suits, isNext, does}
 use Rattle.promises_writing.specs.Promise.{each, fieldCalls, itemCalls, headerCalls, callsOf, GivenValue, Told, adds, opens, tell}
 use Rattle.promises_writing.proofs.Standing.{Spot, spot, stateAt, standing, behind, row-layout, close-leaves, give-up-leaves}
 use Rattle.promises_writing.proofs.Writes.{image-parts}
@@ -38,9 +38,9 @@ use Rattle.promises_writing.proofs.KeepsHeader.{is-text, Keeps}
 use Rattle.promises_writing.proofs.Items.{next-item, same-between, opening, longer, one-more}
 
 -- A layout that is looked up without fault is there.
-known-is : (o : Option Layout) → isOk (known o then λ _ _. fine) ≡ true → (l : Layout) × (o ≡ some l)
-known-is (some l) e = (l, refl)
-known-is none e = absurd (let z : _≡_ {A = ℕ} 0 1 = cc in omega arith)
+in-book : (o : Option Layout) → isOk (inBook o then λ _ _. fine) ≡ true → (l : Layout) × (o ≡ some l)
+in-book (some l) e = (l, refl)
+in-book none e = absurd (let z : _≡_ {A = ℕ} 0 1 = cc in omega arith)
 
 -- A value that is taken is the next field's.
 record Next (attributes : List Attribute) (b : Basic) (v : Value) : Type 0 where
@@ -79,7 +79,7 @@ row-form : {x : Spot} {done : List ℕ} {told : Told} (i : InRow x done told)
 row-form i = i .opened .is ∙ ap (λ (z : List ℕ). i .opened .before ++ z) (ap (images octetsOf) (i .said) ∙ row-octets (i .r))
 
 -- What is open at a turn.
-opened-at : (t : Turn) {x : Spot} {done : List ℕ} (told : Told) → Shape t x done told → isOpen t ≡ true → Opened x done told
+opened-at : (t : Wanted) {x : Spot} {done : List ℕ} (told : Told) → Shape t x done told → isOpen t ≡ true → Opened x done told
 opened-at wants.Recorder told i e = absurd (let z : _≡_ {A = ℕ} 0 1 = cc in omega arith)
 opened-at wants.StartTime told i e = absurd (let z : _≡_ {A = ℕ} 0 1 = cc in omega arith)
 opened-at wants.DefaultNamespace told i e = absurd (let z : _≡_ {A = ℕ} 0 1 = cc in omega arith)
@@ -106,8 +106,8 @@ module _ {buffer lent : List ℕ} {told : Told} (now : Stand buffer lent told) w
   pub keep-row : (n : ℕ) (stated : _) → n < 2 ^ 32 → Keeps now (openRow n stated)
   unfolding does
   keep-row n stated small new p =
-      let found = known-is (find n (now .at .book)) (p .faultless) in
-      put-keeps now (opens told (openRow n stated)) wants.Element wants.Value (known (find n (now .at .book)) then λ _ _. fine) (octetsOf (openRow n stated)) 0 (length (now .done)) p λ i _ _.
+      let found = in-book (find n (now .at .book)) (p .faultless) in
+      put-keeps now (opens told (openRow n stated)) wants.Element wants.Value (inBook (find n (now .at .book)) then λ _ _. fine) (octetsOf (openRow n stated)) 0 (length (now .done)) p λ i _ _.
       record {
         opened = opening (now .at) (now .done) told (openRow n stated) wants.Value i;
         r = record { number = n; is-stated = stated; fields = [] };

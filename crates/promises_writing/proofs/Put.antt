@@ -8,7 +8,7 @@ use Rattle.layouts.specs.Layout.{Layout, attributeImage, layoutImage}
 use Rattle.rows.specs.Row.{Row, fieldImage, lengthImage}
 use Rattle.headers.specs.Header.{Header, namespaceImage, headerImage}
 use Rattle.elements.specs.Element.{layout}
-use Rattle.writing.specs.Writer.{Call, openRow, fresh, does}
+use Rattle.writer.specs.Writer.{Call, openRow, fresh, does}
 use Rattle.promises_writing.specs.Promise.{each, namespaceCalls, serviceCalls, attributeCalls, fieldCalls, itemCalls, headerCalls}
 
 -- The octets that a call puts, where they do not depend on the state.

@@ -14,10 +14,10 @@ use Rattle.octets.specs.Writing.{word, textImage, images}
 use Rattle.layouts.specs.Book.{Book, bookImage, GoodBook}
 use Rattle.headers.specs.Header.{Namespace, Header, namespaceImage, headerImage, GoodHeader}
 use Rattle.elements.proofs.Behind.{holding-of}
-use Rattle.writing.specs.declared.Turn.{Turn}
-use Rattle.writing.specs.declared.Turn.the-variants as wants
-use Rattle.writing.specs.Writer.{Call, recorder, startTime, defaultNamespace, namespaceCount, uri, shortName, serviceCount, service, documentId, Written, room, rule, fine, unless, put, turnAt, does}
-use Rattle.writing.proofs.Bounds.{Bounds}
+use Rattle.writer.specs.declared.Wanted.{Wanted}
+use Rattle.writer.specs.declared.Wanted.the-variants as wants
+use Rattle.writer.specs.Writer.{Call, recorder, startTime, defaultNamespace, namespaceCount, uri, shortName, serviceCount, service, documentId, Written, room, rule, orderOf, fine, unless, put, turnAt, does}
+use Rattle.writer.proofs.Bounds.{Bounds}
 use Rattle.promises_writing.specs.Promise.{each, namespaceCalls, serviceCalls, headerCalls, onto}
 use Rattle.promises_writing.proofs.Calls.{Passes, accepted, Runs, runs-both, runs-none, runs-one}
 use Rattle.promises_writing.proofs.Standing.{Spot, spot, stateAt, standing, onto-length, drop-on, put-leaves}
@@ -68,7 +68,7 @@ ready-bounds buffer done x r h =
 
 module _ (buffer lent : List ℕ) (long : bookRoom ≤ length lent) where
   -- One call that puts octets and has no fault.
-  pub put-one : (c : Call) (done xs : List ℕ) (x : Spot) (u : Turn) (j i : ℕ) (fault : Read (Unit {0})) → GoodBook (x .book)
+  pub put-one : (c : Call) (done xs : List ℕ) (x : Spot) (u : Wanted) (j i : ℕ) (fault : Read (Unit {0})) → GoodBook (x .book)
       → does (stateAt done x) (onto buffer done) (x .book) c ≡ put (stateAt done x) (x .turn) fault xs u j i → isOk fault ≡ true → Ready x (length done)
       → Puts buffer lent (c ∷ []) xs done x (spot (x .book) u j i (x .rows))
   put-one c done xs x u j i fault good e f r =
@@ -78,7 +78,7 @@ module _ (buffer lent : List ℕ) (long : bookRoom ≤ length lent) where
             let p : Passes (stateAt done x) (onto buffer done) (length (bookImage (x .book))) (x .book) (put (stateAt done x) (x .turn) fault xs u j i) [] =
             record {
               inside = ready-bounds buffer done x r (omega arith);
-              in-turn = eq-eqb (rule (x .turn) .number) (rule (x .turn) .number) refl;
+              in-turn = eq-eqb (orderOf (x .turn)) (orderOf (x .turn)) refl;
               faultless = f;
               end = 0;
               takes = refl;

@@ -22,9 +22,9 @@ use Rattle.layouts.proofs.Growing.{learnt}
 use Rattle.elements.specs.Element.{layout}
 use Rattle.elements.specs.Document.{itemImage}
 use Rattle.elements.proofs.Behind.{holding-of}
-use Rattle.writing.specs.declared.Turn.{Turn}
-use Rattle.writing.specs.declared.Turn.the-variants as wants
-use Rattle.writing.specs.Writer.{Call, openLayout, typeName, attributeCount, attributeName, attributeType, rule, fine, unless, attributes, does}
+use Rattle.writer.specs.declared.Wanted.{Wanted}
+use Rattle.writer.specs.declared.Wanted.the-variants as wants
+use Rattle.writer.specs.Writer.{Call, openLayout, typeName, attributeCount, attributeName, attributeType, rule, orderOf, fine, unless, attributes, does}
 use Rattle.promises_writing.specs.Promise.{each, attributeCalls, itemCalls, onto}
 use Rattle.promises_writing.proofs.Calls.{Passes, accepted, runs-one}
 use Rattle.promises_writing.proofs.Standing.{Spot, spot, stateAt, drop-on, behind, so-far, takes-learnt, complete-leaves}
@@ -44,7 +44,7 @@ layout-starts l = simp append-assoc
 module _ (buffer lent : List ℕ) (long : bookRoom ≤ length lent) (b : Book) (good : GoodBook b) (rows : ℕ) (few : rows ≤ mostRows)
     (before : List ℕ) (l : Layout) (next : Book) (inside : GoodLayout l) (learns : learn b l 0 ≡ ok next 0) where
   -- The call that completes the layout.
-  complete-one : (c : Call) (done more xs : List ℕ) (t : Turn) (k : ℕ) (fault : Read (Unit {0})) → done ≡ before ++ more → 4 ≤ length more
+  complete-one : (c : Call) (done more xs : List ℕ) (t : Wanted) (k : ℕ) (fault : Read (Unit {0})) → done ≡ before ++ more → 4 ≤ length more
       → more ++ xs ≡ word 4 1 ++ layoutImage l
       → does (stateAt done (spot b t k (length before) rows)) (onto buffer done) b c ≡ attributes (stateAt done (spot b t k (length before) rows)) t fault xs 0
       → isOk fault ≡ true → Ready (spot b t k (length before) rows) (length done)
@@ -58,7 +58,7 @@ module _ (buffer lent : List ℕ) (long : bookRoom ≤ length lent) (b : Book) (
             let p : Passes (stateAt done x) (onto buffer done) (length (bookImage b)) b (attributes (stateAt done x) t fault xs 0) (found .new) =
             record {
               inside = ready-bounds buffer done x r (omega arith);
-              in-turn = eq-eqb (rule t .number) (rule t .number) refl;
+              in-turn = eq-eqb (orderOf t) (orderOf t) refl;
               faultless = f;
               end = 0;
               takes = rw (so-far before more (drop (length done) buffer) xs done x l form refl low whole) (found .takes);

@@ -24,9 +24,9 @@ use Rattle.rows.specs.Row.{Value, bits, held, Field, Row, valueImage, fieldImag
 use Rattle.elements.specs.Element.{row}
 use Rattle.elements.specs.Document.{itemImage}
 use Rattle.elements.proofs.Behind.{holding-of}
-use Rattle.writing.specs.declared.Turn.the-variants as wants
-use Rattle.writing.specs.Writer.{openRow, value, closeRow, room, fine, unless, known, rowLayout, suits, isNext, does}
-use Rattle.writing.proofs.Values.{length-size}
+use Rattle.writer.specs.declared.Wanted.the-variants as wants
+use Rattle.writer.specs.Writer.{openRow, value, closeRow, room, fine, unless, inBook, rowLayout, suits, isNext, does}
+use Rattle.writer.proofs.Tests.{length-size}
 use Rattle.promises_writing.specs.Promise.{each, fieldCalls, itemCalls, onto}
 use Rattle.promises_writing.proofs.Calls.{Passes, accepted, Runs, runs-both, runs-one}
 use Rattle.promises_writing.proofs.Standing.{Spot, spot, stateAt, standing, row-layout, close-leaves}
@@ -117,7 +117,7 @@ module _ (buffer lent : List ℕ) (long : bookRoom ≤ length lent) (b : Book) (
       let many : length (l .attributes) ≤ mostAttributes = each-find GoodLayout (r .number) b l (good .good) found .few in
       let place = close-leaves lent before [] whole (spot b wants.Value 0 (length before) rows) r (top-opens (images fieldImage (r .fields))) refl refl .1 in
       let opens : Puts buffer lent (openRow (r .number) (r .is-stated) ∷ []) top before (spot b wants.Element 0 0 rows) (spot b wants.Value 0 (length before) rows) =
-      put-one buffer lent long (openRow (r .number) (r .is-stated)) before top (spot b wants.Element 0 0 rows) wants.Value 0 (length before) (known (find (r .number) b) then λ _ _. fine) good refl (rw found) (omega arith) in
+      put-one buffer lent long (openRow (r .number) (r .is-stated)) before top (spot b wants.Element 0 0 rows) wants.Value 0 (length before) (inBook (find (r .number) b) then λ _ _. fine) good refl (rw found) (omega arith) in
       let values : Puts buffer lent (each fieldCalls (r .fields)) (images fieldImage (r .fields)) (before ++ top) (spot b wants.Value 0 (length before) rows) (spot b wants.Value (length (l .attributes)) (length before) rows) =
       rw (append-nil top, zero-add (length (l .attributes))) at (values-put (l .attributes) (r .fields) 0 [] refl (omega arith) g) in
       let all = append-assoc before top (images fieldImage (r .fields)) in

@@ -6,10 +6,10 @@ use Rattle.octets.specs.Reading.{Read, ok, no}
 use Rattle.octets.specs.Contracts.{Settled, SettledLent}
 use Rattle.octets.proofs.Alike.{_also_, put-back}
 use Rattle.layouts.specs.Book.{bookIn}
-use Rattle.writing.specs.declared.State.{State}
-use Rattle.writing.specs.declared.Answer.{Answer}
-use Rattle.writing.specs.Writer.{Call, Written, does, answered}
-use Rattle.writing.specs.Answers.{Left, left, told, leavesOf, leaves, Refuses}
+use Rattle.writer.specs.declared.State.{State}
+use Rattle.writer.specs.declared.Answer.{Answer}
+use Rattle.writer.specs.Writer.{Call, Written, does, deedAnswer}
+use Rattle.writer.specs.Answers.{Left, left, leftOf, deedLeaves, callLeaves, Refuses}
 use Rattle.writing.proofs.fresh as fresh
 use Rattle.writing.proofs.recorder as recorder
 use Rattle.writing.proofs.start_time as start-time
@@ -64,11 +64,11 @@ one-answer {r} {q} {b} {c} {k} {l} e f =
     (ap (λ (y : Left). y .answer) same, ap (λ (y : Left). y .buffer) same, ap (λ (y : Left). y .book) same)
 
 -- A refused call leaves buffer and book.
-unchanged : {x : Answer} {b k : List ℕ} (s : State) (buffer lent : List ℕ) (used : ℕ) (c : Call) → left x b k ≡ leaves s buffer lent used c → Refuses x → (b ≡ buffer) × (k ≡ lent)
-unfolding leaves leavesOf
-unchanged {x} {b} {k} s buffer lent used c e h = go (answered s buffer lent used (does s buffer (bookIn lent used) c)) e
+unchanged : {x : Answer} {b k : List ℕ} (s : State) (buffer lent : List ℕ) (used : ℕ) (c : Call) → left x b k ≡ callLeaves s buffer lent used c → Refuses x → (b ≡ buffer) × (k ≡ lent)
+unfolding callLeaves deedLeaves
+unchanged {x} {b} {k} s buffer lent used c e h = go (deedAnswer s buffer lent used (does s buffer (bookIn lent used) c)) e
   where
-    go : (r : Read Written) → left x b k ≡ told r buffer lent → (b ≡ buffer) × (k ≡ lent)
+    go : (r : Read Written) → left x b k ≡ leftOf r buffer lent → (b ≡ buffer) × (k ≡ lent)
     go (ok w at) f = absurd (subst Refuses (ap (λ (y : Left). y .answer) f) h)
     go (no n p) f = (ap (λ (y : Left). y .buffer) f, ap (λ (y : Left). y .book) f)
 

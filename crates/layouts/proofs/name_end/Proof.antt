@@ -7,12 +7,12 @@ use mathlib.Core.List.{List}
 use denote.Ref.{now}
 use Rattle.octets.specs.Reading.{ok, ends, text}
 use Rattle.octets.proofs.Ends.{value-is}
-use Rattle.layouts.proofs.Parts.{Written, text-fields}
+use Rattle.layouts.proofs.Parts.{TextAt, text-fields}
 use Rattle.layouts.proofs.name_end.Statement.{statement}
 use Rattle.layouts.proofs.name_end.Tie as tie
 
 abbrev Name : tie.Start → Type 0
-Name s = (xs : List ℕ) × (next : ℕ) × (text (now (s .args .s)) (s .args .at) ≡ ok xs next) × Written (now (s .args .s)) (s .args .at) xs next
+Name s = (xs : List ℕ) × (next : ℕ) × (text (now (s .args .s)) (s .args .at) ≡ ok xs next) × TextAt (now (s .args .s)) (s .args .at) xs next
 
 name : (s : tie.Start) → Name s
 name s =

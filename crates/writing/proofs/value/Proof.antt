@@ -13,8 +13,8 @@ use Rattle.kinds.specs.declared.Value as given
 use Rattle.kinds.specs.Kinds.{formOf}
 use Rattle.kinds.specs.Values.{basicOfValue, bitsOfValue}
 use Rattle.rows.specs.Row.{bits, held}
-use Rattle.writing.specs.Writer.{Call, value, suits, inForm, valueCall}
-use Rattle.writing.specs.Answers.{leaves}
+use Rattle.writer.specs.Writer.{Call, value, suits, inForm, valueCall}
+use Rattle.writer.specs.Answers.{callLeaves}
 use Rattle.writing.proofs.value.Statement.{statement}
 use Rattle.writing.proofs.value.Tie as tie
 
@@ -49,7 +49,7 @@ returns c =
     let a = b .before .before .before .before .args in
     let xs = now (a .xs) in
     o .value-octets .ensures
-    ∙ ap (leaves (a .s) (now (a .buf)) (now (a .book)) (a .used))
+    ∙ ap (callLeaves (a .s) (now (a .buf)) (now (a .book)) (a .used))
     (octets-given (a .v) xs (b .basic-of-value .result) (b .basic-of-value .ensures) (sym (u .suits-octets .ensures xs) ∙ i .if1 .taken))
 
 returns-2 : tie.Need-returns-2
@@ -62,7 +62,7 @@ returns-2 c =
     let a = b .before .before .before .before .args in
     let xs = now (a .xs) in
     n .value-number .ensures
-    ∙ ap (leaves (a .s) (now (a .buf)) (now (a .book)) (a .used))
+    ∙ ap (callLeaves (a .s) (now (a .buf)) (now (a .book)) (a .used))
     (number-given (a .v) xs (b .basic-of-value .result) (b .basic-of-value .ensures) (m .bits-of-value .ensures) (sym (u .suits-octets .ensures xs) ∙ i .if1 .left))
 
 pub value-spec : {M : Type 1} → statement M

@@ -4,7 +4,7 @@ use mathlib.Core.Path.{_∙_}
 use mathlib.Core.List.{append-nil}
 use Rattle.kinds.specs.Kinds.{formOf}
 use Rattle.rows.specs.Row.{bits}
-use Rattle.writing.proofs.Values.{number-octets, number-image}
+use Rattle.giving.proofs.Values.{number-octets, number-image}
 use Rattle.writing.proofs.value_number.Statement.{statement}
 use Rattle.writing.proofs.value_number.Tie as tie
 

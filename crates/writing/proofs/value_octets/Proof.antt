@@ -12,7 +12,7 @@ use Rattle.kinds.specs.declared.Form.{Form}
 use Rattle.kinds.specs.declared.Form.the-variants as form
 use Rattle.kinds.specs.Kinds.{formOf}
 use Rattle.rows.specs.Row.{held, valueImage}
-use Rattle.writing.specs.Writer.{suits}
+use Rattle.writer.specs.Writer.{suits}
 use Rattle.writing.proofs.value_octets.Statement.{statement}
 use Rattle.writing.proofs.value_octets.Tie as tie
 
