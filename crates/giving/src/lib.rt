@@ -394,7 +394,7 @@ pub fn give_item(
 }
 
 // Octets in a turn that complete a layout.
-pub fn complete(
+fn complete(
     s: State,
     buf: &mut [u8],
     book: &mut [u8],
@@ -491,7 +491,7 @@ pub fn layout_fault(book: &[u8], used: usize, n: u32) -> Fault
 }
 
 // 12 for a row whose layout is not in the book; 21 with no field left, or for a value that is not of the next field's type.
-pub fn value_fault(next: Next, b: Basic, fits: bool) -> Fault
+fn value_fault(next: Next, b: Basic, fits: bool) -> Fault
     ensures { λ r. ⌜ says r ≡ valueFault next b fits ⌝ }
 {
     match next {

@@ -99,29 +99,23 @@ module _ (s : State) (size : ℕ) where
             refl
 
         module _ (r : s .rows ≤ mostRows) where
-          pub none-open : rule (s .turn) .head ≡ 0 → bounded s size ≡ true
+          -- What is open is left.
+          head-left : bounded s size ≡ choose (isOpen (s .turn)) (λ _. leb (s .start + rule (s .turn) .head) (s .place)) (λ _. true)
           unfolding bounded
-          none-open h =
+          head-left =
               rw (
                 le-leb (s .place) (room size) p,
                 le-leb (rule (s .turn) .least) (s .count) l,
                 le-leb (s .count) (rule (s .turn) .most) m,
                 le-leb (s .rows) mostRows r,
-                le-ltb 0 (rule (s .turn) .head) (omega arith),
               )
               refl
 
+          pub none-open : rule (s .turn) .head ≡ 0 → bounded s size ≡ true
+          none-open h = head-left ∙ rw (le-ltb 0 (rule (s .turn) .head) (omega arith)) refl
+
           pub one-open : 0 < rule (s .turn) .head → bounded s size ≡ leb (s .start + rule (s .turn) .head) (s .place)
-          unfolding bounded
-          one-open h =
-              rw (
-                le-leb (s .place) (room size) p,
-                le-leb (rule (s .turn) .least) (s .count) l,
-                le-leb (s .count) (rule (s .turn) .most) m,
-                le-leb (s .rows) mostRows r,
-                lt-ltb 0 (rule (s .turn) .head) h,
-              )
-              refl
+          one-open h = head-left ∙ rw (lt-ltb 0 (rule (s .turn) .head) h) refl
 
 pub bounded-is : (s : State) (size : ℕ) → Bounds s size → bounded s size ≡ true
 bounded-is s size b = go (isOpen (s .turn)) refl

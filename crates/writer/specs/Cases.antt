@@ -28,18 +28,29 @@ state place turn count start rows = record { place = place; turn = turn; count =
 abbrev over : State → List ℕ → List ℕ → ℕ → Written
 over s buffer book used = record { state = s; buffer = buffer; book = book; used = used }
 
--- A book with nothing in it; with the specimen's layout; with layout 8, of a boolean and a derived string; with 16 octets left.
+-- A book with nothing in it; with the specimen's layout, which is layout 7; with layout 8, of a boolean and a derived string; with 16 octets left.
 abbrev empty : List ℕ
 empty = replicate bookRoom 9
 
+abbrev sevenImage : List ℕ
+sevenImage =
+    0 ∷ 0 ∷ 0 ∷ 7 ∷ 0 ∷ 0 ∷ 0 ∷ 1 ∷ 65 ∷ 0 ∷ 0 ∷ 0 ∷ 2 ∷ 0 ∷ 0 ∷ 0 ∷ 1 ∷ 117 ∷ 0 ∷ 0 ∷ 0 ∷ 34 ∷ 0 ∷ 0 ∷ 0 ∷ 1 ∷ 100 ∷ 0 ∷ 0 ∷ 0 ∷ 42 ∷ []
+
 abbrev seven : List ℕ
-seven = 0 ∷ 0 ∷ 0 ∷ 7 ∷ 0 ∷ 0 ∷ 0 ∷ 1 ∷ 65 ∷ 0 ∷ 0 ∷ 0 ∷ 2 ∷ 0 ∷ 0 ∷ 0 ∷ 1 ∷ 117 ∷ 0 ∷ 0 ∷ 0 ∷ 34 ∷ 0 ∷ 0 ∷ 0 ∷ 1 ∷ 100 ∷ 0 ∷ 0 ∷ 0 ∷ 42 ∷ replicate 32737 9
+seven = sevenImage ++ replicate 32737 9
 
 abbrev eight : List ℕ
 eight = 0 ∷ 0 ∷ 0 ∷ 8 ∷ 0 ∷ 0 ∷ 0 ∷ 0 ∷ 0 ∷ 0 ∷ 0 ∷ 2 ∷ 0 ∷ 0 ∷ 0 ∷ 1 ∷ 98 ∷ 0 ∷ 0 ∷ 0 ∷ 41 ∷ 0 ∷ 0 ∷ 0 ∷ 1 ∷ 115 ∷ 0 ∷ 0 ∷ 1 ∷ 40 ∷ replicate 32738 9
 
 abbrev full : List ℕ
 full = 0 ∷ 0 ∷ 0 ∷ 1 ∷ 0 ∷ 0 ∷ 127 ∷ 228 ∷ replicate 32744 0 ++ (replicate 16 9)
+
+-- That book with a layout 2 that fills it, and the layout.
+abbrev twoImage : List ℕ
+twoImage = 0 ∷ 0 ∷ 0 ∷ 2 ∷ 0 ∷ 0 ∷ 0 ∷ 4 ∷ 49 ∷ 50 ∷ 51 ∷ 52 ∷ 0 ∷ 0 ∷ 0 ∷ 0 ∷ []
+
+abbrev filled : List ℕ
+filled = 0 ∷ 0 ∷ 0 ∷ 1 ∷ 0 ∷ 0 ∷ 127 ∷ 228 ∷ replicate 32744 0 ++ twoImage
 
 -- All that stands, as one list; of the book its length and first 256 octets.
 abbrev seen : Written → List ℕ
@@ -60,18 +71,59 @@ unfoldable pub plays : List Script → Bool
 plays [] = true
 plays (s ∷ rest) = same (play (s .calls) (s .before)) (s .answers ++ seen (s .after)) && plays rest
 
+-- The specimen: its calls and its octets, part by part; and layout 7 up to its last type.
+abbrev headerCalls : List Call
+headerCalls = recorder [] ∷ startTime 86400 ∷ defaultNamespace [] ∷ namespaceCount 0 ∷ serviceCount 0 ∷ documentId (replicate 16 0) ∷ []
+
+abbrev layoutCalls : List Call
+layoutCalls = openLayout 7 ∷ typeName (65 ∷ []) ∷ attributeCount 2 ∷ attributeName (117 ∷ []) ∷ attributeType 34 ∷ attributeName (100 ∷ []) ∷ []
+
+abbrev rowCalls : Bool → ℕ → ℕ → List Call
+rowCalls stated u d = openRow 7 stated ∷ value b.UnsignedInt (bits u) ∷ value b.Byte (bits d) ∷ closeRow ∷ []
+
+abbrev headerOctets : List ℕ
+headerOctets =
+    0 ∷ 0 ∷ 0 ∷ 4 ∷ 0 ∷ 0 ∷ 0 ∷ 0 ∷ 0 ∷ 0 ∷ 0 ∷ 0 ∷ 0 ∷ 1 ∷ 81 ∷ 128 ∷ replicate 15 0 ++ (16 ∷ replicate 16 0 ++ (255 ∷ 255 ∷ 255 ∷ 255 ∷ []))
+
+abbrev statedOctets : List ℕ
+statedOctets = 0 ∷ 0 ∷ 0 ∷ 2 ∷ 0 ∷ 0 ∷ 0 ∷ 7 ∷ 0 ∷ 0 ∷ 0 ∷ 5 ∷ 0 ∷ 0 ∷ 0 ∷ 10 ∷ 254 ∷ []
+
+abbrev unstatedOctets : List ℕ
+unstatedOctets = 0 ∷ 0 ∷ 0 ∷ 2 ∷ 0 ∷ 0 ∷ 0 ∷ 7 ∷ 255 ∷ 255 ∷ 255 ∷ 255 ∷ 0 ∷ 0 ∷ 0 ∷ 0 ∷ 127 ∷ []
+
+abbrev endOctets : ℕ → List ℕ
+endOctets rows = 0 ∷ 0 ∷ 0 ∷ 3 ∷ 0 ∷ 0 ∷ 0 ∷ rows ∷ 0 ∷ 0 ∷ 0 ∷ 0 ∷ 0 ∷ 1 ∷ 81 ∷ 129 ∷ []
+
+-- A header with two namespaces and two services, part by part.
+abbrev listCalls : List Call
+listCalls =
+    recorder (114 ∷ 101 ∷ 99 ∷ []) ∷ startTime 18446744073709551615 ∷ defaultNamespace (110 ∷ 115 ∷ []) ∷ namespaceCount 2
+    ∷ uri (97 ∷ []) ∷ shortName (98 ∷ []) ∷ uri (99 ∷ []) ∷ service (120 ∷ []) ∷ shortName [] ∷ serviceCount 2 ∷ service (115 ∷ []) ∷ service (116 ∷ []) ∷ []
+
+abbrev namesOctets : List ℕ
+namesOctets =
+    0 ∷ 0 ∷ 0 ∷ 4 ∷ 0 ∷ 0 ∷ 0 ∷ 3 ∷ 114 ∷ 101 ∷ 99 ∷ 255 ∷ 255 ∷ 255 ∷ 255 ∷ 255 ∷ 255 ∷ 255 ∷ 255 ∷ 0 ∷ 0 ∷ 0 ∷ 2 ∷ 110 ∷ 115 ∷ []
+
+abbrev listsOctets : List ℕ
+listsOctets =
+    0 ∷ 0 ∷ 0 ∷ 2 ∷ 0 ∷ 0 ∷ 0 ∷ 1 ∷ 97 ∷ 0 ∷ 0 ∷ 0 ∷ 1 ∷ 98 ∷ 0 ∷ 0 ∷ 0 ∷ 1 ∷ 99 ∷ 0 ∷ 0 ∷ 0 ∷ 0
+    ∷ 0 ∷ 0 ∷ 0 ∷ 2 ∷ 0 ∷ 0 ∷ 0 ∷ 1 ∷ 115 ∷ 0 ∷ 0 ∷ 0 ∷ 1 ∷ 116 ∷ []
+
+abbrev idOctets : List ℕ
+idOctets = 0 ∷ 1 ∷ 2 ∷ 3 ∷ 4 ∷ 5 ∷ 6 ∷ 7 ∷ 8 ∷ 9 ∷ 10 ∷ 11 ∷ 12 ∷ 13 ∷ 14 ∷ 15 ∷ []
+
 unfoldable pub scripts : List Script
 scripts =
     -- The specimen, into a buffer with three octets more.
     script (over (state 0 wants.Recorder 0 0 0) (replicate 140 5) empty 0)
-    (recorder [] ∷ startTime 86400 ∷ defaultNamespace [] ∷ namespaceCount 0 ∷ serviceCount 0 ∷ documentId (replicate 16 0) ∷ openLayout 7 ∷ typeName (65 ∷ []) ∷ attributeCount 2 ∷ attributeName (117 ∷ []) ∷ attributeType 34 ∷ attributeName (100 ∷ []) ∷ attributeType 42 ∷ openRow 7 true ∷ value b.UnsignedInt (bits 10) ∷ value b.Byte (bits 254) ∷ closeRow ∷ openRow 7 false ∷ value b.UnsignedInt (bits 0) ∷ value b.Byte (bits 127) ∷ closeRow ∷ finish 86401 ∷ [])
+    (headerCalls ++ (layoutCalls ++ (attributeType 42 ∷ rowCalls true 10 254 ++ (rowCalls false 0 127 ++ (finish 86401 ∷ [])))))
     (0 ∷ 8 ∷ 0 ∷ 16 ∷ 0 ∷ 20 ∷ 0 ∷ 24 ∷ 0 ∷ 28 ∷ 0 ∷ 52 ∷ 0 ∷ 60 ∷ 0 ∷ 65 ∷ 0 ∷ 69 ∷ 0 ∷ 74 ∷ 0 ∷ 78 ∷ 0 ∷ 83 ∷ 0 ∷ 87 ∷ 0 ∷ 99 ∷ 0 ∷ 103 ∷ 0 ∷ 104 ∷ 0 ∷ 104 ∷ 0 ∷ 116 ∷ 0 ∷ 120 ∷ 0 ∷ 121 ∷ 0 ∷ 121 ∷ 0 ∷ 137 ∷ [])
-    (over (state 137 wants.Nothing 0 0 2) (0 ∷ 0 ∷ 0 ∷ 4 ∷ 0 ∷ 0 ∷ 0 ∷ 0 ∷ 0 ∷ 0 ∷ 0 ∷ 0 ∷ 0 ∷ 1 ∷ 81 ∷ 128 ∷ replicate 15 0 ++ (16 ∷ replicate 16 0 ++ (255 ∷ 255 ∷ 255 ∷ 255 ∷ 0 ∷ 0 ∷ 0 ∷ 1 ∷ 0 ∷ 0 ∷ 0 ∷ 7 ∷ 0 ∷ 0 ∷ 0 ∷ 1 ∷ 65 ∷ 0 ∷ 0 ∷ 0 ∷ 2 ∷ 0 ∷ 0 ∷ 0 ∷ 1 ∷ 117 ∷ 0 ∷ 0 ∷ 0 ∷ 34 ∷ 0 ∷ 0 ∷ 0 ∷ 1 ∷ 100 ∷ 0 ∷ 0 ∷ 0 ∷ 42 ∷ 0 ∷ 0 ∷ 0 ∷ 2 ∷ 0 ∷ 0 ∷ 0 ∷ 7 ∷ 0 ∷ 0 ∷ 0 ∷ 5 ∷ 0 ∷ 0 ∷ 0 ∷ 10 ∷ 254 ∷ 0 ∷ 0 ∷ 0 ∷ 2 ∷ 0 ∷ 0 ∷ 0 ∷ 7 ∷ 255 ∷ 255 ∷ 255 ∷ 255 ∷ 0 ∷ 0 ∷ 0 ∷ 0 ∷ 127 ∷ 0 ∷ 0 ∷ 0 ∷ 3 ∷ 0 ∷ 0 ∷ 0 ∷ 2 ∷ 0 ∷ 0 ∷ 0 ∷ 0 ∷ 0 ∷ 1 ∷ 81 ∷ 129 ∷ 5 ∷ 5 ∷ 5 ∷ []))) seven 31)
+    (over (state 137 wants.Nothing 0 0 2) (headerOctets ++ (0 ∷ 0 ∷ 0 ∷ 1 ∷ sevenImage ++ (statedOctets ++ (unstatedOctets ++ (endOctets 2 ++ (5 ∷ 5 ∷ 5 ∷ [])))))) seven 31)
     -- Lists in the header, and a call out of turn among them.
     ∷ script (over (state 0 wants.Recorder 0 0 0) (replicate 120 5) empty 0)
-    (recorder (114 ∷ 101 ∷ 99 ∷ []) ∷ startTime 18446744073709551615 ∷ defaultNamespace (110 ∷ 115 ∷ []) ∷ namespaceCount 2 ∷ uri (97 ∷ []) ∷ shortName (98 ∷ []) ∷ uri (99 ∷ []) ∷ service (120 ∷ []) ∷ shortName [] ∷ serviceCount 2 ∷ service (115 ∷ []) ∷ service (116 ∷ []) ∷ documentId (0 ∷ 1 ∷ 2 ∷ 3 ∷ 4 ∷ 5 ∷ 6 ∷ 7 ∷ 8 ∷ 9 ∷ 10 ∷ 11 ∷ 12 ∷ 13 ∷ 14 ∷ 15 ∷ []) ∷ [])
+    (listCalls ++ (documentId idOctets ∷ []))
     (0 ∷ 11 ∷ 0 ∷ 19 ∷ 0 ∷ 25 ∷ 0 ∷ 29 ∷ 0 ∷ 34 ∷ 0 ∷ 39 ∷ 0 ∷ 44 ∷ 20 ∷ 44 ∷ 0 ∷ 48 ∷ 0 ∷ 52 ∷ 0 ∷ 57 ∷ 0 ∷ 62 ∷ 0 ∷ 86 ∷ [])
-    (over (state 86 wants.Element 0 0 0) (0 ∷ 0 ∷ 0 ∷ 4 ∷ 0 ∷ 0 ∷ 0 ∷ 3 ∷ 114 ∷ 101 ∷ 99 ∷ 255 ∷ 255 ∷ 255 ∷ 255 ∷ 255 ∷ 255 ∷ 255 ∷ 255 ∷ 0 ∷ 0 ∷ 0 ∷ 2 ∷ 110 ∷ 115 ∷ 0 ∷ 0 ∷ 0 ∷ 2 ∷ 0 ∷ 0 ∷ 0 ∷ 1 ∷ 97 ∷ 0 ∷ 0 ∷ 0 ∷ 1 ∷ 98 ∷ 0 ∷ 0 ∷ 0 ∷ 1 ∷ 99 ∷ 0 ∷ 0 ∷ 0 ∷ 0 ∷ 0 ∷ 0 ∷ 0 ∷ 2 ∷ 0 ∷ 0 ∷ 0 ∷ 1 ∷ 115 ∷ 0 ∷ 0 ∷ 0 ∷ 1 ∷ 116 ∷ 0 ∷ 0 ∷ 0 ∷ 16 ∷ 0 ∷ 1 ∷ 2 ∷ 3 ∷ 4 ∷ 5 ∷ 6 ∷ 7 ∷ 8 ∷ 9 ∷ 10 ∷ 11 ∷ 12 ∷ 13 ∷ 14 ∷ 15 ∷ 255 ∷ 255 ∷ 255 ∷ 255 ∷ replicate 34 5) empty 0)
+    (over (state 86 wants.Element 0 0 0) (namesOctets ++ (listsOctets ++ (0 ∷ 0 ∷ 0 ∷ 16 ∷ idOctets ++ (255 ∷ 255 ∷ 255 ∷ 255 ∷ replicate 34 5)))) empty 0)
     -- 17 comes before 20, at the place of writing.
     ∷ script (over (state 50 wants.Recorder 0 0 0) (replicate 20 5) empty 1)
     (recorder [] ∷ [])
@@ -119,9 +171,9 @@ scripts =
     (over (state 19 wants.Element 0 0 1) (0 ∷ 0 ∷ 0 ∷ 2 ∷ 0 ∷ 0 ∷ 0 ∷ 8 ∷ 0 ∷ 0 ∷ 0 ∷ 7 ∷ 1 ∷ 0 ∷ 0 ∷ 0 ∷ 2 ∷ 104 ∷ 105 ∷ replicate 21 5) eight 30)
     -- A layout seen again whose last type differs, in its derived octet alone too; then equal.
     ∷ script (over (state 0 wants.Element 0 0 0) (replicate 60 5) seven 31)
-    (openLayout 7 ∷ typeName (65 ∷ []) ∷ attributeCount 2 ∷ attributeName (117 ∷ []) ∷ attributeType 34 ∷ attributeName (100 ∷ []) ∷ attributeType 43 ∷ attributeType 2346 ∷ attributeType 42 ∷ openRow 7 true ∷ [])
+    (layoutCalls ++ (attributeType 43 ∷ attributeType 2346 ∷ attributeType 42 ∷ openRow 7 true ∷ []))
     (0 ∷ 8 ∷ 0 ∷ 13 ∷ 0 ∷ 17 ∷ 0 ∷ 22 ∷ 0 ∷ 26 ∷ 0 ∷ 31 ∷ 10 ∷ 31 ∷ 10 ∷ 31 ∷ 0 ∷ 35 ∷ 0 ∷ 47 ∷ [])
-    (over (state 47 wants.Value 0 35 0) (0 ∷ 0 ∷ 0 ∷ 1 ∷ 0 ∷ 0 ∷ 0 ∷ 7 ∷ 0 ∷ 0 ∷ 0 ∷ 1 ∷ 65 ∷ 0 ∷ 0 ∷ 0 ∷ 2 ∷ 0 ∷ 0 ∷ 0 ∷ 1 ∷ 117 ∷ 0 ∷ 0 ∷ 0 ∷ 34 ∷ 0 ∷ 0 ∷ 0 ∷ 1 ∷ 100 ∷ 0 ∷ 0 ∷ 0 ∷ 42 ∷ 0 ∷ 0 ∷ 0 ∷ 2 ∷ 0 ∷ 0 ∷ 0 ∷ 7 ∷ 0 ∷ 0 ∷ 0 ∷ 0 ∷ replicate 13 5) seven 31)
+    (over (state 47 wants.Value 0 35 0) (0 ∷ 0 ∷ 0 ∷ 1 ∷ sevenImage ++ (0 ∷ 0 ∷ 0 ∷ 2 ∷ 0 ∷ 0 ∷ 0 ∷ 7 ∷ 0 ∷ 0 ∷ 0 ∷ 0 ∷ replicate 13 5)) seven 31)
     -- 10 comes before 23.
     ∷ script (over (state 17 wants.AttributeCount 0 0 0) (0 ∷ 0 ∷ 0 ∷ 1 ∷ 0 ∷ 0 ∷ 0 ∷ 7 ∷ 0 ∷ 0 ∷ 0 ∷ 1 ∷ 66 ∷ 5 ∷ 5 ∷ 5 ∷ 5 ∷ []) seven 31)
     (attributeCount 0 ∷ [])
@@ -136,7 +188,7 @@ scripts =
     ∷ script (over (state 16 wants.AttributeCount 0 0 0) (0 ∷ 0 ∷ 0 ∷ 1 ∷ 0 ∷ 0 ∷ 0 ∷ 2 ∷ 0 ∷ 0 ∷ 0 ∷ 4 ∷ 49 ∷ 50 ∷ 51 ∷ 52 ∷ 5 ∷ 5 ∷ 5 ∷ 5 ∷ 5 ∷ 5 ∷ 5 ∷ 5 ∷ 5 ∷ []) full 32752)
     (attributeCount 0 ∷ [])
     (0 ∷ 20 ∷ [])
-    (over (state 20 wants.Element 0 0 0) (0 ∷ 0 ∷ 0 ∷ 1 ∷ 0 ∷ 0 ∷ 0 ∷ 2 ∷ 0 ∷ 0 ∷ 0 ∷ 4 ∷ 49 ∷ 50 ∷ 51 ∷ 52 ∷ 0 ∷ 0 ∷ 0 ∷ 0 ∷ 5 ∷ 5 ∷ 5 ∷ 5 ∷ 5 ∷ []) (0 ∷ 0 ∷ 0 ∷ 1 ∷ 0 ∷ 0 ∷ 127 ∷ 228 ∷ replicate 32747 0 ++ (2 ∷ 0 ∷ 0 ∷ 0 ∷ 4 ∷ 49 ∷ 50 ∷ 51 ∷ 52 ∷ 0 ∷ 0 ∷ 0 ∷ 0 ∷ [])) bookRoom)
+    (over (state 20 wants.Element 0 0 0) (0 ∷ 0 ∷ 0 ∷ 1 ∷ twoImage ++ replicate 5 5) filled bookRoom)
     -- 23 at the call that completes a layout leaves the book as it was.
     ∷ script (over (state 8 wants.AttributeCount 0 0 0) (0 ∷ 0 ∷ 0 ∷ 1 ∷ 0 ∷ 0 ∷ 0 ∷ 7 ∷ 5 ∷ 5 ∷ 5 ∷ []) empty 0)
     (attributeCount 0 ∷ [])
@@ -144,9 +196,9 @@ scripts =
     (over (state 8 wants.AttributeCount 0 0 0) (0 ∷ 0 ∷ 0 ∷ 1 ∷ 0 ∷ 0 ∷ 0 ∷ 7 ∷ 5 ∷ 5 ∷ 5 ∷ []) empty 0)
     -- A row given up is not counted.
     ∷ script (over (state 0 wants.Element 0 0 0) (replicate 60 5) seven 31)
-    (openRow 7 true ∷ value b.UnsignedInt (bits 10) ∷ giveUp ∷ openRow 7 true ∷ value b.UnsignedInt (bits 10) ∷ value b.Byte (bits 254) ∷ closeRow ∷ finish 86401 ∷ [])
+    (openRow 7 true ∷ value b.UnsignedInt (bits 10) ∷ giveUp ∷ rowCalls true 10 254 ++ (finish 86401 ∷ []))
     (0 ∷ 12 ∷ 0 ∷ 16 ∷ 0 ∷ 0 ∷ 0 ∷ 12 ∷ 0 ∷ 16 ∷ 0 ∷ 17 ∷ 0 ∷ 17 ∷ 0 ∷ 33 ∷ [])
-    (over (state 33 wants.Nothing 0 0 1) (0 ∷ 0 ∷ 0 ∷ 2 ∷ 0 ∷ 0 ∷ 0 ∷ 7 ∷ 0 ∷ 0 ∷ 0 ∷ 5 ∷ 0 ∷ 0 ∷ 0 ∷ 10 ∷ 254 ∷ 0 ∷ 0 ∷ 0 ∷ 3 ∷ 0 ∷ 0 ∷ 0 ∷ 1 ∷ 0 ∷ 0 ∷ 0 ∷ 0 ∷ 0 ∷ 1 ∷ 81 ∷ 129 ∷ replicate 27 5) seven 31)
+    (over (state 33 wants.Nothing 0 0 1) (statedOctets ++ (endOctets 1 ++ replicate 27 5)) seven 31)
     -- Values beyond the layout's fields count as none missing.
     ∷ script (over (state 14 wants.Value 9 0 0) (0 ∷ 0 ∷ 0 ∷ 2 ∷ 0 ∷ 0 ∷ 0 ∷ 7 ∷ 0 ∷ 0 ∷ 0 ∷ 3 ∷ 5 ∷ 5 ∷ 5 ∷ 5 ∷ 5 ∷ 5 ∷ 5 ∷ 5 ∷ 5 ∷ []) seven 31)
     (value b.UnsignedInt (bits 1) ∷ closeRow ∷ [])

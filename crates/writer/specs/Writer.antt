@@ -227,7 +227,8 @@ abbrev pub isNext : List Attribute → Basic → Value → Bool
 isNext [] b v = false
 isNext (a ∷ rest) b v = eqb (codeOf (a .kind .basic)) (codeOf b) && suits (formOf b) v
 
--- Each call. Version, the four octets FF and the end count are the writer's own. Refusals 4, 5, 8, 9 and 12 are as in reading, then 21 for a value, 22 for a row closed with fields missing. A stated row length stands as zero until the row is closed. Giving up sets the open element's octets to zero and moves the place back to its start; its row is not counted.
+-- Each call. Version, the four octets FF and the end count are the writer's own. Refusals 4, 5, 8, 9 and 12 are as in reading, then 21 for a value, 22 for a row closed with fields missing.
+-- A stated row length stands as zero until the row is closed. Giving up sets the open element's octets to zero and moves the place back to its start; its row is not counted.
 unfoldable pub does : State → List ℕ → Book → Call → Deed
 does s buffer book (recorder xs) = puts s wants.Recorder fine (word 4 4 ++ textImage xs) wants.StartTime 0
 does s buffer book (startTime n) = puts s wants.StartTime fine (word 8 n) wants.DefaultNamespace 0

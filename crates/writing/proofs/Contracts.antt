@@ -10,6 +10,7 @@ use Rattle.writer.specs.declared.State.{State}
 use Rattle.writer.specs.declared.Answer.{Answer}
 use Rattle.writer.specs.Writer.{Call, Written, does, deedAnswer}
 use Rattle.writer.specs.Answers.{Left, left, leftOf, deedLeaves, callLeaves, Refuses}
+use Rattle.giving.proofs.Contracts.{one-answer}
 use Rattle.writing.proofs.fresh as fresh
 use Rattle.writing.proofs.recorder as recorder
 use Rattle.writing.proofs.start_time as start-time
@@ -56,12 +57,6 @@ pub record Contracts : Type 0 where
   pub of-close-row : SettledLent close-row.Kinds.ps close-row.Kinds.r (λ κs s. s) (λ κs. Refuses) close-row.Reads.Pre close-row.Reads.Post
   pub of-give-up : SettledLent give-up.Kinds.ps give-up.Kinds.r (λ κs s. s) (λ κs. Refuses) give-up.Reads.Pre give-up.Reads.Post
   pub of-finish : SettledLent finish.Kinds.ps finish.Kinds.r (λ κs s. s) (λ κs. Refuses) finish.Reads.Pre finish.Reads.Post
-
--- Two answers that one statement allows, with what they leave, are the same.
-pub one-answer : {r q : Answer} {b c k l : List ℕ} {x : Left} → left r b k ≡ x → left q c l ≡ x → (r ≡ q) × (b ≡ c) × (k ≡ l)
-one-answer {r} {q} {b} {c} {k} {l} e f =
-    let same : left r b k ≡ left q c l = e ∙ sym f in
-    (ap (λ (y : Left). y .answer) same, ap (λ (y : Left). y .buffer) same, ap (λ (y : Left). y .book) same)
 
 -- A refused call leaves buffer and book.
 unchanged : {x : Answer} {b k : List ℕ} (s : State) (buffer lent : List ℕ) (used : ℕ) (c : Call) → left x b k ≡ callLeaves s buffer lent used c → Refuses x → (b ≡ buffer) × (k ≡ lent)

@@ -52,7 +52,8 @@ pub record Contracts : Type 0 where
   pub of-enter : Once enter.Kinds.ps enter.Kinds.r enter.Reads.Pre enter.Reads.Post
   pub of-complete : Once complete.Kinds.ps complete.Kinds.r complete.Reads.Pre complete.Reads.Post
 
-says-once : (x y : Fault) → says x ≡ says y → x ≡ y
+-- A test's answer is what it says.
+pub says-once : (x y : Fault) → says x ≡ says y → x ≡ y
 says-once None None e = refl
 says-once None (Refused m) e = cc
 says-once (Refused n) None e = cc

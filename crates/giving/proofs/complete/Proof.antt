@@ -81,7 +81,8 @@ returns c =
     let r = f .before .before in
     let t = r .before .before in
     let a = t .before .before .before .before .args in
-    first (a .s) (now (a .buf)) (now (a .book)) (a .used) (a .turn) (a .fault) (now (a .last)) (r .ready .result) (t .same-turn .result) (r .ready .ensures) (t .same-turn .ensures) (f .first .given .0 .0) (f .first .given .1)
+    first (a .s) (now (a .buf)) (now (a .book)) (a .used) (a .turn) (a .fault) (now (a .last))
+    (r .ready .result) (t .same-turn .result) (r .ready .ensures) (t .same-turn .ensures) (f .first .given .0 .0) (f .first .given .1)
 
 returns-2 : tie.Need-returns-2
 returns-2 c =
@@ -90,7 +91,8 @@ returns-2 c =
     let r = e .before .before in
     let t = r .before .before in
     let a = t .before .before .before .before .args in
-    refused (a .s) (now (a .buf)) (now (a .book)) (a .used) (a .turn) (a .fault) (now (a .last)) (r .ready .result) (t .same-turn .result) (r .ready .ensures) (t .same-turn .ensures) (e .enum-told .given .1) (f .fault .given .0 .0) (f .fault .given .1)
+    refused (a .s) (now (a .buf)) (now (a .book)) (a .used) (a .turn) (a .fault) (now (a .last))
+    (r .ready .result) (t .same-turn .result) (r .ready .ensures) (t .same-turn .ensures) (e .enum-told .given .1) (f .fault .given .0 .0) (f .fault .given .1)
 
 -- What holds where 17 and 20 are not given.
 behind : (e : tie.After-enum-told) → IsBook (now (e .before .before .before .before .before .before .before .before .args .book)) (e .before .before .before .before .before .before .before .before .args .used)
@@ -102,7 +104,8 @@ behind e =
     let k = t .before .before in
     let i = k .before .before in
     let a = i .args in
-    asked (a .s) (now (a .buf)) (now (a .book)) (a .used) (a .turn) (a .fault) (now (a .last)) (r .ready .result) (t .same-turn .result) (r .ready .ensures) (t .same-turn .ensures) (e .enum-told .given .1) (i .pre) (each-octet (now (a .book)) (k .slice-known2 .given))
+    asked (a .s) (now (a .buf)) (now (a .book)) (a .used) (a .turn) (a .fault) (now (a .last))
+    (r .ready .result) (t .same-turn .result) (r .ready .ensures) (t .same-turn .ensures) (e .enum-told .given .1) (i .pre) (each-octet (now (a .book)) (k .slice-known2 .given))
 
 add-complete : tie.Need-add-complete
 unfolding room
@@ -121,7 +124,8 @@ returns-3 c =
     let r = e .before .before in
     let t = r .before .before in
     let a = t .before .before .before .before .args in
-    done (a .s) (now (a .buf)) (now (a .book)) (a .used) (a .turn) (a .fault) (now (a .last)) (r .ready .result) (t .same-turn .result) (r .ready .ensures) (t .same-turn .ensures) (e .enum-told .given .1) (g .enum-told2 .given .1) (d .complete .result) (d .complete .last .0) (d .complete .last .1 .0) (d .complete .ensures)
+    done (a .s) (now (a .buf)) (now (a .book)) (a .used) (a .turn) (a .fault) (now (a .last))
+    (r .ready .result) (t .same-turn .result) (r .ready .ensures) (t .same-turn .ensures) (e .enum-told .given .1) (g .enum-told2 .given .1) (d .complete .result) (d .complete .last .0) (d .complete .last .1 .0) (d .complete .ensures)
     (q .completed .given .0 .0) (q .completed .given .0 .1 .0) (q .completed .given .1)
 
 returns-4 : tie.Need-returns-4
@@ -132,7 +136,8 @@ returns-4 c =
     let r = e .before .before in
     let t = r .before .before in
     let a = t .before .before .before .before .args in
-    full (a .s) (now (a .buf)) (now (a .book)) (a .used) (a .turn) (a .fault) (now (a .last)) (r .ready .result) (t .same-turn .result) (r .ready .ensures) (t .same-turn .ensures) (e .enum-told .given .1) (g .enum-told2 .given .1) (d .complete .result) (d .complete .last .0) (d .complete .last .1 .0) (d .complete .ensures) (c .enum-told3 .given .1)
+    full (a .s) (now (a .buf)) (now (a .book)) (a .used) (a .turn) (a .fault) (now (a .last))
+    (r .ready .result) (t .same-turn .result) (r .ready .ensures) (t .same-turn .ensures) (e .enum-told .given .1) (g .enum-told2 .given .1) (d .complete .result) (d .complete .last .0) (d .complete .last .1 .0) (d .complete .ensures) (c .enum-told3 .given .1)
 
 returns-5 : tie.Need-returns-5
 returns-5 c =
@@ -143,7 +148,8 @@ returns-5 c =
     let r = e .before .before in
     let t = r .before .before in
     let a = t .before .before .before .before .args in
-    not-taken (a .s) (now (a .buf)) (now (a .book)) (a .used) (a .turn) (a .fault) (now (a .last)) (r .ready .result) (t .same-turn .result) (r .ready .ensures) (t .same-turn .ensures) (e .enum-told .given .1) (g .enum-told2 .given .1) (d .complete .result) (d .complete .last .0) (d .complete .last .1 .0) (d .complete .ensures)
+    not-taken (a .s) (now (a .buf)) (now (a .book)) (a .used) (a .turn) (a .fault) (now (a .last))
+    (r .ready .result) (t .same-turn .result) (r .ready .ensures) (t .same-turn .ensures) (e .enum-told .given .1) (g .enum-told2 .given .1) (d .complete .result) (d .complete .last .0) (d .complete .last .1 .0) (d .complete .ensures)
     (q .completed2 .given .0 .0) (q .completed2 .given .1)
 
 pub complete-spec : {M : Type 1} → statement M
