@@ -1,39 +1,36 @@
 -- One element: what it was read from, and that its image reads back.
 use mathlib.Core.Path.{_≡_, refl, sym, ap, subst}
 use mathlib.Core.List.{List, [], _∷_, _++_}
-use mathlib.Core.Bool.{Bool, true, false, _&&_}
-use mathlib.Core.Option.{Option, some, none}
 use Prim.Native.Nat.{ℕ, _+_, _^_, _≤_, _<_}
 use native.Mathlib.Omega.{arith}
 use lib.ListN.{length}
-use lib.Dec.{leb, ltb, eqb, lit<}
+use lib.Dec.{eqb, lit<}
 use borrow.Author.Tests.{eqb-true, eq-eqb}
-use Rattle.octets.specs.Limits.{longest, bookRoom, mostLayouts}
-use Rattle.octets.specs.Reading.{ok, no, choose, number, same}
+use Rattle.octets.specs.Limits.{longest}
+use Rattle.octets.specs.Reading.{ok, number}
 use Rattle.octets.specs.Writing.{word, images, Each, Octet}
 use Rattle.layouts.specs.Layout.{Layout, layoutAt, layoutImage, GoodLayout}
-use Rattle.layouts.specs.Book.{Book, bookImage, find, learnAt, learn}
+use Rattle.layouts.specs.Book.{Book, bookImage, learning, learnBy, learn}
+use Rattle.layouts.specs.declared.Learning.{Learning}
+use Rattle.layouts.specs.declared.Learning.the-variants.{Known, New, Refused}
 use Rattle.rows.specs.Row.{Row, rowAt, rowImage}
 use Rattle.elements.specs.Element.{Item, layout, row, Element, item, finish, Stepped, finishAt, elementAt}
 use Rattle.elements.specs.Document.{itemImage, GoodItems}
 use Rattle.octets.proofs.Spans.{Spans, join, middle, word-octets, each-append}
-use Rattle.octets.proofs.Inverse.{after, settle, chosen, either}
+use Rattle.octets.proofs.Inverse.{after, settle, chosen, either, no-ok}
 use Rattle.octets.proofs.Fields.{number-whole}
 use Rattle.layouts.proofs.Layouts.{layout-inverse}
 use Rattle.rows.proofs.Rows.{GoodRow, row-inverse}
 
 -- What is learnt does not depend on the place.
-choose-anywhere : (t : Bool) (x : Book) (p q m : ℕ) {b : Book} {n : ℕ} → choose t (λ _. ok x p) (λ _. no m p) ≡ ok b n → choose t (λ _. ok x q) (λ _. no m q) ≡ ok b q
-choose-anywhere true x p q m e = settle (λ (y : Book) (_ : ℕ). ok x q ≡ ok y q) e refl
-choose-anywhere false x p q m e = absurd (let z : _≡_ {A = ℕ} 0 1 = cc in omega arith)
-
 learn-anywhere : (book : Book) (l : Layout) (p q : ℕ) {b : Book} {n : ℕ} → learn book l p ≡ ok b n → learn book l q ≡ ok b q
 unfolding learn
-learn-anywhere book l p q {b} {n} e = go (find (l .number) book) e
+learn-anywhere book l p q {b} {n} e = go (learning book (length (bookImage book)) (l .number) (layoutImage l)) e
   where
-    go : (o : Option Layout) → learnAt book l p o ≡ ok b n → learnAt book l q o ≡ ok b q
-    go (some m) r = choose-anywhere (same (layoutImage m) (layoutImage l)) book p q 10 r
-    go none r = choose-anywhere (ltb (length book) mostLayouts && leb (length (bookImage book) + length (layoutImage l)) bookRoom) (book ++ l ∷ []) p q 11 r
+    go : (x : Learning) → learnBy book l p x ≡ ok b n → learnBy book l q x ≡ ok b q
+    go Known r = settle (λ (y : Book) (_ : ℕ). ok book q ≡ ok y q) r refl
+    go (New v) r = settle (λ (y : Book) (_ : ℕ). ok (book ++ l ∷ []) q ≡ ok y q) r refl
+    go (Refused k) r = absurd (no-ok refl r)
 
 -- The end's octets.
 abbrev pub endImage : ℕ → ℕ → List ℕ

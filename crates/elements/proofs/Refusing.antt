@@ -1,15 +1,16 @@
 -- No reading passes an end that its document and its start do not pass, and what holds of the numbers that its parts refuse with holds of its own: by the parts of each reading. Assumes nothing.
 use Prim.Native.Nat.{ℕ, zero, suc, _+_, _^_, _%_, _≤_}
-use mathlib.Core.Path.{_≡_, refl, ap}
+use mathlib.Core.Path.{_≡_, refl, sym, ap, subst}
 use mathlib.Core.List.{List, [], _∷_}
 use mathlib.Core.Bool.{Bool, true, false, _&&_}
 use mathlib.Core.Option.{Option, some, none}
+use mathlib.Core.Logic.{_⊎_, inl, inr}
 use native.Mathlib.Omega.{arith}
 use lib.ListN.{length, take}
 use lib.Dec.{leb, ltb, eqb}
 use borrow.Author.Tests.{leb-true}
 use Rattle.octets.specs.Limits.{longest, mostRows, bookRoom, mostLayouts, mostAttributes, mostListed}
-use Rattle.octets.specs.Reading.{Read, ok, no, _then_, choose, isOk, reach, overrun, numberIn, ledIn, number, text, count, exactly, run, same}
+use Rattle.octets.specs.Reading.{Read, ok, no, _then_, choose, isOk, reach, overrun, numberIn, ledIn, number, text, count, exactly, run}
 use Rattle.octets.specs.declared.Room.{Room}
 use Rattle.octets.specs.declared.Room.the-variants.{Document, Stated}
 use Rattle.kinds.specs.declared.Basic.{Basic}
@@ -17,7 +18,10 @@ use Rattle.kinds.specs.declared.Form.{Form}
 use Rattle.kinds.specs.declared.Form.the-variants as form
 use Rattle.kinds.specs.Kinds.{basicOf, formOf, known, kindAt}
 use Rattle.layouts.specs.Layout.{Attribute, Layout, attributeAt, layoutAt, layoutImage}
-use Rattle.layouts.specs.Book.{Book, find, bookImage, as17, layoutsAt, bookOf, learnAt, learn}
+use Rattle.layouts.specs.Book.{Book, find, bookImage, as17, layoutsAt, bookOf, learning, learnBy, learn}
+use Rattle.layouts.specs.declared.Learning.{Learning}
+use Rattle.layouts.specs.declared.Learning.the-variants.{Known, New, Refused}
+use Rattle.layouts.proofs.Judging.{Learned, learned}
 use Rattle.headers.specs.Header.{namespaceAt, idAt, headerFrom, headerAt}
 use Rattle.rows.specs.Row.{fieldsIn, filled, valuesAt, named, rowAt}
 use Rattle.kinds.specs.Forms.{valueIn}
@@ -175,11 +179,13 @@ module _ (P : ℕ → Type 0) (s : List ℕ) (end : ℕ) (long : length s ≤ en
 
     pub learn-stays : P 10 → P 11 → (book : Book) (l : Layout) (at : ℕ) → at ≤ end → Stays P end (learn book l at)
     unfolding learn
-    learn-stays ten eleven book l at b = go (find (l .number) book)
+    learn-stays ten eleven book l at b = go (learning book (length (bookImage book)) (l .number) (layoutImage l)) (learned book (length (bookImage book)) (l .number) (layoutImage l))
       where
-        go : (o : Option Layout) → Stays P end (learnAt book l at o)
-        go (some m) = stays-choose (same (layoutImage m) (layoutImage l)) _ _ (λ _. b) (ten, b)
-        go none = stays-choose (ltb (length book) mostLayouts && leb (length (bookImage book) + length (layoutImage l)) bookRoom) _ _ (λ _. b) (eleven, b)
+        go : (x : Learning) → Learned book (length (bookImage book)) (l .number) (layoutImage l) x → Stays P end (learnBy book l at x)
+        go Known w = b
+        go (New v) w = b
+        go (Refused n) (inl e) = (subst P (sym e) ten, b)
+        go (Refused n) (inr e) = (subst P (sym e) eleven, b)
 
     -- A row.
     module _ (thirteen : P 13) (fourteen : P 14) where

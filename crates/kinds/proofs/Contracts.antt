@@ -4,7 +4,7 @@ use mathlib.Core.Path.{_≡_, refl, sym, _∙_}
 use Rattle.octets.specs.Contracts.{Once}
 use Rattle.kinds.specs.Answers.{kinds, kindSays}
 use Rattle.kinds.specs.declared.Typed.{Typed}
-use Rattle.kinds.specs.declared.Typed.the-variants.{Is, Not}
+use Rattle.kinds.specs.declared.Typed.the-variants as typed
 use Rattle.kinds.specs.declared.Kinded.{Kinded}
 use Rattle.kinds.specs.declared.Kinded.the-variants.{At, Refused}
 use Rattle.octets.proofs.Ends.{value-is}
@@ -53,10 +53,10 @@ pub record Contracts : Type 0 where
 
 -- Each of these says another thing of every answer.
 kinds-once : (x y : Typed) → kinds 0 0 x ≡ kinds 0 0 y → x ≡ y
-kinds-once (Is k) (Is l) e = cc
-kinds-once (Is k) (Not m) e = cc
-kinds-once (Not n) (Is l) e = cc
-kinds-once (Not n) (Not m) e = cc
+kinds-once (typed.Is k) (typed.Is l) e = cc
+kinds-once (typed.Is k) (typed.Refused m) e = cc
+kinds-once (typed.Refused n) (typed.Is l) e = cc
+kinds-once (typed.Refused n) (typed.Refused m) e = cc
 
 kind-says-once : (at : ℕ) (x y : Kinded) → kindSays at x ≡ kindSays at y → x ≡ y
 kind-says-once at (At k) (At l) e = cc

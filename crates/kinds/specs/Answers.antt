@@ -3,14 +3,14 @@ use Prim.Native.Nat.{ℕ, _+_, _≤_}
 use Rattle.octets.specs.Reading.{Read, ok, no}
 use Rattle.kinds.specs.declared.Kind.{Kind}
 use Rattle.kinds.specs.declared.Typed.{Typed}
-use Rattle.kinds.specs.declared.Typed.the-variants.{Is, Not}
+use Rattle.kinds.specs.declared.Typed.the-variants as typed
 use Rattle.kinds.specs.declared.Kinded.{Kinded}
 use Rattle.kinds.specs.declared.Kinded.the-variants.{At, Refused}
 
 -- A type number that stands at a place, with the place behind it.
 abbrev pub kinds : ℕ → ℕ → Typed → Read Kind
-kinds at next (Is k) = ok k next
-kinds at next (Not n) = no n at
+kinds at next (typed.Is k) = ok k next
+kinds at next (typed.Refused n) = no n at
 
 -- The type at a place, and the place four octets behind it.
 abbrev pub kindSays : ℕ → Kinded → Read Kind

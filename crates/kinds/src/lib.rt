@@ -92,7 +92,7 @@ pub enum Value {
 // What a type number stands for, or its refusal.
 pub enum Typed {
     Is(Kind),
-    Not(u32),
+    Refused(u32),
 }
 
 // The type at a place, or a refusal by number and place.
@@ -308,17 +308,17 @@ pub fn kind_of(t: u32) -> Typed
     ensures { λ r. ⌜ ((at next : ℕ) → kinds at next r ≡ kindOf at t next) ⌝ }
 {
     if 0x8000_0000 <= t {
-        return Typed::Not(9);
+        return Typed::Refused(9);
     }
     if 0x1_0000 <= t {
-        return Typed::Not(8);
+        return Typed::Refused(8);
     }
     let code = t % 256;
     if code < Kind::INT {
-        return Typed::Not(8);
+        return Typed::Refused(8);
     }
     if Kind::UNSIGNED_SHORT < code {
-        return Typed::Not(8);
+        return Typed::Refused(8);
     }
     let derived = (t / 256) as u8;
     let basic = basic_of(code);
@@ -336,7 +336,7 @@ pub fn kind_at(s: &[u8], at: usize) -> Kinded
     let typed = kind_of(octets::u32_at(s, at));
     match typed {
         Typed::Is(kind) => Kinded::At(kind),
-        Typed::Not(n) => Kinded::Refused(n, at),
+        Typed::Refused(n) => Kinded::Refused(n, at),
     }
 }
 

@@ -15,54 +15,49 @@ use Rattle.octets.specs.Reading.{Read, ok, no, choose, ends, isOk, be, valueOr}
 use Rattle.octets.specs.Writing.{Each, Octet}
 use Rattle.octets.proofs.Ends.{ended, refused, left-suc, none-left}
 use Rattle.layouts.specs.Layout.{Layout, layoutAt}
-use Rattle.layouts.specs.Book.{Book, find, isNone, layoutsAt, as17, bookOf, bookIn, IsBook}
-use Rattle.layouts.specs.Answers.{among}
+use Rattle.layouts.specs.Book.{Book, find, isNone, numbersOf, layoutsAt, as17, bookOf, bookIn, IsBook}
+use Rattle.layouts.specs.Answers.{isAmong}
 use Rattle.layouts.proofs.Finding.{absent}
 use Rattle.layouts.proofs.Books.{layouts-end, layouts-more, book-forth}
 use Rattle.layouts.proofs.Parts.{layout-number}
 
 -- A number is among others where it is the first or among the rest.
 module _ (n : ℕ) (met : List ℕ) (i : ℕ) (h : i < length met) where
-  pub among-here : n ≡ getD met i 0 → among n (drop i met) ≡ true
+  pub among-here : n ≡ getD met i 0 → isAmong n (drop i met) ≡ true
   among-here e = rw (drop-cons met i 0 h, eq-eqb n (getD met i 0) e) refl
 
-  pub among-on : (n ≡ getD met i 0 → ⊥) → among n (drop i met) ≡ among n (drop (i + 1) met)
+  pub among-on : (n ≡ getD met i 0 → ⊥) → isAmong n (drop i met) ≡ isAmong n (drop (i + 1) met)
   among-on e = rw (drop-cons met i 0 h, ne-eqb n (getD met i 0) e, add-one i) refl
 
-pub among-end : (n : ℕ) (met : List ℕ) (i : ℕ) → i ≡ length met → among n (drop i met) ≡ false
+pub among-end : (n : ℕ) (met : List ℕ) (i : ℕ) → i ≡ length met → isAmong n (drop i met) ≡ false
 among-end n met i e = rw (e, drop-length met) refl
 
--- The numbers of a book's layouts.
-abbrev pub numbers : Book → List ℕ
-numbers [] = []
-numbers (l ∷ rest) = l .number ∷ numbers rest
-
-numbers-snoc : (book : Book) (l : Layout) → numbers (book ++ l ∷ []) ≡ numbers book ++ l .number ∷ []
+numbers-snoc : (book : Book) (l : Layout) → numbersOf (book ++ l ∷ []) ≡ numbersOf book ++ l .number ∷ []
 numbers-snoc [] l = refl
 numbers-snoc (m ∷ rest) l = ap (λ (xs : List ℕ). m .number ∷ xs) (numbers-snoc rest l)
 
 -- A number is among them where a layout of it is found.
-among-numbers : (n : ℕ) (book : Book) → isNone (find n book) ≡ not (among n (numbers book))
+among-numbers : (n : ℕ) (book : Book) → isNone (find n book) ≡ not (isAmong n (numbersOf book))
 unfolding find
 among-numbers n [] = refl
 among-numbers n (l ∷ rest) = go (eqb n (l .number)) (among-numbers n rest)
   where
-    go : (t : Bool) → isNone (find n rest) ≡ not (among n (numbers rest))
-        → isNone (choose t (λ _. some l) (λ _. find n rest)) ≡ not (choose t (λ _. true) (λ _. among n (numbers rest)))
+    go : (t : Bool) → isNone (find n rest) ≡ not (isAmong n (numbersOf rest))
+        → isNone (choose t (λ _. some l) (λ _. find n rest)) ≡ not (choose t (λ _. true) (λ _. isAmong n (numbersOf rest)))
     go true again = refl
     go false again = again
 
-module _ (n : ℕ) (book : Book) {seen : List ℕ} (e : seen ≡ numbers book) where
-  pub met-known : among n seen ≡ true → isNone (find n book) ≡ false
-  met-known t = among-numbers n book ∙ ap not (ap (among n) (sym e) ∙ t)
+module _ (n : ℕ) (book : Book) {seen : List ℕ} (e : seen ≡ numbersOf book) where
+  pub met-known : isAmong n seen ≡ true → isNone (find n book) ≡ false
+  met-known t = among-numbers n book ∙ ap not (ap (isAmong n) (sym e) ∙ t)
 
-  pub met-new : among n seen ≡ false → isNone (find n book) ≡ true
-  met-new t = among-numbers n book ∙ ap not (ap (among n) (sym e) ∙ t)
+  pub met-new : isAmong n seen ≡ false → isNone (find n book) ≡ true
+  met-new t = among-numbers n book ∙ ap not (ap (isAmong n) (sym e) ∙ t)
 
 -- The layouts met before a place, with their numbers, and that reading on from there is reading all.
 pub record Met (s seen : List ℕ) (k pos : ℕ) : Type 0 where
   pub met : Book
-  pub kept : take k seen ≡ numbers met
+  pub kept : take k seen ≡ numbersOf met
   pub same : layoutsAt mostLayouts [] s 0 ≡ layoutsAt (mostLayouts - k) met s pos
 
 module _ (s : List ℕ) where
@@ -86,7 +81,7 @@ module _ (s : List ℕ) where
 
         -- The layout here, whose number is compared with those seen.
         module _ (next number : ℕ) (e : ends (layoutAt s pos) ≡ ok next next) (q : number ≡ be 4 s pos) where
-          pub met-again : among number (take k seen) ≡ true → isOk (layoutsAt mostLayouts [] s 0) ≡ false
+          pub met-again : isAmong number (take k seen) ≡ true → isOk (layoutsAt mostLayouts [] s 0) ≡ false
           unfolding layoutsAt
           met-again t =
               let (l, r) = ended (layoutAt s pos) next e in
@@ -94,7 +89,7 @@ module _ (s : List ℕ) where
               ap (λ (n : ℕ). isNone (find n (m .met))) (sym (q ∙ layout-number s pos r .1)) ∙ met-known number (m .met) (m .kept) t in
               rw (m .same, left-suc mostLayouts k more, ne-eqb pos (length s) (λ z. omega arith), r, g) refl
 
-          pub met-on : k < length seen → among number (take k seen) ≡ false → Met s (set seen k number) (k + 1) next
+          pub met-on : k < length seen → isAmong number (take k seen) ≡ false → Met s (set seen k number) (k + 1) next
           met-on long t =
               let (l, r) = ended (layoutAt s pos) next e in
               let same : number ≡ l .number = q ∙ layout-number s pos r .1 in

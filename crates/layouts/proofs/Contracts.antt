@@ -13,11 +13,9 @@ use Rattle.octets.proofs.Ends.{ended, value-is}
 use Rattle.octets.proofs.Contracts.{says-once}
 use Rattle.layouts.specs.Layout.{Attribute, Layout, layoutImage}
 use Rattle.layouts.specs.Book.{Book, learn}
-use Rattle.layouts.specs.Answers.{Looks, Finds, Judges, foundBut, lookedBut}
+use Rattle.layouts.specs.Answers.{Looks, Judges, lookedBut}
 use Rattle.layouts.specs.declared.Looked.{Looked}
 use Rattle.layouts.specs.declared.Looked.the-variants.{There, Missing}
-use Rattle.layouts.specs.declared.Found.{Found}
-use Rattle.layouts.specs.declared.Found.the-variants.{At, Nothing}
 use Rattle.layouts.specs.declared.Learning.{Learning}
 use Rattle.layouts.specs.declared.Learning.the-variants.{Known, New, Refused}
 use Rattle.layouts.proofs.layout_end as layout-end
@@ -40,7 +38,7 @@ pub record Contracts : Type 0 where
   pub of-attributes-at : Once attributes-at.Kinds.ps attributes-at.Kinds.r attributes-at.Reads.Pre attributes-at.Reads.Post
   pub of-layout-skip : Once layout-skip.Kinds.ps layout-skip.Kinds.r layout-skip.Reads.Pre layout-skip.Reads.Post
   pub of-look-in : OnceSeen look-in.Kinds.ps look-in.Kinds.r (λ κs. lookedBut) look-in.Reads.Pre look-in.Reads.Post
-  pub of-find : OnceSeen find.Kinds.ps find.Kinds.r (λ κs. foundBut) find.Reads.Pre find.Reads.Post
+  pub of-find : OnceSeen find.Kinds.ps find.Kinds.r (λ κs. lookedBut) find.Reads.Pre find.Reads.Post
   pub of-is-book : Once is-book.Kinds.ps is-book.Kinds.r is-book.Reads.Pre is-book.Reads.Post
   pub of-judge : Once judge.Kinds.ps judge.Kinds.r judge.Reads.Pre judge.Reads.Post
   pub of-layout-number : Once layout-number.Kinds.ps layout-number.Kinds.r layout-number.Reads.Pre layout-number.Reads.Post
@@ -67,12 +65,6 @@ looks-once s n book (There p) (Missing k) e f = absurd (never (e .found) (f .0))
 looks-once s n book (Missing k) (There q) e f = absurd (never (f .found) (e .0))
 looks-once s n book (Missing k) (Missing l) e f = ap Missing (sym (e .1) ∙ f .1)
 
-finds-once : (s : List ℕ) (n : ℕ) (book : Book) (x y : Found) → Finds s n book x → Finds s n book y → foundBut x ≡ foundBut y
-finds-once s n book (At p) (At q) e f = refl
-finds-once s n book (At p) Nothing e f = absurd (never (e .found) f)
-finds-once s n book Nothing (At q) e f = absurd (never (f .found) e)
-finds-once s n book Nothing Nothing e f = refl
-
 -- A book is not itself with a layout more.
 longer : (book : Book) (l : Layout) → book ≡ book ++ l ∷ [] → ⊥
 longer book l e = omega (arith, ap length e, length-append book (l ∷ []))
@@ -97,7 +89,7 @@ contracts =
       of-attributes-at = λ κs a p x y u v e f. (ok-place (e .0) (f .0), refl);
       of-layout-skip = λ κs a p x y u v e f. (ok-place e f, refl);
       of-look-in = λ κs a p x y u v e f. let h = p .1 in (looks-once _ _ _ x y (e (h .book) (h .image)) (f (h .book) (h .image)), refl);
-      of-find = λ κs a p x y u v e f. (finds-once _ _ _ x y e f, refl);
+      of-find = λ κs a p x y u v e f. (looks-once _ _ _ x y e f, refl);
       of-is-book = λ κs a p x y u v e f. (e ∙ sym f, refl);
       of-judge = λ κs a p x y u v e f. let (l, is) = ended _ _ (p .2) in let h = p .4 in (judges-once _ _ _ _ x y (e (h .book) l (h .image) is) (f (h .book) l (h .image) is), refl);
       of-layout-number = λ κs a p x y u v e f. let (l, next, is) = value-is _ p in (e l next is ∙ sym (f l next is), refl);

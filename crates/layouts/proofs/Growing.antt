@@ -7,18 +7,20 @@ use mathlib.Core.Option.{Option, some, none}
 use mathlib.Core.Logic.{_⊎_, inl, inr}
 use native.Mathlib.Omega.{arith}
 use lib.ListN.{length, length-append}
-use lib.Dec.{leb, ltb}
-use borrow.Author.Tests.{leb-true, ltb-true, le-leb, lt-ltb}
+use borrow.Author.Tests.{le-leb, lt-ltb}
 use Rattle.octets.specs.Limits.{bookRoom, mostLayouts}
-use Rattle.octets.specs.Reading.{ok, same}
-use Rattle.octets.proofs.Copies.{both-true, same-true, same-refl}
+use Rattle.octets.specs.Reading.{ok}
+use Rattle.octets.proofs.Copies.{same-refl}
 use Rattle.octets.proofs.Spans.{each-join}
-use Rattle.octets.proofs.Inverse.{ok-value, chosen}
+use Rattle.octets.proofs.Inverse.{ok-value, no-ok}
 use Rattle.layouts.specs.Layout.{Layout, layoutImage, GoodLayout}
-use Rattle.layouts.specs.Book.{Book, find, isNone, bookImage, learnAt, learn, Distinct, GoodBook}
+use Rattle.layouts.specs.Book.{Book, find, isNone, bookImage, learning, learnBy, learn, Distinct, GoodBook}
+use Rattle.layouts.specs.declared.Learning.{Learning}
+use Rattle.layouts.specs.declared.Learning.the-variants.{Known, New, Refused}
 use Rattle.layouts.proofs.Finding.{some-same, First, first, find-here, find-nil, find-front, find-behind, Within, within-front, within-snoc, distinct-snoc, each-find, total, total-within, total-length, total-image}
 use Rattle.layouts.proofs.Layouts.{layout-once}
 use Rattle.layouts.proofs.Books.{image-nil, image-snoc}
+use Rattle.layouts.proofs.Judging.{Learned, learned}
 
 -- What learning does.
 abbrev pub Learnt : Book → Layout → Book → Type 0
@@ -28,16 +30,12 @@ Learnt b l c =
 
 pub learnt : (b : Book) (l : Layout) (at : ℕ) (c : Book) (end : ℕ) → learn b l at ≡ ok c end → Learnt b l c
 unfolding learn
-learnt b l at c end e = go (find (l .number) b) refl e
+learnt b l at c end e = go (learning b (length (bookImage b)) (l .number) (layoutImage l)) (learned b (length (bookImage b)) (l .number) (layoutImage l)) e
   where
-    go : (o : Option Layout) → find (l .number) b ≡ o → learnAt b l at o ≡ ok c end → Learnt b l c
-    go (some m) f e =
-        let (t, e₁) = chosen (same (layoutImage m) (layoutImage l)) (λ _. ok b at) 10 at e in
-        inl (m, f, same-true _ _ t, ok-value e₁ refl)
-    go none f e =
-        let (t, e₁) = chosen (ltb (length b) mostLayouts && leb (length (bookImage b) + length (layoutImage l)) bookRoom) (λ _. ok (b ++ l ∷ []) at) 11 at e in
-        let (few, small) = both-true _ _ t in
-        inr (f, ltb-true _ _ few, leb-true _ _ small, ok-value e₁ refl)
+    go : (x : Learning) → Learned b (length (bookImage b)) (l .number) (layoutImage l) x → learnBy b l at x ≡ ok c end → Learnt b l c
+    go Known w e = inl (w .0, w .1, w .2, ok-value e refl)
+    go (New v) w e = inr (w .0, w .1, w .2, ok-value e refl)
+    go (Refused n) w e = absurd (no-ok refl e)
 
 pub learn-known : (b : Book) (l : Layout) (at : ℕ) (m : Layout) → find (l .number) b ≡ some m → layoutImage m ≡ layoutImage l → learn b l at ≡ ok b at
 unfolding learn

@@ -1,20 +1,17 @@
--- Learning by octets: what a lent book answers of a layout in a document, what its octets are then, and that it is a good book again.
+-- A lent book and a layout by their octets: where a layout stands, and what a book's octets are with one more.
 -- The used octets are the book's image, so a layout's octets behind them make the image of the book with it.
 use Prim.Native.Nat.{ℕ, _+_, _-_, _≤_, _<_}
 use mathlib.Core.Path.{_≡_, refl, ap, _∙_, sym}
 use mathlib.Core.List.{List, [], _∷_, _++_, append-assoc}
-use mathlib.Core.Bool.{Bool, true, false, _&&_}
-use mathlib.Core.Option.{some, none}
 use lib.ListN.{length, take, drop, length-append, length-drop}
 use lib.Seq.{length-take-le}
-use lib.Dec.{ltb}
-use borrow.Author.Tests.{le-ltb, le-leb, lt-leb}
+use borrow.Author.Tests.{le-leb}
 use native.Mathlib.Omega.{arith}
-use Rattle.octets.specs.Limits.{bookRoom, mostLayouts}
-use Rattle.octets.specs.Reading.{Read, ok, no, choose, part, same}
+use Rattle.octets.specs.Limits.{bookRoom}
+use Rattle.octets.specs.Reading.{ok, part}
 use Rattle.octets.specs.Writing.{Each, Octet, over}
 use Rattle.layouts.specs.Layout.{Layout, layoutAt, layoutImage, GoodLayout}
-use Rattle.layouts.specs.Book.{Book, find, bookImage, bookOf, layoutsAt, bookIn, IsBook, learn}
+use Rattle.layouts.specs.Book.{Book, bookImage, bookOf, layoutsAt, bookIn, IsBook}
 use Rattle.layouts.specs.Answers.{Looks, Stood}
 use Rattle.layouts.specs.declared.Looked.{Looked}
 use Rattle.layouts.specs.declared.Looked.the-variants.{There, Missing}
@@ -36,28 +33,6 @@ layout-length s at next l o h e =
 pub stood : (s : List ℕ) (n : ℕ) (book : Book) (x : Looked) → Looks s n book x → Stood s x
 stood s n book (There p) w = record { layout = w .layout; next = w .next; reads = w .reads }
 stood s n book (Missing k) w = tt
-
--- What learning answers, by what was found.
-module _ (book : Book) (l : Layout) (at : ℕ) where
-  pub learn-same : (m : Layout) → find (l .number) book ≡ some m → same (layoutImage m) (layoutImage l) ≡ true → learn book l at ≡ ok book at
-  unfolding learn
-  learn-same m f t = rw (f, t) refl
-
-  pub learn-other : (m : Layout) → find (l .number) book ≡ some m → same (layoutImage m) (layoutImage l) ≡ false → learn book l at ≡ no 10 at
-  unfolding learn
-  learn-other m f t = rw (f, t) refl
-
-  pub learn-many : find (l .number) book ≡ none → mostLayouts ≤ length book → learn book l at ≡ no 11 at
-  unfolding learn
-  learn-many f h = rw (f, le-ltb (length book) mostLayouts h) refl
-
-  pub learn-long : find (l .number) book ≡ none → bookRoom < length (bookImage book) + length (layoutImage l) → learn book l at ≡ no 11 at
-  unfolding learn
-  learn-long f h = rw (f, lt-leb (length (bookImage book) + length (layoutImage l)) bookRoom h) (never (ltb (length book) mostLayouts))
-    where
-      never : (t : Bool) → choose {A = Read Book} (t && false) (λ _. ok (book ++ l ∷ []) at) (λ _. no 11 at) ≡ no 11 at
-      never true = refl
-      never false = refl
 
 -- A new layout's octets right behind the used ones are the book's with it.
 pub put-learnt : (octets : List ℕ) (used : ℕ) (book : Book) (l : Layout) → Lent octets used book

@@ -8,4 +8,5 @@ pub mod Parts
 pub mod Walks
 pub mod Checks
 pub mod Lends
+pub mod Judging
 pub mod Contracts

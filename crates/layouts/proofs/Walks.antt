@@ -10,7 +10,7 @@ use Rattle.octets.specs.Writing.{Each, Octet}
 use Rattle.octets.proofs.Spans.{Spans, middle, all-spans}
 use Rattle.layouts.specs.Layout.{Layout, layoutAt, layoutImage, GoodLayout}
 use Rattle.layouts.specs.Book.{Book, find, bookImage, bookIn, IsBook}
-use Rattle.layouts.specs.Answers.{Image, Stands}
+use Rattle.layouts.specs.Answers.{Image, StandsFor}
 use Rattle.layouts.proofs.Layouts.{layout-inverse, layout-long}
 use Rattle.layouts.proofs.Finding.{find-here, find-skip, find-nil}
 use Rattle.layouts.proofs.Books.{Lent, book-forth, image-nil, image-cons}
@@ -84,7 +84,7 @@ module _ (s : List ℕ) (n : ℕ) (book : Book) where
         let q : at .next ≡ next = cc (ap ends (at .reads), e) in
         (omega (arith, at .later), omega (arith, at .inside), subst (λ (m : ℕ). Left s n book m (k + 1)) q (at .left (λ same. other (at .number ∙ sym same))))
 
-    pub here-stands : be 4 s pos ≡ n → Stands s n book pos
+    pub here-stands : be 4 s pos ≡ n → StandsFor s n book pos
     here-stands e = record { layout = at .layout; next = at .next; found = at .found (sym e ∙ at .number); reads = at .reads }
 
 -- What lent octets that hold a book are: their used part is the book's image.

@@ -13,15 +13,13 @@ use Rattle.layouts.specs.Layout.{Attribute, Layout, attributeAt, layoutA
 use Rattle.layouts.specs.Book.{Book, find, bookImage, learn}
 use Rattle.layouts.specs.declared.Looked.{Looked}
 use Rattle.layouts.specs.declared.Looked.the-variants.{There, Missing}
-use Rattle.layouts.specs.declared.Found.{Found}
-use Rattle.layouts.specs.declared.Found.the-variants.{At, Nothing}
 use Rattle.layouts.specs.declared.Learning.{Learning}
 use Rattle.layouts.specs.declared.Learning.the-variants.{Known, New, Refused}
 
 -- Whether a number is among some.
-abbrev pub among : ℕ → List ℕ → Bool
-among n [] = false
-among n (m ∷ rest) = choose (eqb n m) (λ _. true) (λ _. among n rest)
+abbrev pub isAmong : ℕ → List ℕ → Bool
+isAmong n [] = false
+isAmong n (m ∷ rest) = choose (eqb n m) (λ _. true) (λ _. isAmong n rest)
 
 -- Octets that are the image of layouts inside the limits.
 pub record Image (s : List ℕ) (book : Book) : Type 0 where
@@ -33,7 +31,7 @@ pub record Holds (s : List ℕ) : Type 0 where
   pub image : Image s book
 
 -- At a place stands the layout that a book has under a number.
-pub record Stands (s : List ℕ) (n : ℕ) (book : Book) (p : ℕ) : Type 0 where
+pub record StandsFor (s : List ℕ) (n : ℕ) (book : Book) (p : ℕ) : Type 0 where
   pub layout : Layout
   pub next : ℕ
   pub found : find n book ≡ some layout
@@ -41,13 +39,8 @@ pub record Stands (s : List ℕ) (n : ℕ) (book : Book) (p : ℕ) : Type 0 wher
 
 -- The place of the layout of a number; where there is none, how many layouts there are.
 abbrev pub Looks : List ℕ → ℕ → Book → Looked → Type 0
-Looks s n book (There p) = Stands s n book p
+Looks s n book (There p) = StandsFor s n book p
 Looks s n book (Missing k) = (find n book ≡ none) × (length book ≡ k)
-
--- The place of the layout of a number in a book's octets, or that the book has none.
-abbrev pub Finds : List ℕ → ℕ → Book → Found → Type 0
-Finds s n book (At p) = Stands s n book p
-Finds s n book Nothing = find n book ≡ none
 
 -- A layout stands at a place.
 pub record Reads (s : List ℕ) (p : ℕ) : Type 0 where
@@ -82,10 +75,6 @@ pub record Nth (s : List ℕ) (all : List Attribute) (n p : ℕ) : Type 0 where
   pub reads : attributeAt s p ≡ ok attribute next
 
 -- An answer but for its place: what is read there is settled, and equal octets might stand elsewhere too.
-abbrev pub foundBut : Found → Found
-foundBut (At p) = At 0
-foundBut Nothing = Nothing
-
 abbrev pub lookedBut : Looked → Looked
 lookedBut (There p) = There 0
 lookedBut (Missing k) = Missing k

@@ -10,6 +10,8 @@ use Rattle.octets.specs.Limits.{bookRoom, mostLayouts}
 use Rattle.octets.specs.Reading.{Read, ok, no, _then_, choose, valueOr, same}
 use Rattle.octets.specs.Writing.{images, Each}
 use Rattle.layouts.specs.Layout.{Layout, layoutAt, layoutImage, GoodLayout}
+use Rattle.layouts.specs.declared.Learning.{Learning}
+use Rattle.layouts.specs.declared.Learning.the-variants.{Known, New, Refused}
 
 abbrev pub Book : Type 0
 Book = List Layout
@@ -73,12 +75,21 @@ bookIn octets used = valueOr [] (bookOf octets used)
 abbrev pub IsBook : List ℕ → ℕ → Type 0
 IsBook octets used = bookOf octets used ≡ ok (bookIn octets used) used
 
--- A layout seen again under its number adds nothing where it is equal from its number to its last type, else it is 10 at its number; a new one that would be the 65th, or pass 32,768 octets, is 11 there.
-abbrev pub learnAt : Book → Layout → ℕ → Option Layout → Read Book
-learnAt book l at (some m) = choose (same (layoutImage m) (layoutImage l)) (λ _. ok book at) (λ _. no 10 at)
-learnAt book l at none =
-    choose (ltb (length book) mostLayouts && leb (length (bookImage book) + length (layoutImage l)) bookRoom) (λ _. ok (book ++ l ∷ []) at) (λ _. no 11 at)
+-- What a book that uses so many octets makes of a layout, by the layout's octets from its number to its last type and by what the book has under that number. Equal octets add nothing, and others are refusal 10; a new layout that would be the 65th, or pass 32,768 octets, is 11.
+abbrev pub learningBy : Book → ℕ → List ℕ → Option Layout → Learning
+learningBy book used xs (some m) = choose (same (layoutImage m) xs) (λ _. Known) (λ _. Refused 10)
+learningBy book used xs none =
+    choose (ltb (length book) mostLayouts && leb (used + length xs) bookRoom) (λ _. New (used + length xs)) (λ _. Refused 11)
 
--- The book with a layout learnt whose number stands at a place.
+-- The same by the number.
+abbrev pub learning : Book → ℕ → ℕ → List ℕ → Learning
+learning book used n xs = learningBy book used xs (find n book)
+
+-- The book with a layout learnt whose number stands at a place, where its refusal is.
+abbrev pub learnBy : Book → Layout → ℕ → Learning → Read Book
+learnBy book l at Known = ok book at
+learnBy book l at (New v) = ok (book ++ l ∷ []) at
+learnBy book l at (Refused n) = no n at
+
 unfoldable pub learn : Book → Layout → ℕ → Read Book
-learn book l at = learnAt book l at (find (l .number) book)
+learn book l at = learnBy book l at (learning book (length (bookImage book)) (l .number) (layoutImage l))

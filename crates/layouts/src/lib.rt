@@ -2,7 +2,7 @@
 
 ghost use mathlib.Core.Path.{_≡_};
 ghost use mathlib.Core.Bool.{true};
-ghost use mathlib.Core.List.{List, [], _∷_};
+ghost use mathlib.Core.List.{List, [], _∷_, _++_};
 ghost use Prim.Native.Nat.{ℕ, _+_, _≤_};
 ghost use lib.ListN.{length, take, drop};
 ghost use Rattle.octets.specs.Limits.{longest, bookRoom, mostLayouts};
@@ -10,8 +10,8 @@ ghost use Rattle.octets.specs.Reading.{ok, ends, isOk, text, run, same};
 ghost use Rattle.octets.specs.Answers.{says, Within};
 ghost use Rattle.kinds.specs.Kinds.{kindAt};
 ghost use Rattle.layouts.specs.Layout.{Attribute, Layout, attributeAt, layoutAt, layoutImage};
-ghost use Rattle.layouts.specs.Book.{Book, bookImage, bookOf, bookIn, IsBook, layoutsAt};
-ghost use Rattle.layouts.specs.Answers.{among, Image, Holds, Looks, Stood, Finds, Reads, Judges, Nth, Has};
+ghost use Rattle.layouts.specs.Book.{Book, bookImage, bookOf, bookIn, IsBook, layoutsAt, learning};
+ghost use Rattle.layouts.specs.Answers.{isAmong, Image, Holds, Looks, Stood, Reads, Judges, Nth, Has};
 use kinds::Kind;
 use kinds::Kinded;
 use octets::Counted;
@@ -22,12 +22,6 @@ use octets::Room;
 pub enum Looked {
     There(usize),
     Missing(usize),
-}
-
-// The place of a layout in a book.
-pub enum Found {
-    At(usize),
-    Nothing,
 }
 
 // How a layout stands to a book: known already, new with the octets that the book uses then, or refused by number.
@@ -153,21 +147,17 @@ pub fn look_in(s: &[u8], number: u32) -> Looked
     Looked::Missing(k)
 }
 
-// Finds the layout of a number in a book that is known to be good.
-pub fn find(book: &[u8], used: usize, number: u32) -> Found
+// Looks a number up in a book that is known to be good.
+pub fn find(book: &[u8], used: usize, number: u32) -> Looked
     requires { ⌜ IsBook (now book) used ⌝ }
-    ensures { λ r. ⌜ Finds (take used (now (book .entry))) number (bookIn (now (book .entry)) used) r ⌝ }
+    ensures { λ r. ⌜ Looks (take used (now (book .entry))) number (bookIn (now (book .entry)) used) r ⌝ }
 {
-    let looked = look_in(&book[..used], number);
-    match looked {
-        Looked::There(p) => Found::At(p),
-        Looked::Missing(k) => Found::Nothing,
-    }
+    look_in(&book[..used], number)
 }
 
 // Whether a number is among those met.
 fn is_among(met: &[u32], number: u32) -> bool
-    ensures { λ r. ⌜ r ≡ among number (now (met .entry)) ⌝ }
+    ensures { λ r. ⌜ r ≡ isAmong number (now (met .entry)) ⌝ }
 {
     let mut i = 0;
     while i < met.len() {
@@ -218,16 +208,58 @@ pub fn is_book(book: &[u8], used: usize) -> bool
     are_layouts(&book[..used])
 }
 
-// Whether the layout at a place of a book is the one from a place of a document to its end, octet by octet where they stand.
-fn same_layout<'d, 'b>(doc: &'d [u8], at: usize, end: usize, s: &'b [u8], p: usize) -> bool
-    requires { ⌜ (at ≤ end) × (end ≤ length (now doc)) × (length (now s) ≤ longest) × Reads (now s) p ⌝ }
-    ensures { λ r. ⌜ ((l m : Layout) (q : ℕ) → layoutAt (now (doc .entry)) at ≡ ok l end → layoutAt (now (s .entry)) p ≡ ok m q → r ≡ same (layoutImage m) (layoutImage l)) ⌝ }
+// Whether the layout at a place is two runs of octets, one behind the other, compared where they stand.
+fn same_runs<'s, 'f, 'l>(s: &'s [u8], at: usize, front: &'f [u8], last: &'l [u8]) -> bool
+    requires { ⌜ (length (now s) ≤ longest) × Reads (now s) at ⌝ }
+    ensures { λ r. ⌜ ((m : Layout) (end : ℕ) → layoutAt (now (s .entry)) at ≡ ok m end → r ≡ same (layoutImage m) (now (front .entry) ++ now (last .entry))) ⌝ }
 {
-    let q = layout_skip(s, p);
-    octets::octets_same(&s[p..q], &doc[at..end])
+    let end = layout_skip(s, at);
+    if end - at < front.len() {
+        return false;
+    }
+    let mid = at + front.len();
+    if !octets::octets_same(&s[at..mid], front) {
+        return false;
+    }
+    octets::octets_same(&s[mid..end], last)
 }
 
-// How the layout from a place of a document to its end stands to a book that uses so many octets, by where its number was looked up among the book's layouts, which stand in other octets.
+// How a layout of these octets, two runs one behind the other, stands to a book that uses so many octets, by where its number was looked up among the book's layouts, which stand in other octets.
+pub fn judge_runs<'f, 'l, 's>(
+    front: &'f [u8],
+    last: &'l [u8],
+    s: &'s [u8],
+    looked: Looked,
+    used: usize,
+) -> Learning
+    requires { ⌜ (length (now s) ≤ longest) × (used ≤ bookRoom) × Stood (now s) looked ⌝ }
+    ensures { λ r. ⌜ ((book : Book) (n : ℕ) → Looks (now (s .entry)) n book looked → r ≡ learning book used n (now (front .entry) ++ now (last .entry))) ⌝ }
+{
+    match looked {
+        Looked::There(p) => {
+            if same_runs(s, p, front, last) {
+                Learning::Known
+            } else {
+                Learning::Refused(10)
+            }
+        }
+        Looked::Missing(k) => {
+            if octets::MOST_LAYOUTS <= k {
+                return Learning::Refused(11);
+            }
+            let left = octets::BOOK_ROOM - used;
+            if left < front.len() {
+                return Learning::Refused(11);
+            }
+            if left - front.len() < last.len() {
+                return Learning::Refused(11);
+            }
+            Learning::New(used + front.len() + last.len())
+        }
+    }
+}
+
+// The same of the layout from a place of a document to its end.
 pub fn judge_by<'d, 's>(
     doc: &'d [u8],
     at: usize,
@@ -239,24 +271,7 @@ pub fn judge_by<'d, 's>(
     requires { ⌜ (at ≤ end) × (end ≤ length (now doc)) × (ends (layoutAt (now doc) at) ≡ ok end end) × (length (now s) ≤ longest) × (used ≤ bookRoom) × Stood (now s) looked ⌝ }
     ensures { λ r. ⌜ ((book : Book) (l : Layout) → layoutAt (now (doc .entry)) at ≡ ok l end → Looks (now (s .entry)) (l .number) book looked → length (bookImage book) ≡ used → Judges used book l at r) ⌝ }
 {
-    match looked {
-        Looked::There(p) => {
-            if same_layout(doc, at, end, s, p) {
-                Learning::Known
-            } else {
-                Learning::Refused(10)
-            }
-        }
-        Looked::Missing(k) => {
-            if octets::MOST_LAYOUTS <= k {
-                return Learning::Refused(11);
-            }
-            if octets::BOOK_ROOM - used < end - at {
-                return Learning::Refused(11);
-            }
-            Learning::New(used + (end - at))
-        }
-    }
+    judge_runs(&doc[at..end], b"", s, looked, used)
 }
 
 // How the layout from a place of a document to its end stands to the used octets of a good book.

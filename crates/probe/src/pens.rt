@@ -8,9 +8,9 @@ use crate::input::Told;
 use crate::lines;
 use kinds::Basic;
 use printing::Show;
-use writing::Answer;
-use writing::State;
-use writing::Turn;
+use writer::Answer;
+use writer::State;
+use writer::Wanted;
 
 // The writer's state, the sizes of the buffer and the book that are lent to it, and the used count.
 pub struct Pen {
@@ -113,30 +113,30 @@ fn lent<'k, 'i>(
 }
 
 // A turn of the header, in image order.
-fn header_turn(n: u64) -> Turn {
+fn header_turn(n: u64) -> Wanted {
     match n {
-        0 => Turn::Recorder,
-        1 => Turn::StartTime,
-        2 => Turn::DefaultNamespace,
-        3 => Turn::NamespaceCount,
-        4 => Turn::Uri,
-        5 => Turn::ShortName,
-        6 => Turn::ServiceCount,
-        _ => Turn::Service,
+        0 => Wanted::Recorder,
+        1 => Wanted::StartTime,
+        2 => Wanted::DefaultNamespace,
+        3 => Wanted::NamespaceCount,
+        4 => Wanted::Uri,
+        5 => Wanted::ShortName,
+        6 => Wanted::ServiceCount,
+        _ => Wanted::Service,
     }
 }
 
 // A turn by its number in image order.
-fn turn(n: u64) -> Turn {
+fn turn(n: u64) -> Wanted {
     match n {
-        8 => Turn::DocumentId,
-        9 => Turn::Element,
-        10 => Turn::TypeName,
-        11 => Turn::AttributeCount,
-        12 => Turn::AttributeName,
-        13 => Turn::AttributeType,
-        14 => Turn::Value,
-        15 => Turn::Nothing,
+        8 => Wanted::DocumentId,
+        9 => Wanted::Element,
+        10 => Wanted::TypeName,
+        11 => Wanted::AttributeCount,
+        12 => Wanted::AttributeName,
+        13 => Wanted::AttributeType,
+        14 => Wanted::Value,
+        15 => Wanted::Nothing,
         _ => header_turn(n),
     }
 }

@@ -11,7 +11,7 @@ use Rattle.octets.specs.Limits.{bookRoom, mostLayouts}
 use Rattle.octets.specs.Reading.{Read, ok, no, _then_, choose}
 use Rattle.octets.proofs.Inverse.{no-ok}
 use Rattle.layouts.specs.Book.{as17, layoutsAt, bookOf}
-use Rattle.layouts.specs.Answers.{among}
+use Rattle.layouts.specs.Answers.{isAmong}
 use Rattle.headers.specs.Header.{headerAt}
 use Rattle.elements.specs.Steps.{stepAt}
 use Rattle.elements.specs.Reading.{whole}
@@ -21,11 +21,11 @@ use Rattle.promises.specs.Refusals.{Only, headerNumbers, stepNumbers, wh
 pub taken : {A : Type 0} {ns : List ℕ} (a : A) (next : ℕ) → Only ns (ok a next)
 taken a next = record { number = λ n p e. absurd (no-ok e refl) }
 
-pub given : {A : Type 0} {ns : List ℕ} (n p : ℕ) → among n ns ≡ true → Only {A = A} ns (no n p)
-given {ns = ns} n p h = record { number = λ m q e. let same : n ≡ m = cc in subst (λ (x : ℕ). among x ns ≡ true) same h }
+pub given : {A : Type 0} {ns : List ℕ} (n p : ℕ) → isAmong n ns ≡ true → Only {A = A} ns (no n p)
+given {ns = ns} n p h = record { number = λ m q e. let same : n ≡ m = cc in subst (λ (x : ℕ). isAmong x ns ≡ true) same h }
 
 abbrev pub In : List ℕ → ℕ → Type 0
-In ns n = among n ns ≡ true
+In ns n = isAmong n ns ≡ true
 
 pub only : {A : Type 0} {ns : List ℕ} (end : ℕ) (r : Read A) → Stays (In ns) end r → Only ns r
 only end (ok a next) h = taken a next

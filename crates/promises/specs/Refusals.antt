@@ -4,14 +4,14 @@ use mathlib.Core.Path.{_≡_}
 use mathlib.Core.List.{List, [], _∷_}
 use mathlib.Core.Bool.{true}
 use Rattle.octets.specs.Reading.{Read, ok, no}
-use Rattle.layouts.specs.Answers.{among}
+use Rattle.layouts.specs.Answers.{isAmong}
 use Rattle.headers.specs.Header.{headerAt}
 use Rattle.elements.specs.Steps.{stepAt}
 use Rattle.elements.specs.Reading.{whole}
 
 -- A reading that no other number refuses.
 pub record Only {A : Type 0} (ns : List ℕ) (r : Read A) : Type 0 where
-  pub number : (n p : ℕ) → r ≡ no n p → among n ns ≡ true
+  pub number : (n p : ℕ) → r ≡ no n p → isAmong n ns ≡ true
 
 -- The number that refuses each of some inputs; 0 where it is accepted.
 abbrev pub refusalOf : {A : Type 0} → Read A → ℕ

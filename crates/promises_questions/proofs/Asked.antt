@@ -12,7 +12,7 @@ use Rattle.octets.specs.Reading.{Read, ok, no, _then_, choose, be, number}
 use Rattle.octets.proofs.Inverse.{after}
 use Rattle.layouts.specs.Layout.{layoutAt}
 use Rattle.layouts.specs.Book.{Book, bookOf, learn}
-use Rattle.layouts.specs.Answers.{among}
+use Rattle.layouts.specs.Answers.{isAmong}
 use Rattle.headers.specs.Header.{headerAt}
 use Rattle.rows.specs.Row.{rowAt}
 use Rattle.elements.specs.Element.{Element, item, layout, row, finish, elementAt}
@@ -30,11 +30,11 @@ use Rattle.promises_questions.specs.Numbers.{fieldNumbers, layoutNumbers
 also : {A : Type 0} {ns : List ℕ} (m : ℕ) {r : Read A} → Only ns r → Only (m ∷ ns) r
 also {ns = ns} m h = record { number = λ n p e. go n (eqb n m) (h .number n p e) }
   where
-    go : (n : ℕ) (t : Bool) → among n ns ≡ true → choose t (λ _. true) (λ _. among n ns) ≡ true
+    go : (n : ℕ) (t : Bool) → isAmong n ns ≡ true → choose t (λ _. true) (λ _. isAmong n ns) ≡ true
     go n true k = refl
     go n false k = k
 
-nth-only : {A : Type 0} {ns : List ℕ} → among 18 ns ≡ true → (n place : ℕ) (xs : List A) (next : ℕ) → Only ns (nth n place xs next)
+nth-only : {A : Type 0} {ns : List ℕ} → isAmong 18 ns ≡ true → (n place : ℕ) (xs : List A) (next : ℕ) → Only ns (nth n place xs next)
 unfolding nth
 nth-only {A} {ns} h n place xs next = go (drop n xs)
   where
@@ -43,7 +43,7 @@ nth-only {A} {ns} h n place xs next = go (drop n xs)
     go (a ∷ rest) = taken a next
 
 -- What stands before every question about an element.
-module _ {ns : List ℕ} (one : among 1 ns ≡ true) (two : among 2 ns ≡ true) (seven : among 7 ns ≡ true) (book17 : among 17 ns ≡ true) (kind19 : among 19 ns ≡ true) where
+module _ {ns : List ℕ} (one : isAmong 1 ns ≡ true) (two : isAmong 2 ns ≡ true) (seven : isAmong 7 ns ≡ true) (book17 : isAmong 17 ns ≡ true) (kind19 : isAmong 19 ns ≡ true) where
   lent-only : (s : List ℕ) (rows : ℕ) (octets : List ℕ) (used : ℕ) → Only ns (lentBook s rows octets used)
   unfolding lentBook
   lent-only s rows octets used =

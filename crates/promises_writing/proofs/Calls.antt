@@ -13,9 +13,9 @@ use Rattle.octets.specs.Writing.{over}
 use Rattle.octets.proofs.Inverse.{after, settle, chosen}
 use Rattle.octets.proofs.Copies.{both-true}
 use Rattle.layouts.specs.Book.{Book, bookOf, bookIn}
-use Rattle.writing.specs.declared.State.{State}
-use Rattle.writing.specs.Writer.{Call, Written, room, bounded, fine, unless, Deed, does, addition, layoutSoFar, early, tried, placed, answered, call, runCalls}
-use Rattle.writing.proofs.Bounds.{Bounds, bounds, bounded-is}
+use Rattle.writer.specs.declared.State.{State}
+use Rattle.writer.specs.Writer.{Call, Written, room, bounded, fine, unless, Deed, does, addition, layoutSoFar, early, tried, placed, deedAnswer, call, runCalls}
+use Rattle.writer.proofs.Bounds.{Bounds, bounds, bounded-is}
 
 -- What a deed has to pass in a state, over a book; `new` is what the book takes of it.
 pub record Passes (s : State) (buffer : List ℕ) (used : ℕ) (b : Book) (d : Deed) (new : List ℕ) : Type 0 where
@@ -48,12 +48,12 @@ module _ (s : State) (buffer lent : List ℕ) (used : ℕ) {b : Book} {m : ℕ} 
   unfolding bookIn
   book-in = rw is-book
 
-  call-is : (c : Call) → call s buffer lent used c ≡ answered s buffer lent used (does s buffer b c)
+  call-is : (c : Call) → call s buffer lent used c ≡ deedAnswer s buffer lent used (does s buffer b c)
   unfolding call
   call-is c = rw book-in
 
-  answers : (d : Deed) (new : List ℕ) → Passes s buffer used b d new → answered s buffer lent used d ≡ ok (leftBy buffer lent used d new) (d .next .place)
-  unfolding answered early tried
+  answers : (d : Deed) (new : List ℕ) → Passes s buffer used b d new → deedAnswer s buffer lent used d ≡ ok (leftBy buffer lent used d new) (d .next .place)
+  unfolding deedAnswer early tried
   answers d new p =
       rw (
         is-book,
@@ -76,8 +76,8 @@ module _ (s : State) (buffer lent : List ℕ) (used : ℕ) {b : Book} {m : ℕ} 
     pub passes : Passes s buffer used b d new
     pub is : w ≡ leftBy buffer lent used d new
 
-  answered-ok : (d : Deed) {w : Written} {n : ℕ} → answered s buffer lent used d ≡ ok w n → Accepted d w
-  unfolding answered early tried
+  answered-ok : (d : Deed) {w : Written} {n : ℕ} → deedAnswer s buffer lent used d ≡ ok w n → Accepted d w
+  unfolding deedAnswer early tried
   answered-ok d e =
       after (early s (length buffer) lent used (d .in-turn)) _ (placed-ok (s .place) _ e) λ _ _ e₁ e₂.
       after (bookOf lent used) _ e₁ λ _ _ _ e₃.

@@ -10,12 +10,13 @@ use Rattle.octets.proofs.Inverse.{no-ok, after, settle}
 use Rattle.kinds.specs.declared.Basic.{Basic}
 use Rattle.kinds.specs.declared.Form.{Form}
 use Rattle.kinds.specs.declared.Form.the-variants as form
-use Rattle.kinds.specs.Kinds.{formOf}
+use Rattle.kinds.specs.Kinds.{formBy, formOf}
 use Rattle.kinds.proofs.Unsigned.{unsigned-signed}
 use Rattle.kinds.proofs.Values.{Bits, numeral-basic, numeral-bits}
 use Rattle.layouts.specs.Layout.{Attribute, Layout}
 use Rattle.layouts.specs.Book.{Book}
-use Rattle.rows.specs.Row.{Value, bits, held, Field, Row, GoodValue, FieldsOf}
+use Rattle.rows.specs.Row.{Field, Row, FieldsOf}
+use Rattle.kinds.specs.Forms.{Value, bits, held, GoodValue}
 use Rattle.elements.specs.Element.{Stepped, elementAt}
 use Rattle.elements.specs.Steps.{lentBook}
 use Rattle.elements.proofs.Before.{lent-forth}
@@ -24,7 +25,7 @@ use Rattle.reading.proofs.Times.{Timed, header-timed, step-timed}
 use Rattle.questions.specs.Questions.{kindAsked, bookAsked, firstOf, nth, rowOf, rowAsked, fieldAsked}
 use Rattle.questions.specs.Answers.{bitsOf, octetsOf, valueOf}
 use Rattle.questions.proofs.Asked.{kind-forth}
-use Rattle.writing.specs.Writer.{startTime, value, inForm, valueCall, finish}
+use Rattle.writer.specs.Writer.{startTime, value, inForm, valueCall, finish}
 use Rattle.promises_writing.specs.Copies.{Copies}
 
 -- A value that its form has an image for is what its bits and octets say.
@@ -33,23 +34,21 @@ in-form (form.Fixed w) (bits n) g = (g, refl)
 in-form (form.Fixed w) (held xs) g = absurd g
 in-form form.Truth (bits n) g = (g, refl)
 in-form form.Truth (held xs) g = absurd g
-in-form form.Octets (bits n) g = absurd g
-in-form form.Octets (held xs) g = (refl, refl)
-in-form form.Text (bits n) g = absurd g
-in-form form.Text (held xs) g = (refl, refl)
+in-form form.Led (bits n) g = absurd g
+in-form form.Led (held xs) g = (refl, refl)
 
-pub value-copied : (b : Basic) (v : Value) → GoodValue (formOf b) v → valueCall (valueOf b v) (octetsOf v) ≡ value b v
+pub value-copied : (b : Basic) (v : Value) → GoodValue (formBy b) v → valueCall (valueOf b v) (octetsOf v) ≡ value b v
 value-copied b v g =
-    let (fits, is) = in-form (formOf b) v g in
+    let (fits, is) = in-form (formBy b) v g in
     rw (numeral-basic b (bitsOf v), numeral-bits b (bitsOf v) fits, is) refl
 
 -- A field of a row is good.
 one-good : (n : ℕ) (attributes : List Attribute) (fields : List Field) (place mid : ℕ) {f : Field} {next : ℕ} → FieldsOf attributes fields
-    → firstOf place (drop n fields) mid ≡ ok f next → GoodValue (formOf (f .attribute .kind .basic)) (f .value)
+    → firstOf place (drop n fields) mid ≡ ok f next → GoodValue (formOf (f .attribute .kind)) (f .value)
 one-good zero [] [] place mid h e = absurd (no-ok refl e)
 one-good zero (a ∷ rest) (g ∷ fields) place mid h e =
-    settle (λ (x : Field) (_ : ℕ). GoodValue (formOf (x .attribute .kind .basic)) (x .value)) e
-    (subst (λ (x : Attribute). GoodValue (formOf (x .kind .basic)) (g .value)) (sym (h .0)) (h .1))
+    settle (λ (x : Field) (_ : ℕ). GoodValue (formOf (x .attribute .kind)) (x .value)) e
+    (subst (λ (x : Attribute). GoodValue (formOf (x .kind)) (g .value)) (sym (h .0)) (h .1))
 one-good (suc n) [] [] place mid h e = absurd (no-ok refl e)
 one-good (suc n) (a ∷ rest) (g ∷ fields) place mid h e = one-good n rest fields place mid (h .2) e
 one-good n [] (g ∷ fields) place mid h e = absurd h
@@ -73,7 +72,7 @@ module _ (s : List ℕ) (o : Each Octet s) where
       go (an-end g whole p) e = absurd (no-ok refl e)
 
   field-good : (at rows : ℕ) (octets : List ℕ) (used n : ℕ) (f : Field) (next : ℕ) → Each Octet octets → fieldAsked s at rows octets used n ≡ ok f next
-      → GoodValue (formOf (f .attribute .kind .basic)) (f .value)
+      → GoodValue (formOf (f .attribute .kind)) (f .value)
   unfolding fieldAsked nth
   field-good at rows octets used n f next b e =
       after (rowAsked s at rows octets used) _ e λ r mid e₁ e₂.

@@ -9,35 +9,35 @@ use lib.ListN.{length, length-append}
 use lib.Dec.{leb, eqb, lit<}
 use borrow.Author.Tests.{eqb-true, leb-true}
 use Rattle.octets.specs.Limits.{longest, mostListed}
-use Rattle.octets.specs.Writing.{word, textImage, images, Each, Octet, Text}
+use Rattle.octets.specs.Writing.{word, ledImage, images, Each, Octet, GoodLed}
 use Rattle.octets.proofs.Spans.{each-join}
 use Rattle.octets.proofs.Ends.{chosen-ok}
 use Rattle.headers.specs.Header.{Namespace, Header, headerImage, GoodNamespace, GoodHeader}
-use Rattle.writing.specs.declared.Turn.{Turn}
-use Rattle.writing.specs.declared.Turn.the-variants as wants
-use Rattle.writing.specs.Writer.{Call, recorder, startTime, defaultNamespace, namespaceCount, uri, shortName, serviceCount, service, documentId, fine, unless, turnAt, does}
+use Rattle.writer.specs.declared.Wanted.{Wanted}
+use Rattle.writer.specs.declared.Wanted.the-variants as wants
+use Rattle.writer.specs.Writer.{Call, recorder, startTime, defaultNamespace, namespaceCount, uri, shortName, serviceCount, service, documentId, fine, unless, turnAt, does}
 use Rattle.promises_writing.specs.Promise.{namespaceCalls, serviceCalls, headerCalls, Told, adds, tell}
 use Rattle.promises_writing.proofs.Standing.{Spot, spot, stateAt, behind}
 use Rattle.promises_writing.proofs.Put.{octetsOf, images-snoc, each-snoc, header-octets}
 use Rattle.promises_writing.proofs.Shapes.{InHeader, namespaced, served, Shape, Stand, rest, Inv, at-turn, PassesHere, leftHere, put-keeps}
 
 -- A string whose octets were put fits a length.
-pub is-text : (xs : List ℕ) → Each Octet xs → length (textImage xs) ≤ longest → Text xs
-unfolding textImage
+pub is-text : (xs : List ℕ) → Each Octet xs → length (ledImage xs) ≤ longest → GoodLed xs
+unfolding ledImage
 is-text xs e h = (e, omega (arith, length-append (word 4 (length xs)) xs))
 
 -- A header by its fields in image order.
 abbrev header : List ℕ → ℕ → List ℕ → List Namespace → List (List ℕ) → List ℕ → Header
 header r s d o v i = record { recorder = r; start = s; default = d; others = o; services = v; id = i }
 
-good-header : {r : List ℕ} {s : ℕ} {d : List ℕ} {o : List Namespace} {v : List (List ℕ)} {i : List ℕ} → Text r → s < 2 ^ 64 → Text d → length o ≤ 16 → Each GoodNamespace o
-    → length v ≤ 16 → Each Text v → length i ≡ 16 → Each Octet i → GoodHeader (header r s d o v i)
+good-header : {r : List ℕ} {s : ℕ} {d : List ℕ} {o : List Namespace} {v : List (List ℕ)} {i : List ℕ} → GoodLed r → s < 2 ^ 64 → GoodLed d → length o ≤ 16 → Each GoodNamespace o
+    → length v ≤ 16 → Each GoodLed v → length i ≡ 16 → Each Octet i → GoodHeader (header r s d o v i)
 good-header g₁ g₂ g₃ g₄ g₅ g₆ g₇ g₈ g₉ =
     record { recorder = g₁; start = g₂; default = g₃; few-others = g₄; others = g₅; few-services = g₆; services = g₇; id-length = g₈; id = g₉ }
 
 -- One call more of a header.
-on : {calls more : Header → ℕ → List ℕ → List Call} {Counts Next : Header → ℕ → Type 0} {x : Spot} {done : List ℕ} {told : Told} (c : Call) (u : Turn) (j : ℕ)
-    (i : InHeader calls Counts x done told) (h : Header) (n : ℕ) (name : List ℕ) → GoodHeader h → Text name → Next h n
+on : {calls more : Header → ℕ → List ℕ → List Call} {Counts Next : Header → ℕ → Type 0} {x : Spot} {done : List ℕ} {told : Told} (c : Call) (u : Wanted) (j : ℕ)
+    (i : InHeader calls Counts x done told) (h : Header) (n : ℕ) (name : List ℕ) → GoodHeader h → GoodLed name → Next h n
     → calls (i .h) (i .n) (i .name) ++ c ∷ [] ≡ more h n name → InHeader more Next (spot (x .book) u j (x .start) (x .rows)) (done ++ octetsOf c) (adds told c)
 on {told = told} c u j i h n name good text counts said =
     record {
@@ -64,10 +64,10 @@ module _ {buffer lent : List ℕ} {told : Told} (now : Stand buffer lent told) w
   pub keep-recorder : (xs : List ℕ) → Each Octet xs → Keeps (recorder xs)
   unfolding does
   keep-recorder xs o new p =
-      put-keeps now (adds told (recorder xs)) wants.Recorder wants.StartTime fine (word 4 4 ++ textImage xs) 0 (now .at .start) p λ i _ small.
+      put-keeps now (adds told (recorder xs)) wants.Recorder wants.StartTime fine (word 4 4 ++ ledImage xs) 0 (now .at .start) p λ i _ small.
       let h = i .h in
       let g = i .good in
-      let text : Text xs = is-text xs o (omega (arith, length-append (word 4 4) (textImage xs))) in
+      let text : GoodLed xs = is-text xs o (omega (arith, length-append (word 4 4) (ledImage xs))) in
       on (recorder xs) wants.StartTime 0 i (header xs (h .start) (h .default) (h .others) (h .services) (h .id)) 0 []
       (good-header text (g .start) (g .default) (g .few-others) (g .others) (g .few-services) (g .services) (g .id-length) (g .id)) (tt, lit< tt) tt refl
 
@@ -83,7 +83,7 @@ module _ {buffer lent : List ℕ} {told : Told} (now : Stand buffer lent told) w
   pub keep-default : (xs : List ℕ) → Each Octet xs → Keeps (defaultNamespace xs)
   unfolding does
   keep-default xs o new p =
-      put-keeps now (adds told (defaultNamespace xs)) wants.DefaultNamespace wants.NamespaceCount fine (textImage xs) 0 (now .at .start) p λ i _ small.
+      put-keeps now (adds told (defaultNamespace xs)) wants.DefaultNamespace wants.NamespaceCount fine (ledImage xs) 0 (now .at .start) p λ i _ small.
       let h = i .h in
       let g = i .good in
       on (defaultNamespace xs) wants.NamespaceCount 0 i (header (h .recorder) (h .start) xs (h .others) (h .services) (h .id)) 0 []
@@ -106,14 +106,14 @@ module _ {buffer lent : List ℕ} {told : Told} (now : Stand buffer lent told) w
   pub keep-uri : (xs : List ℕ) → Each Octet xs → Keeps (uri xs)
   unfolding does
   keep-uri xs o new p =
-      put-keeps now (adds told (uri xs)) wants.Uri wants.ShortName fine (textImage xs) (now .at .count) (now .at .start) p λ i _ small.
+      put-keeps now (adds told (uri xs)) wants.Uri wants.ShortName fine (ledImage xs) (now .at .count) (now .at .start) p λ i _ small.
       on (uri xs) wants.ShortName (now .at .count) i (i .h) (i .n) xs (i .good) (is-text xs o small) (i .counts) refl
 
   pub keep-short : (xs : List ℕ) → Each Octet xs → Keeps (shortName xs)
   unfolding does
   keep-short xs o new p =
       let left : ℕ = now .at .count - 1 in
-      put-keeps now (adds told (shortName xs)) wants.ShortName (turnAt left wants.Uri wants.ServiceCount) fine (textImage xs) left (now .at .start) p λ i one small.
+      put-keeps now (adds told (shortName xs)) wants.ShortName (turnAt left wants.Uri wants.ServiceCount) fine (ledImage xs) left (now .at .start) p λ i one small.
       let h = i .h in
       let g = i .good in
       let sum = i .counts in
@@ -125,7 +125,7 @@ module _ {buffer lent : List ℕ} {told : Told} (now : Stand buffer lent told) w
       good-header (g .recorder) (g .start) (g .default) (omega arith) (each-join GoodNamespace (h .others) (more ∷ []) (g .others) (record { uri = i .text; short = is-text xs o small }, tt))
       (g .few-services) (g .services) (g .id-length) (g .id) in
       let said : (namespaced h (i .n) ++ uri (i .name) ∷ []) ++ shortName xs ∷ [] ≡ namespaced h₁ (i .n) = rw (each-snoc namespaceCalls (h .others) more) (simp append-assoc) in
-      at-turn (λ u. Shape u (spot (now .at .book) u left (now .at .start) (now .at .rows)) (now .done ++ textImage xs) (adds told (shortName xs))) left wants.Uri wants.ServiceCount
+      at-turn (λ u. Shape u (spot (now .at .book) u left (now .at .start) (now .at .rows)) (now .done ++ ledImage xs) (adds told (shortName xs))) left wants.Uri wants.ServiceCount
       (λ _. on (shortName xs) wants.Uri left i h₁ (i .n) [] g₁ (tt, lit< tt) (omega arith, sum .1) said)
       (λ none.
       let all : i .n ≡ length others = omega arith in
@@ -149,7 +149,7 @@ module _ {buffer lent : List ℕ} {told : Told} (now : Stand buffer lent told) w
   unfolding does
   keep-service xs o new p =
       let left : ℕ = now .at .count - 1 in
-      put-keeps now (adds told (service xs)) wants.Service (turnAt left wants.Service wants.DocumentId) fine (textImage xs) left (now .at .start) p λ i one small.
+      put-keeps now (adds told (service xs)) wants.Service (turnAt left wants.Service wants.DocumentId) fine (ledImage xs) left (now .at .start) p λ i one small.
       let h = i .h in
       let g = i .good in
       let sum = i .counts in
@@ -157,9 +157,9 @@ module _ {buffer lent : List ℕ} {told : Told} (now : Stand buffer lent told) w
       let long : length services ≡ length (h .services) + 1 = length-append (h .services) (xs ∷ []) in
       let h₁ : Header = header (h .recorder) (h .start) (h .default) (h .others) services (h .id) in
       let g₁ : GoodHeader h₁ =
-      good-header (g .recorder) (g .start) (g .default) (g .few-others) (g .others) (omega arith) (each-join Text (h .services) (xs ∷ []) (g .services) (is-text xs o small, tt)) (g .id-length) (g .id) in
+      good-header (g .recorder) (g .start) (g .default) (g .few-others) (g .others) (omega arith) (each-join GoodLed (h .services) (xs ∷ []) (g .services) (is-text xs o small, tt)) (g .id-length) (g .id) in
       let said : served h (i .n) ++ service xs ∷ [] ≡ served h₁ (i .n) = rw (each-snoc serviceCalls (h .services) xs) (simp append-assoc) in
-      at-turn (λ u. Shape u (spot (now .at .book) u left (now .at .start) (now .at .rows)) (now .done ++ textImage xs) (adds told (service xs))) left wants.Service wants.DocumentId
+      at-turn (λ u. Shape u (spot (now .at .book) u left (now .at .start) (now .at .rows)) (now .done ++ ledImage xs) (adds told (service xs))) left wants.Service wants.DocumentId
       (λ _. on (service xs) wants.Service left i h₁ (i .n) [] g₁ (tt, lit< tt) (omega arith, sum .1) said)
       (λ none.
       let all : i .n ≡ length services = omega arith in

@@ -3,33 +3,36 @@
 use Prim.Native.Nat.{ℕ, _+_, _-_, _/_, _%_, _^_, _≤_, _<_}
 use mathlib.Core.Path.{_≡_, refl, sym, ap, _∙_, subst}
 use mathlib.Core.List.{List, [], _∷_, _++_, append-assoc}
-use mathlib.Core.Bool.{Bool, true, false, _&&_}
-use mathlib.Core.Option.{Option, some, none}
+use mathlib.Core.Bool.{Bool, true, false}
 use native.Mathlib.Omega.{arith}
 use native.Mathlib.Nat.{add-zero, zero-add}
 use lib.ListN.{length, length-append}
 use lib.Dec.{leb, ltb, eqb, lit<}
 use borrow.Author.Tests.{eqb-true, eqb-false, leb-true, ltb-true}
-use Rattle.octets.specs.Limits.{bookRoom, mostLayouts, mostAttributes}
-use Rattle.octets.specs.Reading.{Read, ok, no, _then_, isOk, same}
-use Rattle.octets.specs.Writing.{word, textImage, images, Each, Octet}
+use Rattle.octets.specs.Limits.{mostAttributes}
+use Rattle.octets.specs.Reading.{Read, ok, no, _then_, isOk}
+use Rattle.octets.specs.Writing.{word, ledImage, images, Each, Octet}
 use Rattle.octets.proofs.Spans.{each-join}
-use Rattle.octets.proofs.Inverse.{ok-value, after, chosen, refused}
-use Rattle.octets.proofs.Copies.{both-true, same-true}
+use Rattle.octets.proofs.Inverse.{ok-value, no-ok, chosen, refused}
 use Rattle.octets.proofs.Ends.{chosen-ok}
 use Rattle.kinds.specs.declared.Kind.{Kind}
 use Rattle.kinds.specs.Kinds.{numberOf, basicOf, known, kindOf}
 use Rattle.kinds.proofs.Table.{known-ok, code-of-basic}
 use Rattle.layouts.specs.Layout.{Attribute, Layout, layoutImage, GoodAttribute, GoodLayout}
-use Rattle.layouts.specs.Book.{Book, find, bookImage, learn}
-use Rattle.layouts.proofs.Growing.{learnt, learn-known, learn-new, grown}
+use Rattle.layouts.specs.Book.{Book, bookImage, learning, learn}
+use Rattle.layouts.specs.Answers.{Judges}
+use Rattle.layouts.specs.declared.Learning.{Learning}
+use Rattle.layouts.specs.declared.Learning.the-variants.{Known, New, Refused}
+use Rattle.layouts.proofs.Judging.{judges}
+use Rattle.layouts.proofs.Growing.{learnt, grown}
 use Rattle.elements.specs.Element.{layout}
 use Rattle.elements.specs.Document.{itemImage}
-use Rattle.writing.specs.declared.Turn.{Turn}
-use Rattle.writing.specs.declared.Turn.the-variants as wants
-use Rattle.writing.specs.declared.State.{State}
-use Rattle.writing.specs.Writer.{Call, openLayout, typeName, attributeCount, attributeName, attributeType, rule, fine, unless, Deed, put, attributes, does, addition, additionFor}
-use Rattle.writing.proofs.Bounds.{turn-count, open-head}
+use Rattle.writer.specs.declared.Wanted.{Wanted}
+use Rattle.writer.specs.declared.Wanted.the-variants as wants
+use Rattle.writer.specs.declared.State.{State}
+use Rattle.writer.specs.Writer.{Call, openLayout, typeName, attributeCount, attributeName, attributeType, rule, fine, unless, Deed, put, attributes, does, addition}
+use Rattle.writing_parts.specs.Answers.{refusal, added}
+use Rattle.writer.proofs.Bounds.{turn-count, open-head}
 use Rattle.promises_writing.specs.Promise.{attributeCalls, itemCalls, withLayout, Told, adds, opens}
 use Rattle.promises_writing.proofs.Standing.{Spot, spot, stateAt, behind, so-far, number-first, takes-learnt, complete-leaves}
 use Rattle.promises_writing.proofs.Writes.{learn-with}
@@ -54,19 +57,18 @@ record Learns (b : Book) (l : Layout) : Type 0 where
   next : Book
   learns : learn b l 0 ≡ ok next 0
 
+abbrev Takes : Layout → List ℕ → ℕ → Learning → Type 0
+Takes l new q x = (refusal x then λ _ _. ok (added x (layoutImage l)) 0) ≡ ok new q
+
 learns-of : (b : Book) (l : Layout) (new : List ℕ) (q : ℕ) → GoodLayout l → addition true b (length (bookImage b)) (layoutImage l) ≡ ok new q → Learns b l
-learns-of b l new q g e = go (find (l .number) b) refl (subst (λ (n : ℕ). additionFor b (length (bookImage b)) (layoutImage l) (find n b) ≡ ok new q) (number-first l g) e)
+learns-of b l new q g e =
+    go (learning b (length (bookImage b)) (l .number) (layoutImage l)) (judges b l 0)
+    (subst (λ (n : ℕ). Takes l new q (learning b (length (bookImage b)) n (layoutImage l))) (number-first l g) e)
   where
-    go : (o : Option Layout) → find (l .number) b ≡ o → additionFor b (length (bookImage b)) (layoutImage l) o ≡ ok new q → Learns b l
-    go (some m) f h =
-        after (unless (same (layoutImage m) (layoutImage l)) 10) _ h λ _ _ e₁ _.
-        let t = chosen (same (layoutImage m) (layoutImage l)) (λ _. fine) 10 0 e₁ .0 in
-        record { next = b; learns = learn-known b l 0 m f (same-true (layoutImage m) (layoutImage l) t) }
-    go none f h =
-        after (unless (ltb (length b) mostLayouts && leb (length (bookImage b) + length (layoutImage l)) bookRoom) 11) _ h λ _ _ e₁ _.
-        let t = chosen (ltb (length b) mostLayouts && leb (length (bookImage b) + length (layoutImage l)) bookRoom) (λ _. fine) 11 0 e₁ .0 in
-        let (u, v) = both-true (ltb (length b) mostLayouts) (leb (length (bookImage b) + length (layoutImage l)) bookRoom) t in
-        record { next = b ++ l ∷ []; learns = learn-new b l 0 f (ltb-true _ _ u) (leb-true _ _ v) }
+    go : (x : Learning) → Judges (length (bookImage b)) b l 0 x → Takes l new q x → Learns b l
+    go Known w h = record { next = b; learns = w }
+    go (New v) w h = record { next = b ++ l ∷ []; learns = w .0 }
+    go (Refused n) w h = absurd (no-ok refl h)
 
 -- A call that makes the open layout whole.
 record Completes (c : Call) (x : Spot) (done : List ℕ) (told : Told) : Type 0 where
@@ -77,10 +79,10 @@ record Completes (c : Call) (x : Spot) (done : List ℕ) (told : Told) : Type 0 
 
 module _ {buffer lent : List ℕ} {told : Told} (now : Stand buffer lent told) where
   -- Octets of the open layout with so many attributes behind them.
-  abbrev part : Turn → Read (Unit {0}) → Call → ℕ → Deed
+  abbrev part : Wanted → Read (Unit {0}) → Call → ℕ → Deed
   part t fault c left = attributes (stateAt (now .done) (now .at)) t fault (octetsOf c) left
 
-  complete-keeps : (c : Call) (t : Turn) (fault : Read (Unit {0})) (new : List ℕ) → PassesHere now (part t fault c 0) new
+  complete-keeps : (c : Call) (t : Wanted) (fault : Read (Unit {0})) (new : List ℕ) → PassesHere now (part t fault c 0) new
       → Completes c (now .at) (now .done) told → now .at .start + 8 ≤ length (now .done)
       → Inv buffer lent (adds told c) (leftHere now (part t fault c 0) new)
   complete-keeps c t fault new p i head =
@@ -105,7 +107,7 @@ module _ {buffer lent : List ℕ} {told : Told} (now : Stand buffer lent told) w
       record { stand = stand; is = complete-leaves lent (now .done) (rest now) x t fault xs new l next takes (ok-value taken (takes .takes)) ∙ is }
 
   -- A call whose octets have so many attributes behind them: it puts its octets, or completes the layout.
-  attributes-keep : (c : Call) (t : Turn) (fault : Read (Unit {0})) (left : ℕ) (new : List ℕ) → rule t .head ≡ 8
+  attributes-keep : (c : Call) (t : Wanted) (fault : Read (Unit {0})) (left : ℕ) (new : List ℕ) → rule t .head ≡ 8
       → PassesHere now (part t fault c left) new
       → (Shape t (now .at) (now .done) told → rule t .least ≤ now .at .count → (left ≡ 0 → ⊥)
       → Shape wants.AttributeName (spot (now .at .book) wants.AttributeName left (now .at .start) (now .at .rows)) (now .done ++ octetsOf c) (adds told c))
@@ -145,7 +147,7 @@ module _ {buffer lent : List ℕ} {told : Told} (now : Stand buffer lent told) w
   pub keep-name : (xs : List ℕ) → Each Octet xs → Keeps now (typeName xs)
   unfolding does
   keep-name xs o new p =
-      put-keeps now (adds told (typeName xs)) wants.TypeName wants.AttributeCount fine (textImage xs) 0 (now .at .start) p λ i _ small.
+      put-keeps now (adds told (typeName xs)) wants.TypeName wants.AttributeCount fine (ledImage xs) 0 (now .at .start) p λ i _ small.
       record {
         opened = longer (typeName xs) wants.AttributeCount 0 (i .opened);
         l = record { number = i .l .number; type-name = xs; attributes = [] };
@@ -183,7 +185,7 @@ module _ {buffer lent : List ℕ} {told : Told} (now : Stand buffer lent told) w
   pub keep-attribute : (xs : List ℕ) → Each Octet xs → Keeps now (attributeName xs)
   unfolding does
   keep-attribute xs o new p =
-      put-keeps now (adds told (attributeName xs)) wants.AttributeName wants.AttributeType fine (textImage xs) (now .at .count) (now .at .start) p λ i _ small.
+      put-keeps now (adds told (attributeName xs)) wants.AttributeName wants.AttributeType fine (ledImage xs) (now .at .count) (now .at .start) p λ i _ small.
       record {
         opened = longer (attributeName xs) wants.AttributeType (now .at .count) (i .opened);
         l = i .l;

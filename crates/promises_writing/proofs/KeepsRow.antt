@@ -18,17 +18,18 @@ use Rattle.octets.proofs.Ends.{chosen-ok}
 use Rattle.kinds.specs.declared.Basic.{Basic}
 use Rattle.kinds.specs.declared.Form.{Form}
 use Rattle.kinds.specs.declared.Form.the-variants as form
-use Rattle.kinds.specs.Kinds.{codeOf, formOf}
+use Rattle.kinds.specs.Kinds.{codeOf, formBy, formOf}
 use Rattle.kinds.proofs.Table.{code-once}
 use Rattle.layouts.specs.Layout.{Attribute, Layout}
 use Rattle.layouts.specs.Book.{find}
-use Rattle.rows.specs.Row.{Value, bits, held, Field, valueImage, fieldImage, lengthImage, GoodValue, FieldsOf}
+use Rattle.rows.specs.Row.{Field, fieldImage, lengthImage, FieldsOf}
+use Rattle.kinds.specs.Forms.{Value, bits, held, valueImage, GoodValue}
 use Rattle.headers.specs.Header.{headerImage}
 use Rattle.elements.specs.Element.{row}
 use Rattle.elements.specs.Document.{Document, itemImage, image}
-use Rattle.writing.specs.declared.Turn.{Turn}
-use Rattle.writing.specs.declared.Turn.the-variants as wants
-use Rattle.writing.specs.Writer.{Call, openRow, value, closeRow, giveUp, finish, isOpen, fine, unless, known, rowLayout, suits, isNext, does}
+use Rattle.writer.specs.declared.Wanted.{Wanted}
+use Rattle.writer.specs.declared.Wanted.the-variants as wants
+use Rattle.writer.specs.Writer.{Call, openRow, value, closeRow, giveUp, finish, isOpen, fine, unless, inBook, rowLayout, suits, isNext, does}
 use Rattle.promises_writing.specs.Promise.{each, fieldCalls, itemCalls, headerCalls, callsOf, GivenValue, Told, adds, opens, tell}
 use Rattle.promises_writing.proofs.Standing.{Spot, spot, stateAt, standing, behind, row-layout, close-leaves, give-up-leaves}
 use Rattle.promises_writing.proofs.Writes.{image-parts}
@@ -38,9 +39,9 @@ use Rattle.promises_writing.proofs.KeepsHeader.{is-text, Keeps}
 use Rattle.promises_writing.proofs.Items.{next-item, same-between, opening, longer, one-more}
 
 -- A layout that is looked up without fault is there.
-known-is : (o : Option Layout) → isOk (known o then λ _ _. fine) ≡ true → (l : Layout) × (o ≡ some l)
-known-is (some l) e = (l, refl)
-known-is none e = absurd (let z : _≡_ {A = ℕ} 0 1 = cc in omega arith)
+in-book : (o : Option Layout) → isOk (inBook o then λ _ _. fine) ≡ true → (l : Layout) × (o ≡ some l)
+in-book (some l) e = (l, refl)
+in-book none e = absurd (let z : _≡_ {A = ℕ} 0 1 = cc in omega arith)
 
 -- A value that is taken is the next field's.
 record Next (attributes : List Attribute) (b : Basic) (v : Value) : Type 0 where
@@ -48,12 +49,12 @@ record Next (attributes : List Attribute) (b : Basic) (v : Value) : Type 0 where
   others : List Attribute
   is : attributes ≡ a ∷ others
   basic : a .kind .basic ≡ b
-  suited : suits (formOf b) v ≡ true
+  suited : suits (formBy b) v ≡ true
 
 next-is : (attributes : List Attribute) (b : Basic) (v : Value) → isNext attributes b v ≡ true → Next attributes b v
 next-is [] b v e = absurd (let z : _≡_ {A = ℕ} 0 1 = cc in omega arith)
 next-is (a ∷ others) b v e =
-    let (t, u) = both-true (eqb (codeOf (a .kind .basic)) (codeOf b)) (suits (formOf b) v) e in
+    let (t, u) = both-true (eqb (codeOf (a .kind .basic)) (codeOf b)) (suits (formBy b) v) e in
     record { a = a; others = others; is = refl; basic = code-once (a .kind .basic) b (eqb-true _ _ t); suited = u }
 
 suits-good : (f : Form) (v : Value) → suits f v ≡ true → GivenValue v → length (valueImage f v) ≤ longest → GoodValue f v
@@ -61,13 +62,11 @@ suits-good (form.Fixed w) (bits n) e g h = ltb-true n (256 ^ w) e
 suits-good (form.Fixed w) (held xs) e g h = absurd (let z : _≡_ {A = ℕ} 0 1 = cc in omega arith)
 suits-good form.Truth (bits n) e g h = leb-true n 1 e
 suits-good form.Truth (held xs) e g h = absurd (let z : _≡_ {A = ℕ} 0 1 = cc in omega arith)
-suits-good form.Octets (bits n) e g h = absurd (let z : _≡_ {A = ℕ} 0 1 = cc in omega arith)
-suits-good form.Octets (held xs) e g h = is-text xs g h
-suits-good form.Text (bits n) e g h = absurd (let z : _≡_ {A = ℕ} 0 1 = cc in omega arith)
-suits-good form.Text (held xs) e g h = is-text xs g h
+suits-good form.Led (bits n) e g h = absurd (let z : _≡_ {A = ℕ} 0 1 = cc in omega arith)
+suits-good form.Led (held xs) e g h = is-text xs g h
 
 fields-snoc : (attributes : List Attribute) (fs : List Field) (a : Attribute) (f : Field) → FieldsOf attributes fs → f .attribute ≡ a
-    → GoodValue (formOf (a .kind .basic)) (f .value) → FieldsOf (attributes ++ a ∷ []) (fs ++ f ∷ [])
+    → GoodValue (formOf (a .kind)) (f .value) → FieldsOf (attributes ++ a ∷ []) (fs ++ f ∷ [])
 fields-snoc [] [] a f g e h = (e, h, tt)
 fields-snoc [] (x ∷ fs) a f g e h = absurd g
 fields-snoc (y ∷ others) [] a f g e h = absurd g
@@ -79,7 +78,7 @@ row-form : {x : Spot} {done : List ℕ} {told : Told} (i : InRow x done told)
 row-form i = i .opened .is ∙ ap (λ (z : List ℕ). i .opened .before ++ z) (ap (images octetsOf) (i .said) ∙ row-octets (i .r))
 
 -- What is open at a turn.
-opened-at : (t : Turn) {x : Spot} {done : List ℕ} (told : Told) → Shape t x done told → isOpen t ≡ true → Opened x done told
+opened-at : (t : Wanted) {x : Spot} {done : List ℕ} (told : Told) → Shape t x done told → isOpen t ≡ true → Opened x done told
 opened-at wants.Recorder told i e = absurd (let z : _≡_ {A = ℕ} 0 1 = cc in omega arith)
 opened-at wants.StartTime told i e = absurd (let z : _≡_ {A = ℕ} 0 1 = cc in omega arith)
 opened-at wants.DefaultNamespace told i e = absurd (let z : _≡_ {A = ℕ} 0 1 = cc in omega arith)
@@ -106,8 +105,8 @@ module _ {buffer lent : List ℕ} {told : Told} (now : Stand buffer lent told) w
   pub keep-row : (n : ℕ) (stated : _) → n < 2 ^ 32 → Keeps now (openRow n stated)
   unfolding does
   keep-row n stated small new p =
-      let found = known-is (find n (now .at .book)) (p .faultless) in
-      put-keeps now (opens told (openRow n stated)) wants.Element wants.Value (known (find n (now .at .book)) then λ _ _. fine) (octetsOf (openRow n stated)) 0 (length (now .done)) p λ i _ _.
+      let found = in-book (find n (now .at .book)) (p .faultless) in
+      put-keeps now (opens told (openRow n stated)) wants.Element wants.Value (inBook (find n (now .at .book)) then λ _ _. fine) (octetsOf (openRow n stated)) 0 (length (now .done)) p λ i _ _.
       record {
         opened = opening (now .at) (now .done) told (openRow n stated) wants.Value i;
         r = record { number = n; is-stated = stated; fields = [] };
@@ -120,14 +119,14 @@ module _ {buffer lent : List ℕ} {told : Told} (now : Stand buffer lent told) w
       }
 
   -- A value of the next field, behind those given.
-  valued : (b : Basic) (v : Value) → GivenValue v → length (valueImage (formOf b) v) ≤ longest → (i : Shape wants.Value (now .at) (now .done) told)
+  valued : (b : Basic) (v : Value) → GivenValue v → length (valueImage (formBy b) v) ≤ longest → (i : Shape wants.Value (now .at) (now .done) told)
       → Next (drop (now .at .count) (i .l .attributes)) b v
       → Shape wants.Value (spot (now .at .book) wants.Value (now .at .count + 1) (now .at .start) (now .at .rows)) (now .done ++ octetsOf (value b v)) (adds told (value b v))
   valued b v g small i next =
       let k : ℕ = now .at .count in
       let attributes : List Attribute = i .l .attributes in
       let f : Field = record { attribute = next .a; value = v } in
-      let good : GoodValue (formOf (next .a .kind .basic)) v = rw (next .basic) (suits-good (formOf b) v (next .suited) g small) in
+      let good : GoodValue (formOf (next .a .kind)) v = rw (next .basic) (suits-good (formBy b) v (next .suited) g small) in
       let taken : take (k + 1) attributes ≡ take k attributes ++ next .a ∷ [] = take-add k 1 attributes ∙ ap (λ (z : List Attribute). take k attributes ++ take 1 z) (next .is) in
       record {
         opened = longer (value b v) wants.Value (k + 1) (i .opened);
@@ -148,7 +147,7 @@ module _ {buffer lent : List ℕ} {told : Told} (now : Stand buffer lent told) w
       let fault : Read (Unit {0}) =
       rowLayout (stateAt (now .done) (now .at)) (now .done ++ rest now) (now .at .book) then λ l _. unless (isNext (drop (now .at .count) (l .attributes)) b v) 21 in
       let faultless : isOk fault ≡ true = p .faultless in
-      put-keeps now (adds told (value b v)) wants.Value wants.Value fault (valueImage (formOf b) v) (now .at .count + 1) (now .at .start) p λ i _ small.
+      put-keeps now (adds told (value b v)) wants.Value wants.Value fault (valueImage (formBy b) v) (now .at .count + 1) (now .at .start) p λ i _ small.
       let next = next-is (drop (now .at .count) (i .l .attributes)) b v (chosen-ok (isNext (drop (now .at .count) (i .l .attributes)) b v) (λ _. fine) 21 0 (rw (row-here i) at faultless)) in
       valued b v g small i next
 

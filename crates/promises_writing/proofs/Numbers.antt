@@ -5,27 +5,27 @@ use mathlib.Core.List.{List, [], _∷_, _++_}
 use mathlib.Core.Bool.{true, false}
 use lib.IntN.{negsuc}
 use lib.ListN.{replicate, set}
-use Rattle.octets.specs.Reading.{be, part, numberIn, octetsIn, textIn, count, run}
-use Rattle.octets.specs.Writing.{word, textImage, images, over}
+use Rattle.octets.specs.Reading.{be, part, numberIn, ledIn, count, run}
+use Rattle.octets.specs.Writing.{word, ledImage, images, over}
 use Rattle.kinds.specs.declared.Basic.the-variants as b
 use Rattle.kinds.specs.declared.Value.the-variants as value
 use Rattle.kinds.specs.Values.{basicOfValue}
 use Rattle.kinds.specs.Kinds.{among, basicOf, unsigned, kindAt}
 use Rattle.layouts.specs.Layout.{attributeAt, layoutAt, attributeImage, layoutImage}
 use Rattle.layouts.specs.Book.{find, layoutsAt, bookOf, bookIn}
-use Rattle.rows.specs.Row.{bits, held}
+use Rattle.kinds.specs.Forms.{bits, held}
 use Rattle.promises.specs.Specimen.{specimen, layoutBook, emptyBook}
 use Rattle.promises.specs.Refusals.{Only, refusalsOf}
 use Rattle.promises.proofs.Given.{layouts}
-use Rattle.writing.specs.declared.Turn.{Turn}
-use Rattle.writing.specs.declared.Turn.the-variants as wants
-use Rattle.writing.specs.Writer.{Call, fine, room, bounded, rowLayout, does, layoutSoFar, early, tried, answered, call}
-use Rattle.writing.specs.Writer as writer
+use Rattle.writer.specs.declared.Wanted.{Wanted}
+use Rattle.writer.specs.declared.Wanted.the-variants as wants
+use Rattle.writer.specs.Writer.{Call, fine, room, bounded, rowLayout, does, layoutSoFar, early, tried, deedAnswer, call}
+use Rattle.writer.specs.Writer as writer
 use Rattle.promises_writing.specs.Numbers.{Made, Opening, Typed, Handed, fieldNumbers, countNumbers, idNumbers, attributesNumbers, typeNumbers, rowNumbers, valueNumbers, closeNumbers, giveUpNumbers, Numbers}
 use Rattle.promises_writing.proofs.Only.{plain-only, namespaces-only, services-only, id-only, attributes-only, type-only, open-row-only, value-only, close-only, give-up-only}
 
 -- A call at a turn over a full buffer, whose twelve octets open an element of number 7, over a book of which so much is used.
-abbrev over-book : {A : Type 0} → List ℕ → ℕ → Turn → A → Made A
+abbrev over-book : {A : Type 0} → List ℕ → ℕ → Wanted → A → Made A
 over-book book used turn a =
     record {
       state = record { place = 12; turn = turn; count = 1; start = 0; rows = 0 };
@@ -36,13 +36,13 @@ over-book book used turn a =
     }
 
 -- Over an empty book, over that of the specimen's layout, and over one with 64 layouts.
-abbrev bare : {A : Type 0} → Turn → A → Made A
+abbrev bare : {A : Type 0} → Wanted → A → Made A
 bare turn a = over-book emptyBook 0 turn a
 
-abbrev booked : {A : Type 0} → Turn → A → Made A
+abbrev booked : {A : Type 0} → Wanted → A → Made A
 booked turn a = over-book layoutBook 31 turn a
 
-abbrev many : {A : Type 0} → Turn → A → Made A
+abbrev many : {A : Type 0} → Wanted → A → Made A
 many turn a = over-book (layouts [] 64 ++ emptyBook) 768 turn a
 
 -- Every call is refused by 17 without a book, and by 20 after the finish.
@@ -50,7 +50,7 @@ abbrev anyhow : {A : Type 0} → A → List (Made A) → List (Made A)
 anyhow a rest = over-book [] 0 wants.Nothing a ∷ bare wants.Nothing a ∷ rest
 
 -- A call that is refused at its turn for want of room alone.
-abbrev fieldInputs : {A : Type 0} → Turn → A → List (Made A)
+abbrev fieldInputs : {A : Type 0} → Wanted → A → List (Made A)
 fieldInputs turn a = anyhow a (bare turn a ∷ [])
 
 abbrev refusals : {A : Type 0} → (A → Call) → List (Made A) → List ℕ
@@ -89,7 +89,7 @@ closeInputs = anyhow tt (bare wants.Value tt ∷ booked wants.Value tt ∷ [])
 idInputs : List (Made (List ℕ))
 idInputs = anyhow [] (bare wants.DocumentId [] ∷ bare wants.DocumentId (replicate 16 0) ∷ [])
 
-abbrev countInputs : Turn → List (Made ℕ)
+abbrev countInputs : Wanted → List (Made ℕ)
 countInputs turn = anyhow 0 (bare turn 17 ∷ bare turn 0 ∷ [])
 
 -- All that are given, call by call.
@@ -104,18 +104,18 @@ fields-each :
     × (refusals writer.typeName (fieldInputs wants.TypeName []) ≡ fieldNumbers)
     × (refusals writer.attributeName (fieldInputs wants.AttributeName []) ≡ fieldNumbers)
     × (refusals writer.finish (fieldInputs wants.Element 0) ≡ fieldNumbers)
-unfolding emptyBook textIn numberIn octetsIn be part word textImage layoutsAt bookOf bookIn room bounded does layoutSoFar early tried answered call
+unfolding emptyBook numberIn ledIn be part word ledImage layoutsAt bookOf bookIn room bounded does layoutSoFar early tried deedAnswer call
 fields-each = (refl, refl, refl, refl, refl, refl, refl, refl, refl, refl)
 
 counts-each :
     (refusals writer.namespaceCount (countInputs wants.NamespaceCount) ≡ countNumbers)
     × (refusals writer.serviceCount (countInputs wants.ServiceCount) ≡ countNumbers)
     × (refusals writer.documentId idInputs ≡ idNumbers)
-unfolding idInputs emptyBook be part word layoutsAt bookOf bookIn room bounded does layoutSoFar early tried answered call
+unfolding idInputs emptyBook be part word layoutsAt bookOf bookIn room bounded does layoutSoFar early tried deedAnswer call
 counts-each = (refl, refl, refl)
 
 layouts-each : (refusals writer.attributeCount attributesInputs ≡ attributesNumbers) × (refusals writer.attributeType typeInputs ≡ typeNumbers)
-unfolding attributesInputs typeInputs specimen layoutBook emptyBook be part numberIn octetsIn textIn count run word textImage images over among basicOf kindAt attributeAt layoutAt attributeImage layoutImage find layoutsAt bookOf bookIn room bounded does layoutSoFar early tried answered call
+unfolding attributesInputs typeInputs specimen layoutBook emptyBook be part numberIn ledIn count run word ledImage images over among basicOf kindAt attributeAt layoutAt attributeImage layoutImage find layoutsAt bookOf bookIn room bounded does layoutSoFar early tried deedAnswer call
 layouts-each = (refl, refl)
 
 rows-each :
@@ -125,7 +125,7 @@ rows-each :
     × (refusals (λ (a : Handed). writer.valueCall (a .value) (a .octets)) handedInputs ≡ valueNumbers)
     × (refusals (λ (a : Unit {0}). writer.closeRow) closeInputs ≡ closeNumbers)
     × (refusals (λ (a : Unit {0}). writer.giveUp) (anyhow tt []) ≡ giveUpNumbers)
-unfolding rowInputs closeInputs specimen layoutBook emptyBook be part numberIn octetsIn textIn count run word textImage images over among basicOf kindAt unsigned attributeAt layoutAt find layoutsAt bookOf bookIn room bounded rowLayout does layoutSoFar early tried answered call
+unfolding rowInputs closeInputs specimen layoutBook emptyBook be part numberIn ledIn count run word ledImage images over among basicOf kindAt unsigned attributeAt layoutAt find layoutsAt bookOf bookIn room bounded rowLayout does layoutSoFar early tried deedAnswer call
 rows-each = (refl, refl, refl, refl, refl, refl)
 
 -- A field with nothing of its own to refuse.

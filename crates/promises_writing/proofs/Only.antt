@@ -1,38 +1,43 @@
 -- A call gives no refusal number but those listed for it: 17, 20, those of its own fault, 10 and 11 where it may complete a layout, and 23 where it puts octets behind the place. Assumes nothing.
 use Prim.Native.Nat.{ℕ, _+_, _-_, _^_, _%_, _≤_}
-use mathlib.Core.Path.{_≡_, refl}
+use mathlib.Core.Path.{_≡_, refl, sym, subst}
 use mathlib.Core.List.{List, []}
 use mathlib.Core.Bool.{Bool, true, false, _&&_}
 use mathlib.Core.Option.{Option, some, none}
+use mathlib.Core.Logic.{_⊎_, inl, inr}
 use native.Mathlib.Omega.{arith}
 use lib.ListN.{length, drop, length-replicate}
 use lib.Dec.{leb, ltb, eqb}
 use borrow.Author.Tests.{le-leb}
-use Rattle.octets.specs.Limits.{bookRoom, mostLayouts, mostAttributes, mostListed}
-use Rattle.octets.specs.Reading.{Read, ok, no, be, same}
+use Rattle.octets.specs.Limits.{mostAttributes, mostListed}
+use Rattle.octets.specs.Reading.{Read, ok, no, be}
 use Rattle.octets.proofs.Inverse.{after, chosen}
 use Rattle.octets.proofs.Copies.{both-true}
 use Rattle.kinds.specs.declared.Basic.{Basic}
 use Rattle.kinds.specs.Kinds.{basicOf, kindOf}
 use Rattle.kinds.specs.Kinds as kinds
-use Rattle.layouts.specs.Layout.{Layout, layoutImage}
+use Rattle.layouts.specs.Layout.{Layout}
 use Rattle.layouts.specs.Book.{find, bookOf, bookIn}
-use Rattle.rows.specs.Row.{Value}
+use Rattle.layouts.specs.declared.Learning.{Learning}
+use Rattle.layouts.specs.declared.Learning.the-variants.{Known, New, Refused}
+use Rattle.layouts.proofs.Judging.{Learned, learned}
+use Rattle.writing_parts.specs.Answers.{learningOf, refusal}
+use Rattle.kinds.specs.Forms.{Value}
 use Rattle.promises.specs.Refusals.{Only}
 use Rattle.promises.proofs.Numbers.{taken, given, In, only-with, only-then, only-choose, book-17}
-use Rattle.writing.specs.declared.Turn.the-variants as wants
-use Rattle.writing.specs.declared.State.{State}
-use Rattle.writing.specs.Writer.{Call, namespaceCount, serviceCount, documentId, attributeCount, attributeType, openRow, value, closeRow, giveUp, room, bounded, fine, unless, Deed, known, rowLayout, isNext, does, additionFor, addition, layoutSoFar, early, tried, placed, answered, call}
-use Rattle.writing.proofs.Bounds.{Bounds, bounds, open-head}
-use Rattle.writing.proofs.Values.{length-size}
+use Rattle.writer.specs.declared.Wanted.the-variants as wants
+use Rattle.writer.specs.declared.State.{State}
+use Rattle.writer.specs.Writer.{Call, namespaceCount, serviceCount, documentId, attributeCount, attributeType, openRow, value, closeRow, giveUp, room, bounded, fine, unless, Deed, inBook, rowLayout, isNext, does, addition, layoutSoFar, early, tried, placed, deedAnswer, call}
+use Rattle.writer.proofs.Bounds.{Bounds, bounds, open-head}
+use Rattle.writer.proofs.Tests.{length-size}
 
 module _ {ns : List ℕ} where
   unless-only : (t : Bool) (n : ℕ) → In ns n → Only ns (unless t n)
   unless-only t n h = only-choose t _ _ (taken tt 0) (given n 0 h)
 
-  known-only : In ns 12 → (o : Option Layout) → Only ns (known o)
-  known-only h (some l) = taken l 0
-  known-only h none = given 12 0 h
+  in-book-only : In ns 12 → (o : Option Layout) → Only ns (inBook o)
+  in-book-only h (some l) = taken l 0
+  in-book-only h none = given 12 0 h
 
   kind-only : In ns 9 → In ns 8 → (t : ℕ) → Only ns (kindOf 0 t 0)
   kind-only nine eight t = only-choose (leb (2 ^ 31) t) _ _ (given 9 0 nine) (only-choose (ltb t 0x10000) _ _ (go (basicOf (t % 256))) (given 8 0 eight))
@@ -58,8 +63,8 @@ module _ (s : State) (buffer lent : List ℕ) (used : ℕ) where
 
   module _ {ns : List ℕ} (no-book : In ns 17) (no-turn : In ns 20) where
     -- A deed by its tests in their order.
-    deed-only : (d : Deed) → Only ns (d .fault) → Only ns (takes d) → (Bounds s (length buffer) → d .in-turn ≡ true → Only ns (unless (fits d) 23)) → Only ns (answered s buffer lent used d)
-    unfolding answered early tried
+    deed-only : (d : Deed) → Only ns (d .fault) → Only ns (takes d) → (Bounds s (length buffer) → d .in-turn ≡ true → Only ns (unless (fits d) 23)) → Only ns (deedAnswer s buffer lent used d)
+    unfolding deedAnswer early tried
     deed-only d own new room-for =
         placed-only (s .place) _
         (only-with (early s (length buffer) lent used (d .in-turn)) _
@@ -79,20 +84,22 @@ module _ (s : State) (buffer lent : List ℕ) (used : ℕ) where
     unfolding call
     layout-only full ten eleven c own = deed-only (deed c) own (go (deed c .completes) (layoutSoFar s buffer (deed c .octets))) (λ _ _. unless-only (fits (deed c)) 23 full)
       where
-        found : (xs : List ℕ) (o : Option Layout) → Only ns (additionFor (bookIn lent used) used xs o)
-        found xs (some m) = only-then (unless (same (layoutImage m) xs) 10) _ (unless-only (same (layoutImage m) xs) 10 ten) λ _ _. taken [] 0
-        found xs none =
-            only-then (unless (ltb (length (bookIn lent used)) mostLayouts && leb (used + length xs) bookRoom) 11) _
-            (unless-only (ltb (length (bookIn lent used)) mostLayouts && leb (used + length xs) bookRoom) 11 eleven) λ _ _. taken xs 0
+        made : (xs : List ℕ) (x : Learning) → Learned (bookIn lent used) used (be 4 xs 0) xs x → Only ns (refusal x)
+        made xs Known w = taken tt 0
+        made xs (New v) w = taken tt 0
+        made xs (Refused n) (inl e) = given n 0 (subst (In ns) (sym e) ten)
+        made xs (Refused n) (inr e) = given n 0 (subst (In ns) (sym e) eleven)
 
         go : (t : Bool) (xs : List ℕ) → Only ns (addition t (bookIn lent used) used xs)
         go false xs = taken [] 0
-        go true xs = found xs (find (be 4 xs 0) (bookIn lent used))
+        go true xs =
+            only-then (refusal (learningOf (bookIn lent used) used xs)) _
+            (made xs (learningOf (bookIn lent used) used xs) (learned (bookIn lent used) used (be 4 xs 0) xs)) λ _ _. taken _ 0
 
     -- The open row's layout.
     row-only : In ns 12 → Only ns (rowLayout s buffer (bookIn lent used))
     unfolding rowLayout
-    row-only h = known-only h (find (be 4 buffer (s .start + 4)) (bookIn lent used))
+    row-only h = in-book-only h (find (be 4 buffer (s .start + 4)) (bookIn lent used))
 
     -- A field with nothing of its own to refuse.
     pub plain-only : In ns 23 → (c : Call) → deed c .fault ≡ fine → deed c .completes ≡ false → Only ns (call s buffer lent used c)
@@ -122,7 +129,7 @@ module _ (s : State) (buffer lent : List ℕ) (used : ℕ) where
       pub open-row-only : In ns 12 → (n : ℕ) (stated : Bool) → Only ns (call s buffer lent used (openRow n stated))
       unfolding does
       open-row-only twelve n stated =
-          field-only full (openRow n stated) (only-then (known (find n (bookIn lent used))) _ (known-only twelve (find n (bookIn lent used))) λ _ _. taken tt 0) refl
+          field-only full (openRow n stated) (only-then (inBook (find n (bookIn lent used))) _ (in-book-only twelve (find n (bookIn lent used))) λ _ _. taken tt 0) refl
 
       pub value-only : In ns 12 → In ns 21 → (b : Basic) (v : Value) → Only ns (call s buffer lent used (value b v))
       unfolding does

@@ -3,12 +3,12 @@
 use Prim.Native.Nat.{ℕ}
 use mathlib.Core.Path.{_≡_, refl, sym, ap, _∙_}
 use mathlib.Core.List.{List, [], _∷_, _++_, append-assoc, append-nil}
-use Rattle.octets.specs.Writing.{word, textImage, images}
+use Rattle.octets.specs.Writing.{word, ledImage, images}
 use Rattle.layouts.specs.Layout.{Layout, attributeImage, layoutImage}
 use Rattle.rows.specs.Row.{Row, fieldImage, lengthImage}
 use Rattle.headers.specs.Header.{Header, namespaceImage, headerImage}
 use Rattle.elements.specs.Element.{layout}
-use Rattle.writing.specs.Writer.{Call, openRow, fresh, does}
+use Rattle.writer.specs.Writer.{Call, openRow, fresh, does}
 use Rattle.promises_writing.specs.Promise.{each, namespaceCalls, serviceCalls, attributeCalls, fieldCalls, itemCalls, headerCalls}
 
 -- The octets that a call puts, where they do not depend on the state.
@@ -42,7 +42,7 @@ header-octets h =
     simp (
       images-join octetsOf,
       images-each namespaceCalls namespaceImage (λ n. simp append-nil),
-      images-each serviceCalls textImage (λ xs. simp append-nil),
+      images-each serviceCalls ledImage (λ xs. simp append-nil),
       append-assoc,
       append-nil,
     )

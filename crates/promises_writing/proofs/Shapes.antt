@@ -11,17 +11,17 @@ use lib.Dec.{eqb}
 use borrow.Author.Tests.{eqb-true, eqb-false}
 use Rattle.octets.specs.Limits.{longest}
 use Rattle.octets.specs.Reading.{Read, choose}
-use Rattle.octets.specs.Writing.{images, Text}
+use Rattle.octets.specs.Writing.{images, GoodLed}
 use Rattle.layouts.specs.Layout.{Layout, GoodLayout}
 use Rattle.layouts.specs.Book.{Book, find, bookImage, GoodBook}
 use Rattle.rows.specs.Row.{Row, FieldsOf}
 use Rattle.headers.specs.Header.{Header, headerImage, GoodHeader}
 use Rattle.elements.specs.Element.{Item}
 use Rattle.elements.specs.Document.{Document, itemImage, rowCount, image, GoodItems, Good}
-use Rattle.writing.specs.declared.Turn.{Turn}
-use Rattle.writing.specs.declared.Turn.the-variants as wants
-use Rattle.writing.specs.Writer.{Call, recorder, startTime, defaultNamespace, namespaceCount, uri, serviceCount, openLayout, typeName, attributeCount, attributeName, openRow, Written, room, rule, sameTurn, turnAt, Deed, put}
-use Rattle.writing.proofs.Bounds.{same-turn, turn-count}
+use Rattle.writer.specs.declared.Wanted.{Wanted}
+use Rattle.writer.specs.declared.Wanted.the-variants as wants
+use Rattle.writer.specs.Writer.{Call, recorder, startTime, defaultNamespace, namespaceCount, uri, serviceCount, openLayout, typeName, attributeCount, attributeName, openRow, Written, room, rule, sameTurn, turnAt, Deed, put}
+use Rattle.writer.proofs.Bounds.{same-turn, turn-count}
 use Rattle.promises_writing.specs.Promise.{each, namespaceCalls, serviceCalls, attributeCalls, fieldCalls, itemCalls, headerCalls, callsOf, bookBehind, onto, Told}
 use Rattle.promises_writing.proofs.Calls.{Passes, leftBy}
 use Rattle.promises_writing.proofs.Standing.{Spot, spot, stateAt, standing, drop-on, put-leaves}
@@ -34,7 +34,7 @@ pub record InHeader (calls : Header → ℕ → List ℕ → List Call) (Counts 
   pub n : ℕ
   pub name : List ℕ
   pub good : GoodHeader h
-  pub text : Text name
+  pub text : GoodLed name
   pub counts : Counts h n
   pub said : told .latest ≡ calls h n name
   pub is : done ≡ images octetsOf (told .latest)
@@ -68,7 +68,7 @@ pub record InLayout (calls : Layout → ℕ → List ℕ → List Call) (Counts 
   pub n : ℕ
   pub name : List ℕ
   pub good : GoodLayout l
-  pub text : Text name
+  pub text : GoodLed name
   pub counts : Counts l n
   pub said : told .latest ≡ calls l n name
 
@@ -103,7 +103,7 @@ abbrev pub attributed : Layout → ℕ → List Call
 attributed l n = (openLayout (l .number) ∷ typeName (l .type-name) ∷ attributeCount n ∷ []) ++ each attributeCalls (l .attributes)
 
 -- What stands at each turn.
-abbrev pub Shape : Turn → Spot → List ℕ → Told → Type 0
+abbrev pub Shape : Wanted → Spot → List ℕ → Told → Type 0
 Shape wants.Recorder x = InHeader (λ h n name. []) (λ h n. Unit {0}) x
 Shape wants.StartTime x = InHeader (λ h n name. recorder (h .recorder) ∷ []) (λ h n. Unit {0}) x
 Shape wants.DefaultNamespace x = InHeader (λ h n name. recorder (h .recorder) ∷ startTime (h .start) ∷ []) (λ h n. Unit {0}) x
@@ -145,7 +145,7 @@ unfolding room
 room-small size = omega arith
 
 -- Where a list's turn leads.
-pub at-turn : (P : Turn → Type 0) (n : ℕ) (more behind : Turn) → ((n ≡ 0 → ⊥) → P more) → (n ≡ 0 → P behind) → P (turnAt n more behind)
+pub at-turn : (P : Wanted → Type 0) (n : ℕ) (more behind : Wanted) → ((n ≡ 0 → ⊥) → P more) → (n ≡ 0 → P behind) → P (turnAt n more behind)
 at-turn P n more behind f g = go (eqb n 0) refl
   where
     go : (t : Bool) → eqb n 0 ≡ t → P (choose t (λ _. behind) (λ _. more))
@@ -178,11 +178,11 @@ module _ {buffer lent : List ℕ} {told : Told} (now : Stand buffer lent told) w
       )
 
   -- What stands at the turn that a call has.
-  pub here : (t : Turn) → sameTurn (now .at .turn) t ≡ true → Shape t (now .at) (now .done) told
-  here t e = subst (λ (v : Turn). Shape v (now .at) (now .done) told) (same-turn (now .at .turn) t e) (now .shape)
+  pub here : (t : Wanted) → sameTurn (now .at .turn) t ≡ true → Shape t (now .at) (now .done) told
+  here t e = subst (λ (v : Wanted). Shape v (now .at) (now .done) told) (same-turn (now .at .turn) t e) (now .shape)
 
   -- A call that puts octets, by what stands at its turn.
-  pub put-keeps : (next : Told) (t u : Turn) (fault : Read (Unit {0})) (xs : List ℕ) (j i : ℕ) {new : List ℕ} → PassesHere (put (stateAt (now .done) (now .at)) t fault xs u j i) new
+  pub put-keeps : (next : Told) (t u : Wanted) (fault : Read (Unit {0})) (xs : List ℕ) (j i : ℕ) {new : List ℕ} → PassesHere (put (stateAt (now .done) (now .at)) t fault xs u j i) new
       → (Shape t (now .at) (now .done) told → rule t .least ≤ now .at .count → length xs ≤ longest
       → Shape u (spot (now .at .book) u j i (now .at .rows)) (now .done ++ xs) next)
       → Inv buffer lent next (leftHere (put (stateAt (now .done) (now .at)) t fault xs u j i) new)

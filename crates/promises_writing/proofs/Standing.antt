@@ -27,24 +27,24 @@ use Rattle.layouts.proofs.Growing.{Learnt}
 use Rattle.rows.specs.Row.{Row, fieldImage, lengthImage, rowImage}
 use Rattle.elements.specs.Element.{row}
 use Rattle.elements.specs.Document.{itemImage}
-use Rattle.writing.specs.declared.Turn.{Turn}
-use Rattle.writing.specs.declared.Turn.the-variants as wants
-use Rattle.writing.specs.declared.State.{State}
-use Rattle.writing.specs.Writer.{closeRow, giveUp, Written, put, attributes, rowLayout, does, addition, layoutSoFar}
-use Rattle.writing.proofs.Values.{length-size}
-use Rattle.fields.proofs.Over.{over-nil}
+use Rattle.writer.specs.declared.Wanted.{Wanted}
+use Rattle.writer.specs.declared.Wanted.the-variants as wants
+use Rattle.writer.specs.declared.State.{State}
+use Rattle.writer.specs.Writer.{closeRow, giveUp, Written, put, attributes, rowLayout, does, addition, layoutSoFar}
+use Rattle.writer.proofs.Tests.{length-size}
+use Rattle.writing_parts.proofs.Over.{over-nil}
 use Rattle.promises_writing.specs.Promise.{onto}
 use Rattle.promises_writing.proofs.Calls.{leftBy}
 
 -- The book that was learnt, and a state but for its place.
 pub record Spot : Type 0 where
   pub book : Book
-  pub turn : Turn
+  pub turn : Wanted
   pub count : ℕ
   pub start : ℕ
   pub rows : ℕ
 
-abbrev pub spot : Book → Turn → ℕ → ℕ → ℕ → Spot
+abbrev pub spot : Book → Wanted → ℕ → ℕ → ℕ → Spot
 spot book turn count start rows = record { book = book; turn = turn; count = count; start = start; rows = rows }
 
 abbrev pub stateAt : List ℕ → Spot → State
@@ -83,7 +83,7 @@ be-at : (w n at : ℕ) (pre post : List ℕ) → n < 256 ^ w → at ≡ length p
 be-at w n at pre post h e = rw e (be-word w n pre post h)
 
 -- Octets put behind those that stand; the book takes nothing.
-pub put-leaves : (lent done rest : List ℕ) (x : Spot) (t u : Turn) (fault : Read (Unit {0})) (xs : List ℕ) (j i : ℕ) {new : List ℕ} {q : ℕ}
+pub put-leaves : (lent done rest : List ℕ) (x : Spot) (t u : Wanted) (fault : Read (Unit {0})) (xs : List ℕ) (j i : ℕ) {new : List ℕ} {q : ℕ}
     → _≡_ {A = Read (List ℕ)} (ok [] 0) (ok new q)
     → leftBy (done ++ rest) (onto lent (bookImage (x .book))) (length (bookImage (x .book))) (put (stateAt done x) t fault xs u j i) new
     ≡ standing lent (done ++ xs) (drop (length xs) rest) (spot (x .book) u j i (x .rows))
@@ -136,7 +136,7 @@ takes-learnt lent b l next g (inr h) =
     }
 
 -- The last octets of a layout put; the book takes it.
-pub complete-leaves : (lent done rest : List ℕ) (x : Spot) (t : Turn) (fault : Read (Unit {0})) (xs new : List ℕ) (l : Layout) (next : Book) (takes : Takes lent (x .book) l next) → new ≡ takes .new
+pub complete-leaves : (lent done rest : List ℕ) (x : Spot) (t : Wanted) (fault : Read (Unit {0})) (xs new : List ℕ) (l : Layout) (next : Book) (takes : Takes lent (x .book) l next) → new ≡ takes .new
     → leftBy (done ++ rest) (onto lent (bookImage (x .book))) (length (bookImage (x .book))) (attributes (stateAt done x) t fault xs 0) new
     ≡ standing lent (done ++ xs) (drop (length xs) rest) (spot next wants.Element 0 0 (x .rows))
 complete-leaves lent done rest x t fault xs new l next takes e = rw (e, takes .book, takes .used, over-seam done rest xs, length-append done xs)

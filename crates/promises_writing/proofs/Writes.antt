@@ -10,7 +10,7 @@ use lib.ListN.{length, take, drop, length-append}
 use lib.Seq.{take-append-seam}
 use Rattle.octets.specs.Limits.{mostRows, bookRoom}
 use Rattle.octets.specs.Reading.{ok, choose}
-use Rattle.octets.specs.Writing.{word, images, Each, Text}
+use Rattle.octets.specs.Writing.{word, images, Each, GoodLed}
 use Rattle.octets.proofs.Spans.{each-join}
 use Rattle.kinds.specs.declared.Form.{Form}
 use Rattle.kinds.specs.declared.Form.the-variants as form
@@ -18,14 +18,15 @@ use Rattle.kinds.specs.Kinds.{formOf}
 use Rattle.layouts.specs.Layout.{Layout, Attribute, GoodAttribute}
 use Rattle.layouts.specs.Book.{Book, find, isNone, bookImage, learn, GoodBook}
 use Rattle.layouts.proofs.Growing.{Learnt, learnt, grown, good-nil}
-use Rattle.rows.specs.Row.{Value, bits, held, Field, GoodValue, FieldsOf}
+use Rattle.rows.specs.Row.{Field, FieldsOf}
+use Rattle.kinds.specs.Forms.{Value, bits, held, GoodValue}
 use Rattle.headers.specs.Header.{headerImage, GoodNamespace}
 use Rattle.elements.specs.Element.{Item, layout, row}
 use Rattle.elements.specs.Reading.{reading}
 use Rattle.elements.specs.Document.{Document, itemImage, rowCount, image, GoodItems, Good, readingOf}
 use Rattle.promises.proofs.Documents.{complete, few}
-use Rattle.writing.specs.declared.Turn.the-variants as wants
-use Rattle.writing.specs.Writer.{finish, room, fine, does, runCalls, Call, serviceCount, documentId}
+use Rattle.writer.specs.declared.Wanted.the-variants as wants
+use Rattle.writer.specs.Writer.{finish, room, fine, does, runCalls, Call, serviceCount, documentId}
 use Rattle.promises_writing.specs.Promise.{each, itemCalls, callsOf, withLayout, bookBehind, begun, finished, namespaceCalls, serviceCalls, headerCalls, attributeCalls, fieldCalls, GivenValue, Given}
 use Rattle.promises_writing.proofs.Standing.{spot}
 use Rattle.promises_writing.proofs.WritesHeader.{Puts, puts-none, puts-both, puts-as, put-one, header-put}
@@ -106,16 +107,14 @@ given-value (form.Fixed w) (bits n) g = tt
 given-value (form.Fixed w) (held xs) g = absurd g
 given-value form.Truth (bits n) g = tt
 given-value form.Truth (held xs) g = absurd g
-given-value form.Octets (bits n) g = tt
-given-value form.Octets (held xs) g = g .0
-given-value form.Text (bits n) g = tt
-given-value form.Text (held xs) g = g .0
+given-value form.Led (bits n) g = tt
+given-value form.Led (held xs) g = g .0
 
 given-fields : (attributes : List Attribute) (fs : List Field) → FieldsOf attributes fs → Each Given (each fieldCalls fs)
 given-fields [] [] g = tt
 given-fields [] (f ∷ fs) g = absurd g
 given-fields (a ∷ others) [] g = absurd g
-given-fields (a ∷ others) (f ∷ fs) g = (given-value (formOf (a .kind .basic)) (f .value) (g .1), given-fields others fs (g .2))
+given-fields (a ∷ others) (f ∷ fs) g = (given-value (formOf (a .kind)) (f .value) (g .1), given-fields others fs (g .2))
 
 given-items : (items : List Item) (b : Book) → GoodItems b items → Each Given (each itemCalls items)
 given-items [] b g = tt
@@ -131,7 +130,7 @@ unfolding callsOf headerCalls
 given d g =
     let h = d .header in
     let others = given-each GoodNamespace namespaceCalls (λ n k. (k .uri .0, (k .short .0, tt))) (h .others) (g .header .others) in
-    let services = given-each Text serviceCalls (λ xs k. (k .0, tt)) (h .services) (g .header .services) in
+    let services = given-each GoodLed serviceCalls (λ xs k. (k .0, tt)) (h .services) (g .header .services) in
     let last = each-join Given (each serviceCalls (h .services)) (documentId (h .id) ∷ []) services (g .header .id, tt) in
     let lists = each-join Given (each namespaceCalls (h .others)) (serviceCount (length (h .services)) ∷ (each serviceCalls (h .services) ++ documentId (h .id) ∷ [])) others (tt, last) in
     each-join Given (headerCalls h) (each itemCalls (d .items) ++ finish (d .end) ∷ []) (g .header .recorder .0, (g .header .start, (g .header .default .0, (tt, lists))))

@@ -10,14 +10,14 @@ use lib.Dec.{leb, eqb, eqb·suc-zero}
 use borrow.Author.Tests.{le-leb, eq-eqb}
 use Rattle.octets.specs.Limits.{mostRows, bookRoom}
 use Rattle.octets.specs.Reading.{Read, isOk}
-use Rattle.octets.specs.Writing.{word, textImage, images}
+use Rattle.octets.specs.Writing.{word, ledImage, images}
 use Rattle.layouts.specs.Book.{Book, bookImage, GoodBook}
 use Rattle.headers.specs.Header.{Namespace, Header, namespaceImage, headerImage, GoodHeader}
 use Rattle.elements.proofs.Behind.{holding-of}
-use Rattle.writing.specs.declared.Turn.{Turn}
-use Rattle.writing.specs.declared.Turn.the-variants as wants
-use Rattle.writing.specs.Writer.{Call, recorder, startTime, defaultNamespace, namespaceCount, uri, shortName, serviceCount, service, documentId, Written, room, rule, fine, unless, put, turnAt, does}
-use Rattle.writing.proofs.Bounds.{Bounds}
+use Rattle.writer.specs.declared.Wanted.{Wanted}
+use Rattle.writer.specs.declared.Wanted.the-variants as wants
+use Rattle.writer.specs.Writer.{Call, recorder, startTime, defaultNamespace, namespaceCount, uri, shortName, serviceCount, service, documentId, Written, room, rule, orderOf, fine, unless, put, turnAt, does}
+use Rattle.writer.proofs.Bounds.{Bounds}
 use Rattle.promises_writing.specs.Promise.{each, namespaceCalls, serviceCalls, headerCalls, onto}
 use Rattle.promises_writing.proofs.Calls.{Passes, accepted, Runs, runs-both, runs-none, runs-one}
 use Rattle.promises_writing.proofs.Standing.{Spot, spot, stateAt, standing, onto-length, drop-on, put-leaves}
@@ -68,7 +68,7 @@ ready-bounds buffer done x r h =
 
 module _ (buffer lent : List ℕ) (long : bookRoom ≤ length lent) where
   -- One call that puts octets and has no fault.
-  pub put-one : (c : Call) (done xs : List ℕ) (x : Spot) (u : Turn) (j i : ℕ) (fault : Read (Unit {0})) → GoodBook (x .book)
+  pub put-one : (c : Call) (done xs : List ℕ) (x : Spot) (u : Wanted) (j i : ℕ) (fault : Read (Unit {0})) → GoodBook (x .book)
       → does (stateAt done x) (onto buffer done) (x .book) c ≡ put (stateAt done x) (x .turn) fault xs u j i → isOk fault ≡ true → Ready x (length done)
       → Puts buffer lent (c ∷ []) xs done x (spot (x .book) u j i (x .rows))
   put-one c done xs x u j i fault good e f r =
@@ -78,7 +78,7 @@ module _ (buffer lent : List ℕ) (long : bookRoom ≤ length lent) where
             let p : Passes (stateAt done x) (onto buffer done) (length (bookImage (x .book))) (x .book) (put (stateAt done x) (x .turn) fault xs u j i) [] =
             record {
               inside = ready-bounds buffer done x r (omega arith);
-              in-turn = eq-eqb (rule (x .turn) .number) (rule (x .turn) .number) refl;
+              in-turn = eq-eqb (orderOf (x .turn)) (orderOf (x .turn)) refl;
               faultless = f;
               end = 0;
               takes = refl;
@@ -99,21 +99,21 @@ module _ (buffer lent : List ℕ) (long : bookRoom ≤ length lent) where
         rw (eqb·suc-zero (length ns))
         (puts-both {a = namespaceCalls n}
         (puts-both {a = uri (n .uri) ∷ []} {b = shortName (n .short) ∷ []}
-        (put-one (uri (n .uri)) done (textImage (n .uri)) (spot b wants.Uri (suc (length ns)) 0 0) wants.ShortName (suc (length ns)) 0 fine good refl refl (omega arith))
-        (put-one (shortName (n .short)) (done ++ textImage (n .uri)) (textImage (n .short)) (spot b wants.ShortName (suc (length ns)) 0 0)
+        (put-one (uri (n .uri)) done (ledImage (n .uri)) (spot b wants.Uri (suc (length ns)) 0 0) wants.ShortName (suc (length ns)) 0 fine good refl refl (omega arith))
+        (put-one (shortName (n .short)) (done ++ ledImage (n .uri)) (ledImage (n .short)) (spot b wants.ShortName (suc (length ns)) 0 0)
         (turnAt (length ns) wants.Uri wants.ServiceCount) (length ns) 0 fine good (rw less) refl (omega arith)))
-        (namespaces-put ns (done ++ (textImage (n .uri) ++ textImage (n .short))) (omega arith)))
+        (namespaces-put ns (done ++ (ledImage (n .uri) ++ ledImage (n .short))) (omega arith)))
 
     services-put : (ss : List (List ℕ)) (done : List ℕ) → length ss ≤ 16
-        → Puts buffer lent (each serviceCalls ss) (images textImage ss) done (spot b (turnAt (length ss) wants.Service wants.DocumentId) (length ss) 0 0) (spot b wants.DocumentId 0 0 0)
+        → Puts buffer lent (each serviceCalls ss) (images ledImage ss) done (spot b (turnAt (length ss) wants.Service wants.DocumentId) (length ss) 0 0) (spot b wants.DocumentId 0 0 0)
     unfolding images does
     services-put [] done h = puts-none
     services-put (x ∷ ss) done h =
         let less : suc (length ss) - 1 ≡ length ss = omega arith in
         rw (eqb·suc-zero (length ss))
         (puts-both {a = serviceCalls x}
-        (put-one (service x) done (textImage x) (spot b wants.Service (suc (length ss)) 0 0) (turnAt (length ss) wants.Service wants.DocumentId) (length ss) 0 fine good (rw less) refl (omega arith))
-        (services-put ss (done ++ textImage x) (omega arith)))
+        (put-one (service x) done (ledImage x) (spot b wants.Service (suc (length ss)) 0 0) (turnAt (length ss) wants.Service wants.DocumentId) (length ss) 0 fine good (rw less) refl (omega arith))
+        (services-put ss (done ++ ledImage x) (omega arith)))
 
     pub header-put : (h : Header) → GoodHeader h → Puts buffer lent (headerCalls h) (headerImage h) [] (spot b wants.Recorder 0 0 0) (spot b wants.Element 0 0 0)
     unfolding headerImage headerCalls does
@@ -121,11 +121,11 @@ module _ (buffer lent : List ℕ) (long : bookRoom ≤ length lent) where
         puts-as (simp append-assoc)
         (puts-both {a = recorder (h .recorder) ∷ startTime (h .start) ∷ defaultNamespace (h .default) ∷ namespaceCount (length (h .others)) ∷ []}
         (puts-both {a = recorder (h .recorder) ∷ []}
-        (put-one (recorder (h .recorder)) [] (word 4 4 ++ textImage (h .recorder)) (spot b wants.Recorder 0 0 0) wants.StartTime 0 0 fine good refl refl (omega arith))
+        (put-one (recorder (h .recorder)) [] (word 4 4 ++ ledImage (h .recorder)) (spot b wants.Recorder 0 0 0) wants.StartTime 0 0 fine good refl refl (omega arith))
         (puts-both {a = startTime (h .start) ∷ []}
         (put-one (startTime (h .start)) _ (word 8 (h .start)) (spot b wants.StartTime 0 0 0) wants.DefaultNamespace 0 0 fine good refl refl (omega arith))
         (puts-both {a = defaultNamespace (h .default) ∷ []}
-        (put-one (defaultNamespace (h .default)) _ (textImage (h .default)) (spot b wants.DefaultNamespace 0 0 0) wants.NamespaceCount 0 0 fine good refl refl (omega arith))
+        (put-one (defaultNamespace (h .default)) _ (ledImage (h .default)) (spot b wants.DefaultNamespace 0 0 0) wants.NamespaceCount 0 0 fine good refl refl (omega arith))
         (put-one (namespaceCount (length (h .others))) _ (word 4 (length (h .others))) (spot b wants.NamespaceCount 0 0 0) (turnAt (length (h .others)) wants.Uri wants.ServiceCount) (length (h .others)) 0
         (unless (leb (length (h .others)) 16) 4) good refl (rw (le-leb (length (h .others)) 16 (g .few-others))) (omega arith)))))
         (puts-both {a = each namespaceCalls (h .others)} (namespaces-put (h .others) _ (g .few-others))

@@ -11,7 +11,7 @@ use lib.Arith.{digits-mod}
 use borrow.Author.Tests.{le-leb, eq-eqb}
 use Rattle.octets.specs.Limits.{mostRows, bookRoom, mostAttributes}
 use Rattle.octets.specs.Reading.{Read, ok, _then_, isOk}
-use Rattle.octets.specs.Writing.{word, textImage, images, Each}
+use Rattle.octets.specs.Writing.{word, ledImage, images, Each}
 use Rattle.octets.proofs.Spans.{length-word}
 use Rattle.kinds.specs.declared.Kind.{Kind}
 use Rattle.kinds.specs.Kinds.{numberOf, kindOf}
@@ -22,9 +22,9 @@ use Rattle.layouts.proofs.Growing.{learnt}
 use Rattle.elements.specs.Element.{layout}
 use Rattle.elements.specs.Document.{itemImage}
 use Rattle.elements.proofs.Behind.{holding-of}
-use Rattle.writing.specs.declared.Turn.{Turn}
-use Rattle.writing.specs.declared.Turn.the-variants as wants
-use Rattle.writing.specs.Writer.{Call, openLayout, typeName, attributeCount, attributeName, attributeType, rule, fine, unless, attributes, does}
+use Rattle.writer.specs.declared.Wanted.{Wanted}
+use Rattle.writer.specs.declared.Wanted.the-variants as wants
+use Rattle.writer.specs.Writer.{Call, openLayout, typeName, attributeCount, attributeName, attributeType, rule, orderOf, fine, unless, attributes, does}
 use Rattle.promises_writing.specs.Promise.{each, attributeCalls, itemCalls, onto}
 use Rattle.promises_writing.proofs.Calls.{Passes, accepted, runs-one}
 use Rattle.promises_writing.proofs.Standing.{Spot, spot, stateAt, drop-on, behind, so-far, takes-learnt, complete-leaves}
@@ -37,14 +37,14 @@ kind-taken k g =
     rw (kind-some 0 (numberOf k) 0 (k .basic) (omega arith) (sym (digits-mod (k .derived) (omega arith))))
 
 layout-starts : (l : Layout)
-    → layoutImage l ≡ word 4 (l .number) ++ (textImage (l .type-name) ++ (word 4 (length (l .attributes)) ++ images attributeImage (l .attributes)))
+    → layoutImage l ≡ word 4 (l .number) ++ (ledImage (l .type-name) ++ (word 4 (length (l .attributes)) ++ images attributeImage (l .attributes)))
 unfolding layoutImage
 layout-starts l = simp append-assoc
 
 module _ (buffer lent : List ℕ) (long : bookRoom ≤ length lent) (b : Book) (good : GoodBook b) (rows : ℕ) (few : rows ≤ mostRows)
     (before : List ℕ) (l : Layout) (next : Book) (inside : GoodLayout l) (learns : learn b l 0 ≡ ok next 0) where
   -- The call that completes the layout.
-  complete-one : (c : Call) (done more xs : List ℕ) (t : Turn) (k : ℕ) (fault : Read (Unit {0})) → done ≡ before ++ more → 4 ≤ length more
+  complete-one : (c : Call) (done more xs : List ℕ) (t : Wanted) (k : ℕ) (fault : Read (Unit {0})) → done ≡ before ++ more → 4 ≤ length more
       → more ++ xs ≡ word 4 1 ++ layoutImage l
       → does (stateAt done (spot b t k (length before) rows)) (onto buffer done) b c ≡ attributes (stateAt done (spot b t k (length before) rows)) t fault xs 0
       → isOk fault ≡ true → Ready (spot b t k (length before) rows) (length done)
@@ -58,7 +58,7 @@ module _ (buffer lent : List ℕ) (long : bookRoom ≤ length lent) (b : Book) (
             let p : Passes (stateAt done x) (onto buffer done) (length (bookImage b)) b (attributes (stateAt done x) t fault xs 0) (found .new) =
             record {
               inside = ready-bounds buffer done x r (omega arith);
-              in-turn = eq-eqb (rule t .number) (rule t .number) refl;
+              in-turn = eq-eqb (orderOf t) (orderOf t) refl;
               faultless = f;
               end = 0;
               takes = rw (so-far before more (drop (length done) buffer) xs done x l form refl low whole) (found .takes);
@@ -77,24 +77,24 @@ module _ (buffer lent : List ℕ) (long : bookRoom ≤ length lent) (b : Book) (
       let t : ℕ = numberOf (a .kind) in
       let size = ap length form ∙ length-append before more in
       let fault : Read (Unit {0}) = kindOf 0 t 0 then λ _ _. fine in
-      puts-as (sym (append-nil (textImage (a .name) ++ word 4 t)))
+      puts-as (sym (append-nil (ledImage (a .name) ++ word 4 t)))
       (puts-both {a = attributeName (a .name) ∷ []} {b = attributeType t ∷ []}
-      (put-one buffer lent long (attributeName (a .name)) done (textImage (a .name)) (spot b wants.AttributeName 1 (length before) rows) wants.AttributeType 1 (length before) fine good refl refl (omega arith))
-      (complete-one (attributeType t) (done ++ textImage (a .name)) (more ++ textImage (a .name)) (word 4 t) wants.AttributeType 1 fault
-      (behind (textImage (a .name)) form ∙ append-assoc before more (textImage (a .name))) (rw length-append (omega arith)) (simp append-assoc (simp (append-assoc, append-nil) at whole)) refl
-      (kind-taken (a .kind) (g .0 .derived)) (rw (length-append done (textImage (a .name))) (omega arith))))
+      (put-one buffer lent long (attributeName (a .name)) done (ledImage (a .name)) (spot b wants.AttributeName 1 (length before) rows) wants.AttributeType 1 (length before) fine good refl refl (omega arith))
+      (complete-one (attributeType t) (done ++ ledImage (a .name)) (more ++ ledImage (a .name)) (word 4 t) wants.AttributeType 1 fault
+      (behind (ledImage (a .name)) form ∙ append-assoc before more (ledImage (a .name))) (rw length-append (omega arith)) (simp append-assoc (simp (append-assoc, append-nil) at whole)) refl
+      (kind-taken (a .kind) (g .0 .derived)) (rw (length-append done (ledImage (a .name))) (omega arith))))
   attributes-put (a₂ ∷ rest) a done more form low h g whole =
       let t : ℕ = numberOf (a .kind) in
       let size = ap length form ∙ length-append before more in
       let fault : Read (Unit {0}) = kindOf 0 t 0 then λ _ _. fine in
       let less : suc (suc (length rest)) - 1 ≡ suc (length rest) = omega arith in
-      let image : List ℕ = textImage (a .name) ++ word 4 t in
+      let image : List ℕ = ledImage (a .name) ++ word 4 t in
       puts-both {a = attributeCalls a}
       (puts-both {a = attributeName (a .name) ∷ []} {b = attributeType t ∷ []}
-      (put-one buffer lent long (attributeName (a .name)) done (textImage (a .name)) (spot b wants.AttributeName (suc (suc (length rest))) (length before) rows) wants.AttributeType (suc (suc (length rest))) (length before)
+      (put-one buffer lent long (attributeName (a .name)) done (ledImage (a .name)) (spot b wants.AttributeName (suc (suc (length rest))) (length before) rows) wants.AttributeType (suc (suc (length rest))) (length before)
       fine good refl refl (omega arith))
-      (put-one buffer lent long (attributeType t) (done ++ textImage (a .name)) (word 4 t) (spot b wants.AttributeType (suc (suc (length rest))) (length before) rows) wants.AttributeName (suc (length rest)) (length before)
-      fault good (rw (less, eqb·suc-zero (length rest))) (kind-taken (a .kind) (g .0 .derived)) (rw (length-append done (textImage (a .name))) (omega arith))))
+      (put-one buffer lent long (attributeType t) (done ++ ledImage (a .name)) (word 4 t) (spot b wants.AttributeType (suc (suc (length rest))) (length before) rows) wants.AttributeName (suc (length rest)) (length before)
+      fault good (rw (less, eqb·suc-zero (length rest))) (kind-taken (a .kind) (g .0 .derived)) (rw (length-append done (ledImage (a .name))) (omega arith))))
       (attributes-put rest a₂ (done ++ image) (more ++ image) (behind image form ∙ append-assoc before more image) (rw length-append (omega arith)) (omega arith) (g .1)
       (simp append-assoc (simp append-assoc at whole)))
 
@@ -120,7 +120,7 @@ module _ (buffer lent : List ℕ) (long : bookRoom ≤ length lent) (b : Book) (
   unfolding does
   layout-put =
       let top : List ℕ = word 4 1 ++ word 4 (l .number) in
-      let name : List ℕ = textImage (l .type-name) in
+      let name : List ℕ = ledImage (l .type-name) in
       let long-top : length top ≡ 8 = length-append (word 4 1) (word 4 (l .number)) ∙ omega (arith, length-word 4 1, length-word 4 (l .number)) in
       puts-as (rw (layout-starts l) (simp append-assoc))
       (puts-both {a = openLayout (l .number) ∷ []}

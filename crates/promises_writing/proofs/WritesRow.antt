@@ -20,13 +20,14 @@ use Rattle.kinds.specs.Kinds.{codeOf, formOf}
 use Rattle.layouts.specs.Layout.{Attribute, Layout, GoodLayout}
 use Rattle.layouts.specs.Book.{Book, find, bookImage, GoodBook}
 use Rattle.layouts.proofs.Finding.{each-find}
-use Rattle.rows.specs.Row.{Value, bits, held, Field, Row, valueImage, fieldImage, lengthImage, GoodValue, FieldsOf}
+use Rattle.rows.specs.Row.{Field, Row, fieldImage, lengthImage, FieldsOf}
+use Rattle.kinds.specs.Forms.{Value, bits, held, valueImage, GoodValue}
 use Rattle.elements.specs.Element.{row}
 use Rattle.elements.specs.Document.{itemImage}
 use Rattle.elements.proofs.Behind.{holding-of}
-use Rattle.writing.specs.declared.Turn.the-variants as wants
-use Rattle.writing.specs.Writer.{openRow, value, closeRow, room, fine, unless, known, rowLayout, suits, isNext, does}
-use Rattle.writing.proofs.Values.{length-size}
+use Rattle.writer.specs.declared.Wanted.the-variants as wants
+use Rattle.writer.specs.Writer.{openRow, value, closeRow, room, fine, unless, inBook, rowLayout, suits, isNext, does}
+use Rattle.writer.proofs.Tests.{length-size}
 use Rattle.promises_writing.specs.Promise.{each, fieldCalls, itemCalls, onto}
 use Rattle.promises_writing.proofs.Calls.{Passes, accepted, Runs, runs-both, runs-one}
 use Rattle.promises_writing.proofs.Standing.{Spot, spot, stateAt, standing, row-layout, close-leaves}
@@ -37,15 +38,13 @@ good-suits (form.Fixed w) (bits n) g = lt-ltb n (256 ^ w) g
 good-suits (form.Fixed w) (held xs) g = absurd g
 good-suits form.Truth (bits n) g = le-leb n 1 g
 good-suits form.Truth (held xs) g = absurd g
-good-suits form.Octets (bits n) g = absurd g
-good-suits form.Octets (held xs) g = refl
-good-suits form.Text (bits n) g = absurd g
-good-suits form.Text (held xs) g = refl
+good-suits form.Led (bits n) g = absurd g
+good-suits form.Led (held xs) g = refl
 
 -- A good value of the next field is that field's.
-good-next : (a : Attribute) (rest : List Attribute) (f : Field) → f .attribute ≡ a → GoodValue (formOf (a .kind .basic)) (f .value)
+good-next : (a : Attribute) (rest : List Attribute) (f : Field) → f .attribute ≡ a → GoodValue (formOf (a .kind)) (f .value)
     → isNext (a ∷ rest) (f .attribute .kind .basic) (f .value) ≡ true
-good-next a rest f e g = rw (e, eq-eqb (codeOf (a .kind .basic)) (codeOf (a .kind .basic)) refl) (good-suits (formOf (a .kind .basic)) (f .value) g)
+good-next a rest f e g = rw (e, eq-eqb (codeOf (a .kind .basic)) (codeOf (a .kind .basic)) refl) (good-suits (formOf (a .kind)) (f .value) g)
 
 module _ (buffer lent : List ℕ) (long : bookRoom ≤ length lent) (b : Book) (good : GoodBook b) (rows : ℕ) (few : rows < mostRows)
     (before : List ℕ) (r : Row) (l : Layout) (small : r .number < 2 ^ 32) (found : find (r .number) b ≡ some l) where
@@ -71,7 +70,7 @@ module _ (buffer lent : List ℕ) (long : bookRoom ≤ length lent) (b : Book) (
       let done : List ℕ = before ++ (top ++ got) in
       let size : length done ≡ length before + (12 + length got) = simp (length-append, top-length) refl in
       let at : Spot = spot b wants.Value k (length before) rows in
-      let xs : List ℕ = valueImage (formOf (x .attribute .kind .basic)) (x .value) in
+      let xs : List ℕ = valueImage (formOf (x .attribute .kind)) (x .value) in
       let more : drop (k + 1) (l .attributes) ≡ rest = sym (drop-drop 1 k (l .attributes)) ∙ ap (drop 1) e in
       let last : k + suc (length rest) ≡ (k + 1) + length rest = omega arith in
       let fault : Read (Unit {0}) =
@@ -117,7 +116,7 @@ module _ (buffer lent : List ℕ) (long : bookRoom ≤ length lent) (b : Book) (
       let many : length (l .attributes) ≤ mostAttributes = each-find GoodLayout (r .number) b l (good .good) found .few in
       let place = close-leaves lent before [] whole (spot b wants.Value 0 (length before) rows) r (top-opens (images fieldImage (r .fields))) refl refl .1 in
       let opens : Puts buffer lent (openRow (r .number) (r .is-stated) ∷ []) top before (spot b wants.Element 0 0 rows) (spot b wants.Value 0 (length before) rows) =
-      put-one buffer lent long (openRow (r .number) (r .is-stated)) before top (spot b wants.Element 0 0 rows) wants.Value 0 (length before) (known (find (r .number) b) then λ _ _. fine) good refl (rw found) (omega arith) in
+      put-one buffer lent long (openRow (r .number) (r .is-stated)) before top (spot b wants.Element 0 0 rows) wants.Value 0 (length before) (inBook (find (r .number) b) then λ _ _. fine) good refl (rw found) (omega arith) in
       let values : Puts buffer lent (each fieldCalls (r .fields)) (images fieldImage (r .fields)) (before ++ top) (spot b wants.Value 0 (length before) rows) (spot b wants.Value (length (l .attributes)) (length before) rows) =
       rw (append-nil top, zero-add (length (l .attributes))) at (values-put (l .attributes) (r .fields) 0 [] refl (omega arith) g) in
       let all = append-assoc before top (images fieldImage (r .fields)) in

@@ -20,9 +20,9 @@ use Rattle.elements.specs.Reading.{reading}
 use Rattle.elements.specs.Document.{Document, rowCount, image, readingOf}
 use Rattle.elements.proofs.Behind.{holding-of}
 use Rattle.promises.proofs.Documents.{one-meaning}
-use Rattle.writing.specs.declared.Turn.{Turn}
-use Rattle.writing.specs.declared.Turn.the-variants as wants
-use Rattle.writing.specs.Writer.{Call, recorder, startTime, defaultNamespace, namespaceCount, uri, shortName, serviceCount, service, documentId, openLayout, typeName, attributeCount, attributeName, attributeType, openRow, value, closeRow, giveUp, finish, Written, Deed, does, call, runCalls}
+use Rattle.writer.specs.declared.Wanted.{Wanted}
+use Rattle.writer.specs.declared.Wanted.the-variants as wants
+use Rattle.writer.specs.Writer.{Call, recorder, startTime, defaultNamespace, namespaceCount, uri, shortName, serviceCount, service, documentId, openLayout, typeName, attributeCount, attributeName, attributeType, openRow, value, closeRow, giveUp, finish, Written, Deed, does, call, runCalls}
 use Rattle.promises_writing.specs.Promise.{bookBehind, onto, begun, finished, Given, Bearing, more, opening, back, bearing, Told, nothing-told, tell, tellAll, told, Run, Forward, fartherAs, farther, answering, goesOn, begins, ran, cleared, Going, Wrote}
 use Rattle.promises_writing.proofs.Calls.{passed-all, Runs, runs-both, runs-none, runs-one}
 use Rattle.promises_writing.proofs.Standing.{Spot, spot, stateAt, standing, onto-length}
@@ -233,7 +233,7 @@ module _ (calls : List Call) (given : Each Given calls) (buffer book : List ℕ)
       let now = i .stand in
       let all : Told = tellAll nothing-told (r .accepted) in
       let turn : now .at .turn ≡ wants.Nothing = sym (ap (λ (x : Written). x .state .turn) (i .is)) ∙ last in
-      let end : Ended (now .at) (now .done) all = subst (λ (t : Turn). Shape t (now .at) (now .done) all) turn (now .shape) in
+      let end : Ended (now .at) (now .done) all = subst (λ (t : Wanted). Shape t (now .at) (now .done) all) turn (now .shape) in
       record {
         document = end .d;
         good = end .good;

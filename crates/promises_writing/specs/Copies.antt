@@ -12,7 +12,7 @@ use Rattle.elements.specs.Steps.{stepAt}
 use Rattle.reading.specs.Answers.{headOf}
 use Rattle.questions.specs.Questions.{fieldAsked}
 use Rattle.questions.specs.Answers.{octetsOf, valueOf}
-use Rattle.writing.specs.Writer.{startTime, value, valueCall, finish}
+use Rattle.writer.specs.Writer.{startTime, value, valueCall, finish}
 
 -- Of a document's octets: the header's start, the value and octets of any field, over any lent book, and the end's time.
 pub record Copies (s : List ℕ) : Type 0 where

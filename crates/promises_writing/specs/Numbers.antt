@@ -4,11 +4,11 @@ use mathlib.Core.List.{List, [], _∷_}
 use mathlib.Core.Bool.{Bool}
 use Rattle.kinds.specs.declared.Basic.{Basic}
 use Rattle.kinds.specs.declared.Value.{Value}
-use Rattle.rows.specs.Row.{bits, held}
+use Rattle.kinds.specs.Forms.{bits, held}
 use Rattle.promises.specs.Refusals.{Gives}
-use Rattle.writing.specs.declared.State.{State}
-use Rattle.writing.specs.Writer.{Call, call}
-use Rattle.writing.specs.Writer as writer
+use Rattle.writer.specs.declared.State.{State}
+use Rattle.writer.specs.Writer.{Call, call}
+use Rattle.writer.specs.Writer as writer
 
 -- What a call is given: the state, the lent buffer and book, the used count, and its own argument.
 pub record Made (A : Type 0) : Type 0 where

@@ -8,13 +8,14 @@ use Rattle.octets.specs.Writing.{Each, Octet}
 use Rattle.kinds.specs.Kinds.{numberOf}
 use Rattle.layouts.specs.Layout.{Attribute, Layout}
 use Rattle.layouts.specs.Book.{Book, find, isNone, bookImage, bookOf}
-use Rattle.rows.specs.Row.{Value, bits, held, Field}
+use Rattle.rows.specs.Row.{Field}
+use Rattle.kinds.specs.Forms.{Value, bits, held}
 use Rattle.headers.specs.Header.{Namespace, Header}
 use Rattle.elements.specs.Element.{Item, layout, row}
 use Rattle.elements.specs.Document.{Document, image, rowCount, Good}
-use Rattle.writing.specs.declared.Turn.the-variants as wants
-use Rattle.writing.specs.declared.State.{State}
-use Rattle.writing.specs.Writer.{Call, recorder, startTime, defaultNamespace, namespaceCount, uri, shortName, serviceCount, service, documentId, openLayout, typeName, attributeCount, attributeName, attributeType, openRow, value, closeRow, giveUp, finish, Written, fresh, call, runCalls}
+use Rattle.writer.specs.declared.Wanted.the-variants as wants
+use Rattle.writer.specs.declared.State.{State}
+use Rattle.writer.specs.Writer.{Call, recorder, startTime, defaultNamespace, namespaceCount, uri, shortName, serviceCount, service, documentId, openLayout, typeName, attributeCount, attributeName, attributeType, openRow, value, closeRow, giveUp, finish, Written, fresh, call, runCalls}
 
 -- The calls for a list's items, one after another.
 abbrev pub each : {A : Type 0} → (A → List Call) → List A → List Call
@@ -169,7 +170,7 @@ told calls =
     let t = tellAll nothing-told calls in
     t .settled ++ t .latest
 
--- A run of calls: what was last answered and left, the calls that were accepted, and the farthest place from which an element was given up (0: none was).
+-- A run of calls: what was last deedAnswer and left, the calls that were accepted, and the farthest place from which an element was given up (0: none was).
 pub record Run : Type 0 where
   pub now : Written
   pub accepted : List Call
@@ -189,7 +190,7 @@ abbrev pub answering : Run → Call → Read Written → Run
 answering r c (ok w at) = record { now = w; accepted = r .accepted ++ c ∷ []; farthest = farther (r .farthest) (r .now .state) c }
 answering r c (no n at) = r
 
--- Calls one after another, each given the state, the buffer, the book and the used count last answered, whether or not it is then accepted.
+-- Calls one after another, each given the state, the buffer, the book and the used count last deedAnswer, whether or not it is then accepted.
 unfoldable pub goesOn : Run → List Call → Run
 goesOn r [] = r
 goesOn r (c ∷ rest) = goesOn (answering r c (call (r .now .state) (r .now .buffer) (r .now .book) (r .now .used) c)) rest

@@ -12,7 +12,7 @@ use borrow.Author.Tests.{ltb-true, ltb-false}
 use Rattle.octets.specs.Reading.{Read, ok, no, choose}
 use Rattle.layouts.specs.Layout.{Layout, layoutAt}
 use Rattle.layouts.specs.Book.{Book, find, numbersOf, position}
-use Rattle.layouts.specs.Answers.{Stands}
+use Rattle.layouts.specs.Answers.{StandsFor}
 use Rattle.layouts.proofs.Positions.{position-found, position-none, lacks-none, at-index}
 use Rattle.shelves.specs.Kept.{nothing, marks, asOption, standing, all, Numbered, Shelved, Planned, Lacks}
 use Rattle.shelves.proofs.Marks.{marks-low, Marked, marked-at}
@@ -59,14 +59,14 @@ as-some : (r : Read Layout) (l : Layout) → asOption r ≡ some l → (next : �
 as-some (ok a next) l e = let same : a ≡ l = cc in (next, ap (λ (x : Layout). ok x next) same)
 as-some (no n p) l e = absurd (let z : _≡_ {A = ℕ} 0 1 = cc in omega arith)
 
-stand-at : (shelf ps : List ℕ) (b : Book) (n : ℕ) → standing shelf ps ≡ all b → position n b < length b → Stands shelf n b (getD ps (position n b) 0)
+stand-at : (shelf ps : List ℕ) (b : Book) (n : ℕ) → standing shelf ps ≡ all b → position n b < length b → StandsFor shelf n b (getD ps (position n b) 0)
 unfolding find position
 stand-at shelf ps [] n e h = absurd (omega arith)
 stand-at shelf [] (l ∷ b) n e h = absurd (let z : _≡_ {A = ℕ} 0 1 = cc in omega arith)
 stand-at shelf (p ∷ ps) (l ∷ b) n e h = go (eqb n (l .number)) refl h (λ k. stand-at shelf ps b n (cc) k)
   where
-    go : (t : Bool) → eqb n (l .number) ≡ t → choose t (λ _. 0) (λ _. suc (position n b)) < suc (length b) → (position n b < length b → Stands shelf n b (getD ps (position n b) 0))
-        → Stands shelf n (l ∷ b) (getD (p ∷ ps) (choose t (λ _. 0) (λ _. suc (position n b))) 0)
+    go : (t : Bool) → eqb n (l .number) ≡ t → choose t (λ _. 0) (λ _. suc (position n b)) < suc (length b) → (position n b < length b → StandsFor shelf n b (getD ps (position n b) 0))
+        → StandsFor shelf n (l ∷ b) (getD (p ∷ ps) (choose t (λ _. 0) (λ _. suc (position n b))) 0)
     go true q h again =
         let first : asOption (layoutAt shelf p) ≡ some l = cc in
         let (next, reads) = as-some (layoutAt shelf p) l first in
@@ -76,9 +76,9 @@ stand-at shelf (p ∷ ps) (l ∷ b) n e h = go (eqb n (l .number)) refl h (λ k.
         record { layout = s .layout; next = s .next; found = rw q (s .found); reads = s .reads }
 
 pub shelf-at : (shelf places : List ℕ) (known : ℕ) (book : Book) → Shelved shelf places known book → length book ≡ known
-    → (n i : ℕ) → i ≡ position n book → i < known → Stands shelf n book (getD places i 0)
+    → (n i : ℕ) → i ≡ position n book → i < known → StandsFor shelf n book (getD places i 0)
 shelf-at shelf places known book k count n i is h =
-    subst (Stands shelf n book) (ap (λ (j : ℕ). getD (take known places) j 0) (sym is) ∙ getD-take known places i 0 h)
+    subst (StandsFor shelf n book) (ap (λ (j : ℕ). getD (take known places) j 0) (sym is) ∙ getD-take known places i 0 h)
     (stand-at shelf (take known places) book n (k .stands) (omega arith))
 
 pub shelf-none : (n : ℕ) (book : Book) → length book ≤ position n book → find n book ≡ none

@@ -6,10 +6,11 @@ use Rattle.octets.specs.Reading.{Read, ok, no}
 use Rattle.octets.specs.Contracts.{Settled, SettledLent}
 use Rattle.octets.proofs.Alike.{_also_, put-back}
 use Rattle.layouts.specs.Book.{bookIn}
-use Rattle.writing.specs.declared.State.{State}
-use Rattle.writing.specs.declared.Answer.{Answer}
-use Rattle.writing.specs.Writer.{Call, Written, does, answered}
-use Rattle.writing.specs.Answers.{Left, left, told, leavesOf, leaves, Refuses}
+use Rattle.writer.specs.declared.State.{State}
+use Rattle.writer.specs.declared.Answer.{Answer}
+use Rattle.writer.specs.Writer.{Call, Written, does, deedAnswer}
+use Rattle.writer.specs.Answers.{Left, left, leftOf, deedLeaves, callLeaves, Refuses}
+use Rattle.giving.proofs.Contracts.{one-answer}
 use Rattle.writing.proofs.fresh as fresh
 use Rattle.writing.proofs.recorder as recorder
 use Rattle.writing.proofs.start_time as start-time
@@ -57,18 +58,12 @@ pub record Contracts : Type 0 where
   pub of-give-up : SettledLent give-up.Kinds.ps give-up.Kinds.r (λ κs s. s) (λ κs. Refuses) give-up.Reads.Pre give-up.Reads.Post
   pub of-finish : SettledLent finish.Kinds.ps finish.Kinds.r (λ κs s. s) (λ κs. Refuses) finish.Reads.Pre finish.Reads.Post
 
--- Two answers that one statement allows, with what they leave, are the same.
-pub one-answer : {r q : Answer} {b c k l : List ℕ} {x : Left} → left r b k ≡ x → left q c l ≡ x → (r ≡ q) × (b ≡ c) × (k ≡ l)
-one-answer {r} {q} {b} {c} {k} {l} e f =
-    let same : left r b k ≡ left q c l = e ∙ sym f in
-    (ap (λ (y : Left). y .answer) same, ap (λ (y : Left). y .buffer) same, ap (λ (y : Left). y .book) same)
-
 -- A refused call leaves buffer and book.
-unchanged : {x : Answer} {b k : List ℕ} (s : State) (buffer lent : List ℕ) (used : ℕ) (c : Call) → left x b k ≡ leaves s buffer lent used c → Refuses x → (b ≡ buffer) × (k ≡ lent)
-unfolding leaves leavesOf
-unchanged {x} {b} {k} s buffer lent used c e h = go (answered s buffer lent used (does s buffer (bookIn lent used) c)) e
+unchanged : {x : Answer} {b k : List ℕ} (s : State) (buffer lent : List ℕ) (used : ℕ) (c : Call) → left x b k ≡ callLeaves s buffer lent used c → Refuses x → (b ≡ buffer) × (k ≡ lent)
+unfolding callLeaves deedLeaves
+unchanged {x} {b} {k} s buffer lent used c e h = go (deedAnswer s buffer lent used (does s buffer (bookIn lent used) c)) e
   where
-    go : (r : Read Written) → left x b k ≡ told r buffer lent → (b ≡ buffer) × (k ≡ lent)
+    go : (r : Read Written) → left x b k ≡ leftOf r buffer lent → (b ≡ buffer) × (k ≡ lent)
     go (ok w at) f = absurd (subst Refuses (ap (λ (y : Left). y .answer) f) h)
     go (no n p) f = (ap (λ (y : Left). y .buffer) f, ap (λ (y : Left). y .book) f)
 

@@ -1,7 +1,1 @@
-pub mod Scripts
-pub mod Bounds
-pub mod Tests
-pub mod Values
-pub mod Calls
-pub mod Kept
 pub mod Contracts

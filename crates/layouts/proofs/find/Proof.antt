@@ -1,16 +1,13 @@
 -- `layouts::find` meets its contract, by what `look_in` answers of the used octets. Assumes nothing.
-use borrow.Author.Needs.{needs}
 use native.Mathlib.Omega.{arith}
 use Prim.Native.Nat.{ℕ}
-use mathlib.Core.Path.{_≡_, sym, subst}
+use mathlib.Core.Path.{_≡_, sym}
 use mathlib.Core.List.{List}
 use lib.ListN.{length, take}
 use lib.Seq.{length-take-le}
 use denote.Ref.{now}
 use Rattle.octets.proofs.Spans.{each-octet}
 use Rattle.layouts.specs.Book.{Book, bookIn}
-use Rattle.layouts.specs.Answers.{Looks}
-use Rattle.layouts.specs.declared.Looked.{Looked}
 use Rattle.layouts.proofs.Books.{Lent}
 use Rattle.layouts.proofs.Walks.{lent-book, book-image}
 use Rattle.layouts.proofs.find.Statement.{statement}
@@ -40,17 +37,8 @@ look-in-requires c κs =
     let k = c .before in
     (omega (arith, used-length k, lent k .most), record { book = Held k; image = book-image (Octets k) (Used k) (Held k) (lent k) })
 
--- What the look-up says, whichever answer it gave.
-looked-up : (f : tie.After-look-in) (x : Looked) → f .look-in .result ≡ x
-    → Looks (take (Used (f .before .before)) (Octets (f .before .before))) (f .before .before .before .args .number) (Held (f .before .before)) x
-looked-up f x q =
-    let k = f .before .before in
-    subst (λ (y : Looked). Looks (take (Used k) (Octets k)) (k .before .args .number) (Held k) y) q
-    (f .look-in .ensures (Held k) (book-image (Octets k) (Used k) (Held k) (lent k)))
-
 pub find-spec : {M : Type 1} → statement M
 find-spec =
     tie.close
-    (tie.spec (λ c. sym (used-length (c .before))) look-in-requires (λ c. search needs) (λ c. search needs)
-    (λ c. looked-up (c .before .before .before) _ (c .before .looked .given .1))
-    (λ c. looked-up (c .before .before .before) _ (c .before .looked2 .given .1) .0))
+    (tie.spec (λ c. sym (used-length (c .before))) look-in-requires
+    (λ c. let k = c .before .before in c .look-in .ensures (Held k) (book-image (Octets k) (Used k) (Held k) (lent k))))

@@ -5,13 +5,13 @@ use Prim.Native.Nat.{_-_, _≤_}
 use mathlib.Core.Path.{_≡_, refl, sym, _∙_}
 use lib.ListN.{length, drop}
 use denote.Ref.{now}
-use Rattle.layouts.specs.Answers.{among}
+use Rattle.layouts.specs.Answers.{isAmong}
 use Rattle.layouts.proofs.Checks.{among-here, among-on, among-end}
 use Rattle.layouts.proofs.is_among.Statement.{statement}
 use Rattle.layouts.proofs.is_among.Tie as tie
 
 abbrev Inv-loop : tie.InvT-loop
-Inv-loop met number i₀ i = (i ≤ length met) × (among number met ≡ among number (drop i met))
+Inv-loop met number i₀ i = (i ≤ length met) × (isAmong number met ≡ isAmong number (drop i met))
 
 abbrev μ-loop : tie.MeasureT-loop
 μ-loop met number i₀ i = length met - i

@@ -4,7 +4,7 @@ use native.Mathlib.Omega.{arith}
 use Prim.Native.Nat.{ℕ}
 use denote.Ref.{now}
 use mathlib.Core.Path.{sym, subst}
-use Rattle.layouts.specs.Answers.{Stands}
+use Rattle.layouts.specs.Answers.{StandsFor}
 use Rattle.shelves.proofs.Shelves.{shelf-at, shelf-none}
 use Rattle.shelves.proofs.looked_at.Statement.{statement}
 use Rattle.shelves.proofs.looked_at.Tie as tie
@@ -15,7 +15,7 @@ returns c = λ shelf numbers number book k h is. (shelf-none number book (omega 
 returns-2 : tie.Need-returns-2
 returns-2 c = λ shelf numbers number book k h is.
     let a = c .before .before .before .args in
-    subst (λ (p : ℕ). Stands shelf number book p) (sym (c .place-of .ensures))
+    subst (λ (p : ℕ). StandsFor shelf number book p) (sym (c .place-of .ensures))
     (shelf-at shelf (now (a .places)) (a .known) book h (k .count) number (a .i) is (omega (arith, c .before .before .if1 .left)))
 
 pub looked-at-spec : {M : Type 1} → statement M

@@ -4,15 +4,15 @@ use mathlib.Core.Path.{ap}
 use denote.Ref.{now}
 use Rattle.octets.specs.Reading.{Read}
 use Rattle.octets.specs.Writing.{word}
-use Rattle.writing.specs.declared.Turn.the-variants as wants
-use Rattle.writing.specs.Writer.{does, attributes}
-use Rattle.writing.specs.Answers.{leaves}
-use Rattle.writing.proofs.Tests.{gave}
+use Rattle.writer.specs.declared.Wanted.the-variants as wants
+use Rattle.writer.specs.Writer.{does, attributes}
+use Rattle.writer.specs.Answers.{callLeaves}
+use Rattle.writer.proofs.Tests.{gave}
 use Rattle.writing.proofs.attribute_count.Statement.{statement}
 use Rattle.writing.proofs.attribute_count.Tie as tie
 
 returns : tie.Need-returns
-unfolding leaves does
+unfolding callLeaves does
 returns c =
     let g = c .before .before .before .before in
     let m = g .before .before .before in

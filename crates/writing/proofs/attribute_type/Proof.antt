@@ -5,11 +5,11 @@ use denote.Ref.{now}
 use Prim.Native.Nat.{ℕ}
 use Rattle.octets.specs.Reading.{Read}
 use Rattle.octets.specs.Writing.{word}
-use Rattle.writing.specs.declared.Turn.the-variants as wants
-use Rattle.writing.specs.declared.State.{State}
-use Rattle.writing.specs.Writer.{does, attributes}
-use Rattle.writing.specs.Answers.{leaves}
-use Rattle.writing.proofs.Tests.{gave}
+use Rattle.writer.specs.declared.Wanted.the-variants as wants
+use Rattle.writer.specs.declared.State.{State}
+use Rattle.writer.specs.Writer.{does, attributes}
+use Rattle.writer.specs.Answers.{callLeaves}
+use Rattle.writer.proofs.Tests.{gave}
 use Rattle.writing.proofs.attribute_type.Statement.{statement}
 use Rattle.writing.proofs.attribute_type.Tie as tie
 
@@ -17,7 +17,7 @@ same : (s : State) (t : ℕ) {f g : Read (Unit {0})} {n m : ℕ} → f ≡ g →
 same s t e h = rw (e, h) refl
 
 returns : tie.Need-returns
-unfolding leaves does
+unfolding callLeaves does
 returns c =
     let g = c .before .before .before .before in
     let l = g .before .before .before in

@@ -14,43 +14,44 @@ use Rattle.octets.specs.Writing.{over, Each, Octet}
 use Rattle.octets.proofs.Spans.{each-octet}
 use Rattle.layouts.specs.Book.{find, bookIn}
 use Rattle.rows.specs.Row.{lengthImage}
-use Rattle.fields.specs.Answers.{says, countOf}
-use Rattle.fields.specs.declared.Counting.{Counting}
-use Rattle.fields.specs.declared.Fault.{Fault}
-use Rattle.fields.specs.declared.Fault.the-variants.{None, Is}
-use Rattle.writing.specs.declared.Turn.the-variants as wants
-use Rattle.writing.specs.declared.State.{State}
-use Rattle.writing.specs.declared.Answer.the-variants.{Done, Refused}
-use Rattle.writing.specs.Writer.{room, sameTurn, between, rowLayout, does, closeRow, early}
-use Rattle.writing.specs.Answers.{left, leaves, closeFault}
-use Rattle.writing.proofs.Tests.{leaves-fault, leaves-put, stopped, passed, ready}
-use Rattle.writing.proofs.Values.{close-own, length-size, InRow, in-row}
+use Rattle.writing_parts.specs.Answers.{says, nextOf}
+use Rattle.writing_parts.specs.declared.Next.{Next}
+use Rattle.writing_parts.specs.declared.Fault.{Fault}
+use Rattle.writing_parts.specs.declared.Fault.the-variants as faults
+use Rattle.writer.specs.declared.Wanted.the-variants as wants
+use Rattle.writer.specs.declared.State.{State}
+use Rattle.writer.specs.declared.Answer.the-variants.{Done, Refused}
+use Rattle.writer.specs.Writer.{room, sameTurn, between, rowLayout, does, closeRow, early}
+use Rattle.writer.specs.Answers.{left, callLeaves}
+use Rattle.giving.specs.Answers.{closeFault}
+use Rattle.writer.proofs.Tests.{leaves-fault, leaves-put, stopped, passed, ready, length-size}
+use Rattle.giving.proofs.Values.{close-own, InRow, in-row}
 use Rattle.writing.proofs.close_row.Statement.{statement}
 use Rattle.writing.proofs.close_row.Tie as tie
 
 module _ (s : State) (b l : List ℕ) (used : ℕ) (r : Fault) (mine : Bool) (is : says r ≡ early s (length b) l used mine) (own : mine ≡ sameTurn (s .turn) wants.Value) where
-  first : (k : ℕ) → r ≡ Is k → left (Refused k (s .place)) b l ≡ leaves s b l used closeRow
-  unfolding leaves does
+  first : (k : ℕ) → r ≡ faults.Refused k → left (Refused k (s .place)) b l ≡ callLeaves s b l used closeRow
+  unfolding callLeaves does
   first = stopped s b l used (does s b (bookIn l used) closeRow) r mine is own
 
-  module _ (e : r ≡ None) where
+  module _ (e : r ≡ faults.None) where
     inside : Each Octet l → InRow s (length b) l used
     inside o = in-row s (length b) l used o own (ready s (length b) l used mine (sym is ∙ ap says e))
 
-    module _ (f : Fault) {x : Counting} (j : x ≡ countOf (find (be 4 b (s .start + 4)) (bookIn l used))) (k : says f ≡ closeFault x (s .count)) where
+    module _ (f : Fault) {x : Next} (j : x ≡ nextOf (find (be 4 b (s .start + 4)) (bookIn l used)) (s .count)) (k : says f ≡ closeFault x) where
       fault : does s b (bookIn l used) closeRow .fault ≡ says f
       unfolding does rowLayout
       fault = sym (k ∙ rw j (close-own (find (be 4 b (s .start + 4)) (bookIn l used)) (s .count)))
 
-      refused : (m : ℕ) → f ≡ Is m → left (Refused m (s .place)) b l ≡ leaves s b l used closeRow
-      unfolding leaves does
+      refused : (m : ℕ) → f ≡ faults.Refused m → left (Refused m (s .place)) b l ≡ callLeaves s b l used closeRow
+      unfolding callLeaves does
       refused m g =
           sym (passed s b l used (does s b (bookIn l used) closeRow) r mine is own e ∙ leaves-fault s b l used (does s b (bookIn l used) closeRow) m 0 (fault ∙ ap says g))
 
-      done : f ≡ None → s .start + 12 ≤ s .place → s .place ≤ room (length b) → {y : List ℕ}
+      done : f ≡ faults.None → s .start + 12 ≤ s .place → s .place ≤ room (length b) → {y : List ℕ}
           → y ≡ over b (s .start + 8) (lengthImage (ltb (be 4 b (s .start + 8)) 0xffffffff) (s .place - (s .start + 12)))
-          → left (Done (between (s .place) (s .rows + 1)) used) y l ≡ leaves s b l used closeRow
-      unfolding leaves does
+          → left (Done (between (s .place) (s .rows + 1)) used) y l ≡ callLeaves s b l used closeRow
+      unfolding callLeaves does
       done g h p q =
           let stated : Bool = ltb (be 4 b (s .start + 8)) 0xffffffff in
           let four = length-size stated (s .place - (s .start + 12)) in
@@ -76,9 +77,9 @@ behind e =
     let a = k .before .before .args in
     inside (a .s) (now (a .buf)) (now (a .book)) (a .used) (r .ready .result) (t .same-turn .result) (r .ready .ensures) (t .same-turn .ensures) (e .enum-told .given .1) (each-octet (now (a .book)) (k .shared-slice-known .given))
 
-row-count-requires : tie.Need-row-count-requires
+row-next-requires : tie.Need-row-next-requires
 unfolding room
-row-count-requires c κs = let w = behind (c .before) in (omega arith, w .book)
+row-next-requires c κs = let w = behind (c .before) in (omega arith, w .book)
 
 returns-2 : tie.Need-returns-2
 returns-2 c =
@@ -89,7 +90,7 @@ returns-2 c =
     let r = e .before .before in
     let t = r .before in
     let a = t .before .before .before .args in
-    refused (a .s) (now (a .buf)) (now (a .book)) (a .used) (r .ready .result) (t .same-turn .result) (r .ready .ensures) (t .same-turn .ensures) (e .enum-told .given .1) (f .close-fault .result) (n .row-count .ensures) (f .close-fault .ensures) (g .fault .given .0 .0) (g .fault .given .1)
+    refused (a .s) (now (a .buf)) (now (a .book)) (a .used) (r .ready .result) (t .same-turn .result) (r .ready .ensures) (t .same-turn .ensures) (e .enum-told .given .1) (f .close-fault .result) (n .row-next .ensures) (f .close-fault .ensures) (g .fault .given .0 .0) (g .fault .given .1)
 
 lay-length-requires : tie.Need-lay-length-requires
 unfolding room
@@ -106,10 +107,10 @@ returns-3 c =
     let t = r .before in
     let a = t .before .before .before .args in
     let w = behind e in
-    done (a .s) (now (a .buf)) (now (a .book)) (a .used) (r .ready .result) (t .same-turn .result) (r .ready .ensures) (t .same-turn .ensures) (e .enum-told .given .1) (f .close-fault .result) (n .row-count .ensures) (f .close-fault .ensures) (g .enum-told2 .given .1) (w .head) (w .place) (d .lay-length .ensures)
+    done (a .s) (now (a .buf)) (now (a .book)) (a .used) (r .ready .result) (t .same-turn .result) (r .ready .ensures) (t .same-turn .ensures) (e .enum-told .given .1) (f .close-fault .result) (n .row-next .ensures) (f .close-fault .ensures) (g .enum-told2 .given .1) (w .head) (w .place) (d .lay-length .ensures)
 
 pub close-row-spec : {M : Type 1} → statement M
 close-row-spec =
     tie.close
-    (tie.spec (λ c κs. search needs) (λ c κs. search needs) (λ c. search needs) returns (λ c. search needs) row-count-requires (λ c κs. search needs)
+    (tie.spec (λ c κs. search needs) (λ c κs. search needs) (λ c. search needs) returns (λ c. search needs) row-next-requires (λ c κs. search needs)
     (λ c. search needs) (λ c. search needs) returns-2 (λ c. search needs) lay-length-requires (λ c. let w = behind (c .before .before .before .before .before .before .before .before .before) in omega arith) (λ c. search needs) returns-3)

@@ -5,10 +5,10 @@ use mathlib.Core.List.{List, _∷_, [], _++_, append-assoc}
 use Prim.Native.Nat.{ℕ}
 use denote.Ref.{now}
 use Rattle.octets.specs.Writing.{word}
-use Rattle.writing.specs.declared.Turn.the-variants as wants
-use Rattle.writing.specs.Writer.{does}
-use Rattle.writing.specs.Answers.{leaves}
-use Rattle.writing.proofs.Tests.{same-put, gave}
+use Rattle.writer.specs.declared.Wanted.the-variants as wants
+use Rattle.writer.specs.Writer.{does}
+use Rattle.writer.specs.Answers.{callLeaves}
+use Rattle.writer.proofs.Tests.{same-put, gave}
 use Rattle.writing.proofs.document_id.Statement.{statement}
 use Rattle.writing.proofs.document_id.Tie as tie
 
@@ -17,7 +17,7 @@ unfolding word
 image xs e = rw e (sym (append-assoc (word 4 16) xs (word 4 0xffffffff)))
 
 returns : tie.Need-returns
-unfolding leaves does
+unfolding callLeaves does
 returns c =
     let g = c .before .before in
     let w = g .before .before .before .before in

@@ -7,15 +7,15 @@ use denote.Ref.{now}
 use mir.Facts.{toZ-ofZ}
 use Rattle.octets.specs.Writing.{word}
 use Rattle.kinds.specs.Kinds.{unsigned}
-use Rattle.writing.specs.declared.Turn.the-variants as wants
-use Rattle.writing.specs.Writer.{does}
-use Rattle.writing.specs.Answers.{leaves}
-use Rattle.writing.proofs.Tests.{same-put, gave}
+use Rattle.writer.specs.declared.Wanted.the-variants as wants
+use Rattle.writer.specs.Writer.{does}
+use Rattle.writer.specs.Answers.{callLeaves}
+use Rattle.writer.proofs.Tests.{same-put, gave}
 use Rattle.writing.proofs.finish.Statement.{statement}
 use Rattle.writing.proofs.finish.Tie as tie
 
 returns : tie.Need-returns
-unfolding leaves does
+unfolding callLeaves does
 returns c =
     let g = c .before .before in
     let w = g .before .before .before .before in

@@ -10,24 +10,24 @@ use denote.Ref.{now}
 use lib.ListN.{length, replicate, length-replicate}
 use Rattle.octets.specs.Writing.{over}
 use Rattle.layouts.specs.Book.{bookIn}
-use Rattle.fields.specs.Answers.{says}
-use Rattle.fields.specs.declared.Fault.{Fault}
-use Rattle.fields.specs.declared.Fault.the-variants.{None, Is}
-use Rattle.writing.specs.declared.State.{State}
-use Rattle.writing.specs.declared.Answer.the-variants.{Done, Refused}
-use Rattle.writing.specs.Writer.{room, isOpen, between, does, giveUp, early}
-use Rattle.writing.specs.Answers.{left, leaves}
-use Rattle.writing.proofs.Bounds.{bounds}
-use Rattle.writing.proofs.Tests.{stopped, passed, ready, leaves-put}
+use Rattle.writing_parts.specs.Answers.{says}
+use Rattle.writing_parts.specs.declared.Fault.{Fault}
+use Rattle.writing_parts.specs.declared.Fault.the-variants as faults
+use Rattle.writer.specs.declared.State.{State}
+use Rattle.writer.specs.declared.Answer.the-variants.{Done, Refused}
+use Rattle.writer.specs.Writer.{room, isOpen, between, does, giveUp, early}
+use Rattle.writer.specs.Answers.{left, callLeaves}
+use Rattle.writer.proofs.Bounds.{bounds}
+use Rattle.writer.proofs.Tests.{stopped, passed, ready, leaves-put}
 use Rattle.writing.proofs.give_up.Statement.{statement}
 use Rattle.writing.proofs.give_up.Tie as tie
 
 module _ (s : State) (b l : List ℕ) (used : ℕ) (r : Fault) (mine : Bool) (is : says r ≡ early s (length b) l used mine) (own : mine ≡ isOpen (s .turn)) where
-  first : (k : ℕ) → r ≡ Is k → left (Refused k (s .place)) b l ≡ leaves s b l used giveUp
-  unfolding leaves does
+  first : (k : ℕ) → r ≡ faults.Refused k → left (Refused k (s .place)) b l ≡ callLeaves s b l used giveUp
+  unfolding callLeaves does
   first = stopped s b l used (does s b (bookIn l used) giveUp) r mine is own
 
-  module _ (e : r ≡ None) where
+  module _ (e : r ≡ faults.None) where
     within : (s .start ≤ s .place) × (s .place ≤ room (length b))
     within =
         let k = ready s (length b) l used mine (sym is ∙ ap says e) in
@@ -39,8 +39,8 @@ module _ (s : State) (b l : List ℕ) (used : ℕ) (r : Fault) (mine : Bool) (is
     unfolding room
     inside = let w = within in omega arith
 
-    done : {y : List ℕ} → y ≡ over b (s .start) (replicate (s .place - s .start) 0) → left (Done (between (s .start) (s .rows)) used) y l ≡ leaves s b l used giveUp
-    unfolding leaves does
+    done : {y : List ℕ} → y ≡ over b (s .start) (replicate (s .place - s .start) 0) → left (Done (between (s .start) (s .rows)) used) y l ≡ callLeaves s b l used giveUp
+    unfolding callLeaves does
     done g =
         let w = within in
         let long = length-replicate {A = ℕ} (s .place - s .start) 0 in

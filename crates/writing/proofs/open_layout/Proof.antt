@@ -3,15 +3,15 @@ use borrow.Author.Needs.{needs}
 use mathlib.Core.Path.{refl}
 use mathlib.Core.List.{append-nil}
 use denote.Ref.{now}
-use Rattle.writing.specs.declared.Turn.the-variants as wants
-use Rattle.writing.specs.Writer.{does}
-use Rattle.writing.specs.Answers.{leaves}
-use Rattle.writing.proofs.Tests.{same-put, gave}
+use Rattle.writer.specs.declared.Wanted.the-variants as wants
+use Rattle.writer.specs.Writer.{does}
+use Rattle.writer.specs.Answers.{callLeaves}
+use Rattle.writer.proofs.Tests.{same-put, gave}
 use Rattle.writing.proofs.open_layout.Statement.{statement}
 use Rattle.writing.proofs.open_layout.Tie as tie
 
 returns : tie.Need-returns
-unfolding leaves does
+unfolding callLeaves does
 returns c =
     let g = c .before .before in
     let a = g .before .before .before .before .before .args in

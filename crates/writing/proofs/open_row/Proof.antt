@@ -12,37 +12,37 @@ use Rattle.octets.proofs.Spans.{each-octet}
 use Rattle.layouts.specs.Book.{find, bookIn, IsBook}
 use Rattle.layouts.proofs.Checks.{good-book}
 use Rattle.rows.specs.Row.{lengthImage}
-use Rattle.fields.specs.Answers.{says}
-use Rattle.fields.specs.declared.Fault.{Fault}
-use Rattle.fields.specs.declared.Fault.the-variants.{None, Is}
-use Rattle.writing.specs.declared.Turn.the-variants as wants
-use Rattle.writing.specs.declared.State.{State}
-use Rattle.writing.specs.declared.Answer.the-variants.{Refused}
-use Rattle.writing.specs.Writer.{room, sameTurn, fine, known, put, does, openRow, early}
-use Rattle.writing.specs.Answers.{Left, left, leavesOn, leaves}
-use Rattle.writing.proofs.Bounds.{bounds}
-use Rattle.writing.proofs.Tests.{stopped, passed, at-ready, same-put}
+use Rattle.writing_parts.specs.Answers.{says}
+use Rattle.writing_parts.specs.declared.Fault.{Fault}
+use Rattle.writing_parts.specs.declared.Fault.the-variants as faults
+use Rattle.writer.specs.declared.Wanted.the-variants as wants
+use Rattle.writer.specs.declared.State.{State}
+use Rattle.writer.specs.declared.Answer.the-variants.{Refused}
+use Rattle.writer.specs.Writer.{room, sameTurn, fine, inBook, put, does, openRow, early}
+use Rattle.writer.specs.Answers.{Left, left, restLeaves, callLeaves}
+use Rattle.writer.proofs.Bounds.{bounds}
+use Rattle.writer.proofs.Tests.{stopped, passed, at-ready, same-put}
 use Rattle.writing.proofs.open_row.Statement.{statement}
 use Rattle.writing.proofs.open_row.Tie as tie
 
 module _ (s : State) (b l : List ℕ) (used n : ℕ) (stated : Bool) (r : Fault) (mine : Bool) (is : says r ≡ early s (length b) l used mine)
     (own : mine ≡ sameTurn (s .turn) wants.Element) where
-  first : (k : ℕ) → r ≡ Is k → left (Refused k (s .place)) b l ≡ leaves s b l used (openRow n stated)
-  unfolding leaves does
+  first : (k : ℕ) → r ≡ faults.Refused k → left (Refused k (s .place)) b l ≡ callLeaves s b l used (openRow n stated)
+  unfolding callLeaves does
   first = stopped s b l used (does s b (bookIn l used) (openRow n stated)) r mine is own
 
-  module _ (e : r ≡ None) where
+  module _ (e : r ≡ faults.None) where
     asked : Each Octet l → IsBook l used × (s .place ≤ room (length b))
     unfolding does
     asked o =
         let k = at-ready s b l used (does s b (bookIn l used) (openRow n stated)) r mine is own e in
         (good-book l used o (k .book), bounds s (length b) (k .within) .place)
 
-    done : (f : Fault) {h x : List ℕ} {y : Left} → says f ≡ (known (find n (bookIn l used)) then λ _ _. fine) → h ≡ word 4 2 ++ word 4 n → x ≡ lengthImage stated 0
-        → y ≡ leavesOn s b l used (put s wants.Element (says f) (h ++ (x ++ [])) wants.Value 0 (s .place)) → y ≡ leaves s b l used (openRow n stated)
-    unfolding leaves does
+    done : (f : Fault) {h x : List ℕ} {y : Left} → says f ≡ (inBook (find n (bookIn l used)) then λ _ _. fine) → h ≡ word 4 2 ++ word 4 n → x ≡ lengthImage stated 0
+        → y ≡ restLeaves s b l used (put s wants.Element (says f) (h ++ (x ++ [])) wants.Value 0 (s .place)) → y ≡ callLeaves s b l used (openRow n stated)
+    unfolding callLeaves does
     done f i j k g =
-        g ∙ (ap (leavesOn s b l used) (same-put s wants.Element (s .place) i (rw (j, k, append-nil (lengthImage stated 0)) refl) refl refl)
+        g ∙ (ap (restLeaves s b l used) (same-put s wants.Element (s .place) i (rw (j, k, append-nil (lengthImage stated 0)) refl) refl refl)
         ∙ sym (passed s b l used (does s b (bookIn l used) (openRow n stated)) r mine is own e))
 
 returns : tie.Need-returns

@@ -4,16 +4,16 @@ use mathlib.Core.Path.{refl}
 use mathlib.Core.List.{append-assoc}
 use denote.Ref.{now}
 use lib.ListN.{length}
-use Rattle.octets.specs.Writing.{word, textImage}
-use Rattle.writing.specs.declared.Turn.the-variants as wants
-use Rattle.writing.specs.Writer.{does}
-use Rattle.writing.specs.Answers.{leaves}
-use Rattle.writing.proofs.Tests.{same-put, gave}
+use Rattle.octets.specs.Writing.{word, ledImage}
+use Rattle.writer.specs.declared.Wanted.the-variants as wants
+use Rattle.writer.specs.Writer.{does}
+use Rattle.writer.specs.Answers.{callLeaves}
+use Rattle.writer.proofs.Tests.{same-put, gave}
 use Rattle.writing.proofs.recorder.Statement.{statement}
 use Rattle.writing.proofs.recorder.Tie as tie
 
 returns : tie.Need-returns
-unfolding leaves does textImage
+unfolding callLeaves does ledImage
 returns c =
     let g = c .before .before in
     let a = g .before .before .before .before .before .args in

@@ -3,13 +3,13 @@ use borrow.Author.Needs.{needs}
 use mathlib.Core.Path.{ap, _∙_}
 use mir.Facts.{toZ-ofZ}
 use Rattle.kinds.specs.Kinds.{unsigned}
-use Rattle.writing.specs.Writer.{does}
-use Rattle.writing.specs.Answers.{leaves}
+use Rattle.writer.specs.Writer.{does}
+use Rattle.writer.specs.Answers.{callLeaves}
 use Rattle.writing.proofs.start_time.Statement.{statement}
 use Rattle.writing.proofs.start_time.Tie as tie
 
 returns : tie.Need-returns
-unfolding leaves does
+unfolding callLeaves does
 returns c =
     let g = c .before .before in
     let b = g .before in

@@ -2,9 +2,9 @@
 use borrow.Author.Needs.{needs}
 use mathlib.Core.Path.{_∙_}
 use mathlib.Core.List.{append-nil}
-use Rattle.kinds.specs.Kinds.{formOf}
-use Rattle.rows.specs.Row.{bits}
-use Rattle.writing.proofs.Values.{number-octets, number-image}
+use Rattle.kinds.specs.Kinds.{formBy}
+use Rattle.kinds.specs.Forms.{bits}
+use Rattle.giving.proofs.Values.{number-octets, number-image}
 use Rattle.writing.proofs.value_number.Statement.{statement}
 use Rattle.writing.proofs.value_number.Tie as tie
 
@@ -17,7 +17,7 @@ returns c =
     let a = u .before .before .before .args in
     let width = d .width-of .ensures in
     g .give-value .ensures (bits (a .n)) (u .suits-number .ensures)
-    (λ _. append-nil _ ∙ (number-octets (d .width-of .result) (a .n) (width .1) (w .word8 .ensures) ∙ rw (width .0) (number-image (formOf (a .b)) (a .n))))
+    (λ _. append-nil _ ∙ (number-octets (d .width-of .result) (a .n) (width .1) (w .word8 .ensures) ∙ rw (width .0) (number-image (formBy (a .b)) (a .n))))
 
 pub value-number-spec : {M : Type 1} → statement M
 value-number-spec =

@@ -7,21 +7,20 @@ use mathlib.Core.Bool.{true}
 use mathlib.Core.List.{List, _++_}
 use denote.Ref.{now}
 use lib.ListN.{length}
-use Rattle.octets.specs.Writing.{word, textImage}
+use Rattle.octets.specs.Writing.{word, ledImage}
 use Rattle.kinds.specs.declared.Form.{Form}
 use Rattle.kinds.specs.declared.Form.the-variants as form
-use Rattle.kinds.specs.Kinds.{formOf}
-use Rattle.rows.specs.Row.{held, valueImage}
-use Rattle.writing.specs.Writer.{suits}
+use Rattle.kinds.specs.Kinds.{formBy}
+use Rattle.kinds.specs.Forms.{held, valueImage}
+use Rattle.writer.specs.Writer.{suits}
 use Rattle.writing.proofs.value_octets.Statement.{statement}
 use Rattle.writing.proofs.value_octets.Tie as tie
 
 image : (f : Form) (xs : List ℕ) {h : List ℕ} → suits f (held xs) ≡ true → h ≡ word 4 (length xs) → h ++ xs ≡ valueImage f (held xs)
-unfolding textImage
+unfolding ledImage
 image (form.Fixed w) xs e h = let z : _≡_ {A = ℕ} 0 1 = cc in absurd (omega arith)
 image form.Truth xs e h = let z : _≡_ {A = ℕ} 0 1 = cc in absurd (omega arith)
-image form.Octets xs e h = rw h refl
-image form.Text xs e h = rw h refl
+image form.Led xs e h = rw h refl
 
 returns : tie.Need-returns
 returns c =
@@ -31,7 +30,7 @@ returns c =
     let a = o .before .before .before .before .args in
     let xs = now (a .xs) in
     let is = o .suits-octets .ensures xs in
-    g .give-value .ensures (held xs) is (λ q. image (formOf (a .b)) xs (sym is ∙ q) (w .word4 .ensures))
+    g .give-value .ensures (held xs) is (λ q. image (formBy (a .b)) xs (sym is ∙ q) (w .word4 .ensures))
 
 pub value-octets-spec : {M : Type 1} → statement M
 value-octets-spec =

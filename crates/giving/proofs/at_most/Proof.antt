@@ -1,0 +1,16 @@
+-- `giving::at_most` meets its contract: the test is the definition's. Assumes nothing.
+use mathlib.Core.Path.{refl}
+use borrow.Author.Tests.{le-leb, lt-leb}
+use Rattle.giving.proofs.at_most.Statement.{statement}
+use Rattle.giving.proofs.at_most.Tie as tie
+
+returns : tie.Need-returns
+returns c = rw (le-leb _ _ (c .if1 .taken)) refl
+
+returns-2 : tie.Need-returns-2
+returns-2 c = rw (lt-leb _ _ (c .if1 .left)) refl
+
+pub at-most-spec : {M : Type 1} → statement M
+at-most-spec =
+    tie.close
+    (tie.spec returns returns-2)

@@ -1,0 +1,9 @@
+-- `giving::close_fault` meets its contract, by each answer. Assumes nothing.
+use borrow.Author.Needs.{needs}
+use Rattle.giving.proofs.close_fault.Statement.{statement}
+use Rattle.giving.proofs.close_fault.Tie as tie
+
+pub close-fault-spec : {M : Type 1} → statement M
+close-fault-spec =
+    tie.close
+    (tie.spec (λ c. search needs) (λ c. search needs) (λ c. search needs) (λ c. search needs) (λ c. search needs) (λ c. search needs))

@@ -1,0 +1,17 @@
+-- `giving::type_fault` meets its contract: what the type number means. Assumes nothing.
+use borrow.Author.Needs.{needs}
+use mathlib.Core.Path.{refl, sym, ap, _∙_}
+use Rattle.kinds.specs.Answers.{kinds}
+use Rattle.giving.proofs.type_fault.Statement.{statement}
+use Rattle.giving.proofs.type_fault.Tie as tie
+
+returns : tie.Need-returns
+returns c = let m = c .before in rw (sym (m .before .before .kind-of .ensures 0 0) ∙ ap (kinds 0 0) (m .typed .given .1)) refl
+
+returns-2 : tie.Need-returns-2
+returns-2 c = let m = c .before in rw (sym (m .before .before .kind-of .ensures 0 0) ∙ ap (kinds 0 0) (m .typed2 .given .1)) refl
+
+pub type-fault-spec : {M : Type 1} → statement M
+type-fault-spec =
+    tie.close
+    (tie.spec (λ c κs. search needs) (λ c. search needs) (λ c. search needs) returns returns-2)

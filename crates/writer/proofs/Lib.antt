@@ -1,0 +1,5 @@
+pub mod Scripts
+pub mod Bounds
+pub mod Tests
+pub mod Calls
+pub mod Kept

@@ -1,0 +1,14 @@
+-- Every script answers and leaves what it says: the definition is run. Assumes nothing.
+use mathlib.Core.Path.{_≡_, refl}
+use mathlib.Core.Bool.{true}
+use Rattle.octets.specs.Reading.{be, part, numberIn, ledIn, count, run}
+use Rattle.octets.specs.Writing.{word, ledImage, images, over}
+use Rattle.kinds.specs.Kinds.{among, basicOf, kindAt}
+use Rattle.layouts.specs.Layout.{attributeAt, layoutAt, attributeImage, layoutImage}
+use Rattle.layouts.specs.Book.{find, layoutsAt, bookOf, bookIn}
+use Rattle.writer.specs.Writer.{room, bounded, rowLayout, does, layoutSoFar, early, tried, deedAnswer, call}
+use Rattle.writer.specs.Cases.{play, plays, scripts}
+
+pub all-play : plays scripts ≡ true
+unfolding be part numberIn ledIn count run word ledImage images over among basicOf kindAt attributeAt layoutAt attributeImage layoutImage find layoutsAt bookOf bookIn room bounded rowLayout does layoutSoFar early tried deedAnswer call play plays scripts
+all-play = refl

@@ -1,0 +1,310 @@
+-- The writer: what one call answers and leaves, from every state whatever.
+use Prim.Native.Nat.{ℕ, _+_, _-_, _^_, min}
+use mathlib.Core.List.{List, [], _∷_, _++_}
+use mathlib.Core.Bool.{Bool, true, false, _&&_}
+use mathlib.Core.Option.{Option, some, none}
+use lib.ListN.{length, drop, replicate}
+use lib.Dec.{leb, ltb, eqb}
+use Rattle.octets.specs.Limits.{longest, mostRows, mostAttributes, mostListed}
+use Rattle.octets.specs.Reading.{Read, ok, no, _then_, choose, be, part}
+use Rattle.octets.specs.Writing.{word, ledImage, over}
+use Rattle.kinds.specs.declared.Basic.{Basic}
+use Rattle.kinds.specs.declared.Form.{Form}
+use Rattle.kinds.specs.declared.Form.the-variants as form
+use Rattle.kinds.specs.declared.Value as given
+use Rattle.kinds.specs.Kinds.{codeOf, formBy, kindOf}
+use Rattle.kinds.specs.Values.{basicOfValue, bitsOfValue}
+use Rattle.layouts.specs.Layout.{Attribute, Layout}
+use Rattle.layouts.specs.Book.{Book, find, bookOf, bookIn}
+use Rattle.rows.specs.Row.{lengthImage}
+use Rattle.kinds.specs.Forms.{Value, bits, held, valueImage}
+use Rattle.writing_parts.specs.Answers.{learningOf, refusal, added}
+use Rattle.writer.specs.declared.Wanted.{Wanted}
+use Rattle.writer.specs.declared.Wanted.the-variants as wants
+use Rattle.writer.specs.declared.State.{State}
+use Rattle.writer.specs.declared.Rule.{Rule}
+
+-- A call: a field in image order, each count ahead of what it counts; an element opened or closed; the open one given up; the finish.
+pub data Call : Type 0 where
+  recorder : List ℕ → Call
+  startTime : ℕ → Call
+  defaultNamespace : List ℕ → Call
+  namespaceCount : ℕ → Call
+  uri : List ℕ → Call
+  shortName : List ℕ → Call
+  serviceCount : ℕ → Call
+  service : List ℕ → Call
+  documentId : List ℕ → Call
+  openLayout : ℕ → Call
+  typeName : List ℕ → Call
+  attributeCount : ℕ → Call
+  attributeName : List ℕ → Call
+  attributeType : ℕ → Call
+  openRow : ℕ → Bool → Call
+  value : Basic → Value → Call
+  closeRow : Call
+  giveUp : Call
+  finish : ℕ → Call
+
+-- A value of a form, by its number's bits and its octets, of which the form has one.
+abbrev pub inForm : Form → ℕ → List ℕ → Value
+inForm (form.Fixed w) n xs = bits n
+inForm form.Truth n xs = bits n
+inForm form.Led n xs = held xs
+
+-- The call that gives a value as reading hands it out, with its octets beside it.
+abbrev pub valueCall : given.Value → List ℕ → Call
+valueCall v xs = value (basicOfValue v) (inForm (formBy (basicOfValue v)) (bitsOfValue v) xs)
+
+-- What an accepted call leaves: the state and used count that it answers, the whole buffer and the whole book.
+pub record Written : Type 0 where
+  pub state : State
+  pub buffer : List ℕ
+  pub book : List ℕ
+  pub used : ℕ
+
+-- A fresh state, from which the image is promised.
+abbrev pub fresh : State
+fresh = record { place = 0; turn = wants.Recorder; count = 0; start = 0; rows = 0 }
+
+-- Room is the lesser of the buffer and 1,048,576.
+unfoldable pub room : ℕ → ℕ
+room size = min size longest
+
+-- The first octets of an open layout, its kind and number; of an open row its length too; none where no element is open.
+abbrev pub layoutHead : ℕ
+layoutHead = 8
+
+abbrev pub rowHead : ℕ
+rowHead = 12
+
+abbrev pub noHead : ℕ
+noHead = 0
+
+-- What a turn asks of a state: the least and the most of its count, and the first octets of what is open. A list's turn has something to come, and no more than its limit; elsewhere the greatest limit bounds the count.
+abbrev pub listed : ℕ → ℕ → Rule
+listed most head = record { least = 1; most = most; head = head }
+
+abbrev pub single : ℕ → Rule
+single head = record { least = 0; most = mostAttributes; head = head }
+
+abbrev pub rule : Wanted → Rule
+rule wants.Recorder = single noHead
+rule wants.StartTime = single noHead
+rule wants.DefaultNamespace = single noHead
+rule wants.NamespaceCount = single noHead
+rule wants.Uri = listed mostListed noHead
+rule wants.ShortName = listed mostListed noHead
+rule wants.ServiceCount = single noHead
+rule wants.Service = listed mostListed noHead
+rule wants.DocumentId = single noHead
+rule wants.Element = single noHead
+rule wants.TypeName = single layoutHead
+rule wants.AttributeCount = single layoutHead
+rule wants.AttributeName = listed mostAttributes layoutHead
+rule wants.AttributeType = listed mostAttributes layoutHead
+rule wants.Value = single rowHead
+rule wants.Nothing = single noHead
+
+-- A turn's place in the order of a document, by which turns are compared.
+abbrev pub orderOf : Wanted → ℕ
+orderOf wants.Recorder = 0
+orderOf wants.StartTime = 1
+orderOf wants.DefaultNamespace = 2
+orderOf wants.NamespaceCount = 3
+orderOf wants.Uri = 4
+orderOf wants.ShortName = 5
+orderOf wants.ServiceCount = 6
+orderOf wants.Service = 7
+orderOf wants.DocumentId = 8
+orderOf wants.Element = 9
+orderOf wants.TypeName = 10
+orderOf wants.AttributeCount = 11
+orderOf wants.AttributeName = 12
+orderOf wants.AttributeType = 13
+orderOf wants.Value = 14
+orderOf wants.Nothing = 15
+
+abbrev pub sameTurn : Wanted → Wanted → Bool
+sameTurn t u = eqb (orderOf t) (orderOf u)
+
+-- Whether a layout or a row is open.
+abbrev pub isOpen : Wanted → Bool
+isOpen t = ltb 0 (rule t .head)
+
+-- Refusal 20 is for a state whose place passes the room, whose counts pass the limits, or whose open layout's first 8 or row's first 12 octets pass the place; this is one that does none of it, over a buffer of so many octets.
+unfoldable pub bounded : State → ℕ → Bool
+bounded s size =
+    leb (s .place) (room size) && leb (rule (s .turn) .least) (s .count) && leb (s .count) (rule (s .turn) .most) && leb (s .rows) mostRows
+    && choose (isOpen (s .turn)) (λ _. leb (s .start + rule (s .turn) .head) (s .place)) (λ _. true)
+
+-- A test that is passed, or not by a refusal. All refusals of a call have one place, that of writing, so it is given once, by `placed` below; the tests stand at 0.
+abbrev pub fine : Read (Unit {0})
+fine = ok tt 0
+
+abbrev pub unless : Bool → ℕ → Read (Unit {0})
+unless t n = choose t (λ _. fine) (λ _. no n 0)
+
+-- What a call is: whether it is its turn, its own fault, the octets that it puts and where, the state behind it, and whether it completes a layout.
+pub record Deed : Type 0 where
+  pub in-turn : Bool
+  pub fault : Read (Unit {0})
+  pub at : ℕ
+  pub octets : List ℕ
+  pub next : State
+  pub completes : Bool
+
+-- Octets in a turn behind what is already written; the turn and the count that follow, and where the open element starts.
+abbrev pub put : State → Wanted → Read (Unit {0}) → List ℕ → Wanted → ℕ → ℕ → Deed
+put s turn fault xs next count start =
+    record {
+      in-turn = sameTurn (s .turn) turn;
+      fault = fault;
+      at = s .place;
+      octets = xs;
+      next = record { place = s .place + length xs; turn = next; count = count; start = start; rows = s .rows };
+      completes = false;
+    }
+
+-- A field of what is open, or of the header.
+abbrev pub puts : State → Wanted → Read (Unit {0}) → List ℕ → Wanted → ℕ → Deed
+puts s turn fault xs next count = put s turn fault xs next count (s .start)
+
+-- The first octets of an element, which starts at the place.
+abbrev pub opens : State → Read (Unit {0}) → List ℕ → Wanted → Deed
+opens s fault xs next = put s wants.Element fault xs next 0 (s .place)
+
+-- Between two elements.
+abbrev pub between : ℕ → ℕ → State
+between place rows = record { place = place; turn = wants.Element; count = 0; start = 0; rows = rows }
+
+-- Octets of a layout behind which so many attributes are still to come: a layout is completed by its last type, or by a count of none.
+abbrev pub attributes : State → Wanted → Read (Unit {0}) → List ℕ → ℕ → Deed
+attributes s turn fault xs left =
+    record {
+      in-turn = sameTurn (s .turn) turn;
+      fault = fault;
+      at = s .place;
+      octets = xs;
+      next = choose (eqb left 0) (λ _. between (s .place + length xs) (s .rows))
+          (λ _. record { place = s .place + length xs; turn = wants.AttributeName; count = left; start = s .start; rows = s .rows });
+      completes = eqb left 0;
+    }
+
+-- The turn of a list with something still to come, else the turn behind it.
+abbrev pub turnAt : ℕ → Wanted → Wanted → Wanted
+turnAt n more behind = choose (eqb n 0) (λ _. behind) (λ _. more)
+
+-- The count of a list of the header, and the last string of an item of it: one less is to come.
+abbrev pub counts : State → Wanted → ℕ → Wanted → Wanted → Deed
+counts s turn n more behind = puts s turn (unless (leb n mostListed) 4) (word 4 n) (turnAt n more behind) n
+
+abbrev pub lists : State → Wanted → List ℕ → Wanted → Wanted → Deed
+lists s turn xs more behind = puts s turn fine (ledImage xs) (turnAt (s .count - 1) more behind) (s .count - 1)
+
+-- Refusal 12: a layout that is not in the book.
+abbrev pub inBook : Option Layout → Read Layout
+inBook (some l) = ok l 0
+inBook none = no 12 0
+
+-- The open row's layout, by the number that stands in the row.
+unfoldable pub rowLayout : State → List ℕ → Book → Read Layout
+rowLayout s buffer book = inBook (find (be 4 buffer (s .start + 4)) book)
+
+-- A value that a form has an image for: a number that fits its octets, a boolean that is 0 or 1, octets behind a length.
+abbrev pub suits : Form → Value → Bool
+suits (form.Fixed w) (bits n) = ltb n (256 ^ w)
+suits (form.Fixed w) (held xs) = false
+suits form.Truth (bits n) = leb n 1
+suits form.Truth (held xs) = false
+suits form.Led (bits n) = false
+suits form.Led (held xs) = true
+
+-- Refusal 21 is for a value whose kind is not the next field's basic type, or with no field left; this is one of that type, over the fields left.
+abbrev pub isNext : List Attribute → Basic → Value → Bool
+isNext [] b v = false
+isNext (a ∷ rest) b v = eqb (codeOf (a .kind .basic)) (codeOf b) && suits (formBy b) v
+
+-- Each call. Version, the four octets FF and the end count are the writer's own. Refusals 4, 5, 8, 9 and 12 are as in reading, then 21 for a value, 22 for a row closed with fields missing.
+-- A stated row length stands as zero until the row is closed. Giving up sets the open element's octets to zero and moves the place back to its start; its row is not counted.
+unfoldable pub does : State → List ℕ → Book → Call → Deed
+does s buffer book (recorder xs) = puts s wants.Recorder fine (word 4 4 ++ ledImage xs) wants.StartTime 0
+does s buffer book (startTime n) = puts s wants.StartTime fine (word 8 n) wants.DefaultNamespace 0
+does s buffer book (defaultNamespace xs) = puts s wants.DefaultNamespace fine (ledImage xs) wants.NamespaceCount 0
+does s buffer book (namespaceCount n) = counts s wants.NamespaceCount n wants.Uri wants.ServiceCount
+does s buffer book (uri xs) = puts s wants.Uri fine (ledImage xs) wants.ShortName (s .count)
+does s buffer book (shortName xs) = lists s wants.ShortName xs wants.Uri wants.ServiceCount
+does s buffer book (serviceCount n) = counts s wants.ServiceCount n wants.Service wants.DocumentId
+does s buffer book (service xs) = lists s wants.Service xs wants.Service wants.DocumentId
+does s buffer book (documentId xs) =
+    puts s wants.DocumentId (unless (eqb (length xs) 16) 5) (word 4 16 ++ xs ++ word 4 0xffffffff) wants.Element 0
+does s buffer book (openLayout n) = opens s fine (word 4 1 ++ word 4 n) wants.TypeName
+does s buffer book (typeName xs) = puts s wants.TypeName fine (ledImage xs) wants.AttributeCount 0
+does s buffer book (attributeCount n) = attributes s wants.AttributeCount (unless (leb n mostAttributes) 4) (word 4 n) n
+does s buffer book (attributeName xs) = puts s wants.AttributeName fine (ledImage xs) wants.AttributeType (s .count)
+does s buffer book (attributeType t) =
+    attributes s wants.AttributeType (kindOf 0 t 0 then λ _ _. fine) (word 4 t) (s .count - 1)
+does s buffer book (openRow n stated) =
+    opens s (inBook (find n book) then λ _ _. fine) (word 4 2 ++ word 4 n ++ lengthImage stated 0) wants.Value
+does s buffer book (value b v) =
+    puts s wants.Value (rowLayout s buffer book then λ l _. unless (isNext (drop (s .count) (l .attributes)) b v) 21)
+    (valueImage (formBy b) v) wants.Value (s .count + 1)
+does s buffer book closeRow =
+    record {
+      in-turn = sameTurn (s .turn) wants.Value;
+      fault = rowLayout s buffer book then λ l _. unless (leb (length (l .attributes)) (s .count)) 22;
+      at = s .start + 8;
+      octets = lengthImage (ltb (be 4 buffer (s .start + 8)) 0xffffffff) (s .place - (s .start + 12));
+      next = between (s .place) (s .rows + 1);
+      completes = false;
+    }
+does s buffer book giveUp =
+    record {
+      in-turn = isOpen (s .turn);
+      fault = fine;
+      at = s .start;
+      octets = replicate (s .place - s .start) 0;
+      next = between (s .start) (s .rows);
+      completes = false;
+    }
+does s buffer book (finish n) = puts s wants.Element fine (word 4 3 ++ word 4 (s .rows) ++ word 8 n) wants.Nothing 0
+
+-- What the book takes of the octets of a layout that a call completes, or its refusal, 10 or 11.
+abbrev pub addition : Bool → Book → ℕ → List ℕ → Read (List ℕ)
+addition false book used xs = ok [] 0
+addition true book used xs = refusal (learningOf book used xs) then λ _ _. ok (added (learningOf book used xs) xs) 0
+
+-- The octets of the open layout from its number on, with those of the call behind them.
+unfoldable pub layoutSoFar : State → List ℕ → List ℕ → List ℕ
+layoutSoFar s buffer xs = part buffer (s .start + 4) (s .place - (s .start + 4)) ++ xs
+
+-- First 17, for the book; then 20, for a state out of its bounds or a call out of turn.
+unfoldable pub early : State → ℕ → List ℕ → ℕ → Bool → Read (Unit {0})
+early s size lent used mine = bookOf lent used then λ _ _. unless (bounded s size && mine) 20
+
+-- Then the call's own fault; 10 and 11 where it completes a layout; last 23, its octets do not fit in the room. All else is accepted.
+unfoldable pub tried : State → List ℕ → List ℕ → ℕ → Deed → Read Written
+tried s buffer lent used d =
+    d .fault then λ _ _.
+    addition (d .completes) (bookIn lent used) used (layoutSoFar s buffer (d .octets)) then λ new _.
+    unless (leb (d .at + length (d .octets)) (room (length buffer))) 23 then λ _ _.
+    ok (record { state = d .next; buffer = over buffer (d .at) (d .octets); book = over lent used new; used = used + length new }) (d .next .place)
+
+-- A refusal's place is the place of writing.
+abbrev pub placed : {A : Type 0} → ℕ → Read A → Read A
+placed at (ok a next) = ok a next
+placed at (no n p) = no n at
+
+-- What comes of a deed.
+unfoldable pub deedAnswer : State → List ℕ → List ℕ → ℕ → Deed → Read Written
+deedAnswer s buffer lent used d =
+    placed (s .place) (early s (length buffer) lent used (d .in-turn) then λ _ _. tried s buffer lent used d)
+
+-- One call: the state, the buffer, the lent book and how much of it is used, and what is given.
+unfoldable pub call : State → List ℕ → List ℕ → ℕ → Call → Read Written
+call s buffer lent used c = deedAnswer s buffer lent used (does s buffer (bookIn lent used) c)
+
+-- Calls in order, each given what the one before answered, to the first refusal.
+unfoldable pub runCalls : List Call → Written → Read Written
+runCalls [] w = ok w (w .state .place)
+runCalls (c ∷ rest) w = call (w .state) (w .buffer) (w .book) (w .used) c then λ v _. runCalls rest v
