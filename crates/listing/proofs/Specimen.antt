@@ -16,5 +16,7 @@ use Rattle.promises.specs.Specimen.{specimen, shorts}
 use Rattle.listing.specs.Specimen.{Printed}
 
 pub printed : Printed
-unfolding specimen shorts be part numberIn octetsIn textIn count exactly run word textImage images among basicOf signed kindAt attributeAt layoutAt attributeImage layoutImage find bookImage learn valueIn fieldsIn valuesAt rowAt namespaceAt idAt headerFrom headerAt finishAt elementAt walk through digits filled yearDays monthDays spanOf dateAfter momentText timeText
+unfolding specimen shorts be part numberIn octetsIn textIn count exactly run word textImage images among basicOf signed kindAt attributeAt layoutAt
+    attributeImage layoutImage find bookImage learn valueIn fieldsIn valuesAt rowAt namespaceAt idAt headerFrom headerAt finishAt elementAt walk through
+    digits filled yearDays monthDays spanOf dateAfter momentText timeText
 printed = record { five = refl; rest = refl; short = refl }

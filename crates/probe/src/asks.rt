@@ -149,7 +149,7 @@ fn value<'d, 'b, 'o>(
         Fielded::Is(is, value) => {
             let to = kind(out, n, b"field ", is);
             let gap = printing::octet(out, to, b' ');
-            values::value(out, gap, value)
+            printing::value(out, gap, value)
         }
     }
 }
