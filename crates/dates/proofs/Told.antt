@@ -1,5 +1,6 @@
 -- A time is told by its text: no two times have the same.
 use Prim.Native.Nat.{ℕ, _+_, _-_, _*_, _/_, _%_, _^_, _≤_, _<_}
+use Prim.Native.Char.{code}
 use mathlib.Core.Path.{_≡_, refl, sym, ap, _∙_}
 use mathlib.Core.List.{List, [], _∷_, _++_}
 use mathlib.Core.Bool.{Bool, true, false, cond}
@@ -11,7 +12,7 @@ use mir.Syntax.{w64}
 use mir.Val.{SFits}
 use borrow.Author.Tests.{ne-eqb, leb-true}
 use Rattle.octets.specs.Reading.{choose}
-use Rattle.printing.specs.Text.{decimal, filled}
+use Rattle.printing.specs.Text.{spelt, decimal, filled}
 use Rattle.printing.proofs.Digits.{total, filled-tells, digits-tell, digits-lead}
 use Rattle.dates.specs.Calendar.{yearsDays, monthsDays, dateAfter}
 use Rattle.dates.specs.Times.{momentText, timeText}
@@ -30,7 +31,8 @@ momentOf x = instant (digitsAt x 0 4) (digitsAt x 5 2) (digitsAt x 8 2) (digitsA
 
 abbrev stamp : ℕ → ℕ → ℕ → ℕ → ℕ → ℕ → ℕ → List ℕ
 stamp a b c d e f g =
-    (filled 4 a ++ (45 ∷ (filled 2 b ++ 45 ∷ filled 2 c))) ++ ((84 ∷ (filled 2 d ++ (58 ∷ (filled 2 e ++ 58 ∷ filled 2 f)))) ++ (46 ∷ (filled 3 g ++ 90 ∷ [])))
+    (filled 4 a ++ (spelt "-" ++ (filled 2 b ++ (spelt "-" ++ filled 2 c))))
+    ++ ((spelt "T" ++ (filled 2 d ++ (spelt ":" ++ (filled 2 e ++ (spelt ":" ++ filled 2 f))))) ++ (spelt "." ++ (filled 3 g ++ spelt "Z")))
 
 stamped : (a b c d e f g : ℕ) → a < 10000 → b < 100 → c < 100 → d < 100 → e < 100 → f < 100 → g < 1000
     → momentOf (stamp a b c d e f g) ≡ instant a b c d e f g
@@ -63,13 +65,13 @@ moment-told t h =
 abbrev pub timeOf : List ℕ → ℤ
 timeOf [] = pos 0
 timeOf (x ∷ []) = pos 0
-timeOf (x ∷ y ∷ rest) = cond (eqb x 64) (cond (eqb y 45) (negsuc (total 0 rest - 1)) (pos (total 0 (y ∷ rest)))) (pos (momentOf (x ∷ y ∷ rest)))
+timeOf (x ∷ y ∷ rest) = cond (eqb x (code "@")) (cond (eqb y (code "-")) (negsuc (total 0 rest - 1)) (pos (total 0 (y ∷ rest)))) (pos (momentOf (x ∷ y ∷ rest)))
 
-late : (t : ℕ) → t < 10 ^ 20 → timeOf (64 ∷ decimal t) ≡ pos t
+late : (t : ℕ) → t < 10 ^ 20 → timeOf (spelt "@" ++ decimal t) ≡ pos t
 late t h =
     let l = digits-lead 19 t in
     let same : decimal t ≡ l .lead ∷ l .rest = l .is in
-    ap (λ (xs : List ℕ). timeOf (64 ∷ xs)) same
+    ap (λ (xs : List ℕ). timeOf (spelt "@" ++ xs)) same
     ∙ rw (ne-eqb (l .lead) 45 (λ e. omega (arith, l .digit, e))) (ap pos (ap (total 0) (sym same) ∙ digits-tell 20 t h))
 
 dated : (t : ℕ) → t ≤ 253402300799999 → timeOf (momentText t) ≡ pos t
@@ -80,7 +82,7 @@ pub told : (z : ℤ) → SFits w64 z → timeOf (timeText z) ≡ z
 unfolding timeText
 told (pos t) f = go (leb t 253402300799999) refl
   where
-    go : (b : Bool) → leb t 253402300799999 ≡ b → timeOf (choose b (λ _. momentText t) (λ _. 64 ∷ decimal t)) ≡ pos t
+    go : (b : Bool) → leb t 253402300799999 ≡ b → timeOf (choose b (λ _. momentText t) (λ _. spelt "@" ++ decimal t)) ≡ pos t
     go true e = dated t (leb-true t 253402300799999 e)
     go false e = late t (omega (arith, f .sfits))
 told (negsuc n) f = ap negsuc (ap (λ (k : ℕ). k - 1) (digits-tell 20 (n + 1) (omega (arith, f .sfits))) ∙ omega arith)

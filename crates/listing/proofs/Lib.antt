@@ -1,5 +1,3 @@
-pub mod Words
-pub mod Stepping
 pub mod Passed
 pub mod Heads
 pub mod Specimen

@@ -38,7 +38,8 @@ use Rattle.walks.proofs.Lents.{Carried, carried-lent, carried-bears, carried-ol
 use Rattle.printing.specs.Text.{Prints}
 use Rattle.printing.proofs.Puts as puts
 use Rattle.printing.proofs.Puts.{images-append, then, says, images-none, images-one}
-use Rattle.listing.specs.Lines.{endText, refusalText, elementText, stopText, linesOf}
+use Rattle.lines.specs.Lines.{endText, refusalText, elementText}
+use Rattle.listing.specs.Listing.{stopText, linesOf}
 
 abbrev line : Placed → List ℕ
 line p = elementText (p .place) (p .element)

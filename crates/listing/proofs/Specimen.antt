@@ -1,11 +1,12 @@
 -- The lines that the scope has proved of the specimen, computed.
 use mathlib.Core.Path.{refl}
-use Rattle.octets.specs.Reading.{be, part, numberIn, octetsIn, textIn, count, exactly, run}
-use Rattle.octets.specs.Writing.{word, textImage, images}
+use Rattle.octets.specs.Reading.{be, part, numberIn, ledIn, count, exactly, run}
+use Rattle.octets.specs.Writing.{word, ledImage, images}
 use Rattle.kinds.specs.Kinds.{among, basicOf, signed, kindAt}
 use Rattle.layouts.specs.Layout.{attributeAt, layoutAt, attributeImage, layoutImage}
 use Rattle.layouts.specs.Book.{find, bookImage, learn}
-use Rattle.rows.specs.Row.{valueIn, fieldsIn, valuesAt, rowAt}
+use Rattle.rows.specs.Row.{fieldsIn, valuesAt, rowAt}
+use Rattle.kinds.specs.Forms.{valueIn}
 use Rattle.headers.specs.Header.{namespaceAt, idAt, headerFrom, headerAt}
 use Rattle.elements.specs.Element.{finishAt, elementAt}
 use Rattle.elements.specs.Walk.{walk, through}
@@ -16,5 +17,7 @@ use Rattle.promises.specs.Specimen.{specimen, shorts}
 use Rattle.listing.specs.Specimen.{Printed}
 
 pub printed : Printed
-unfolding specimen shorts be part numberIn octetsIn textIn count exactly run word textImage images among basicOf signed kindAt attributeAt layoutAt attributeImage layoutImage find bookImage learn valueIn fieldsIn valuesAt rowAt namespaceAt idAt headerFrom headerAt finishAt elementAt walk through digits filled yearDays monthDays spanOf dateAfter momentText timeText
+unfolding specimen shorts be part numberIn ledIn count exactly run word ledImage images among basicOf signed kindAt attributeAt layoutAt
+    attributeImage layoutImage find bookImage learn valueIn fieldsIn valuesAt rowAt namespaceAt idAt headerFrom headerAt finishAt elementAt walk through
+    digits filled yearDays monthDays spanOf dateAfter momentText timeText
 printed = record { five = refl; rest = refl; short = refl }

@@ -7,7 +7,7 @@ use Rattle.layouts.specs.Layout.{Attribute, Layout}
 use Rattle.elements.specs.Walk.{spotAt, through}
 use Rattle.printing.specs.Text.{spelt}
 use Rattle.promises.specs.Specimen.{specimen, shorts}
-use Rattle.listing.specs.Lines.{linesOf, listing}
+use Rattle.listing.specs.Listing.{linesOf, listing}
 
 -- Its layout.
 abbrev u : Attribute

@@ -13,6 +13,7 @@ use Rattle.printing.proofs.named as named
 use Rattle.printing.proofs.hex as hex
 use Rattle.printing.proofs.refused as refused
 use Rattle.printing.proofs.truth as truth
+use Rattle.printing.proofs.value as value
 
 pub record Contracts : Type 0 where
   pub of-flush : Once flush.Kinds.ps flush.Kinds.r flush.Reads.Pre flush.Reads.Post
@@ -25,6 +26,7 @@ pub record Contracts : Type 0 where
   pub of-hex : Once hex.Kinds.ps hex.Kinds.r hex.Reads.Pre hex.Reads.Post
   pub of-refused : Once refused.Kinds.ps refused.Kinds.r refused.Reads.Pre refused.Reads.Post
   pub of-truth : Once truth.Kinds.ps truth.Kinds.r truth.Reads.Pre truth.Reads.Post
+  pub of-value : Once value.Kinds.ps value.Kinds.r value.Reads.Pre value.Reads.Post
 
 pub contracts : Contracts
 contracts =
@@ -39,4 +41,5 @@ contracts =
       of-hex = λ κs a p x y u v e f. let q = one-print e f in (q .1, q .0 also refl);
       of-refused = λ κs a p x y u v e f. let q = one-print e f in (q .1, q .0 also refl);
       of-truth = λ κs a p x y u v e f. let q = one-print e f in (q .1, q .0 also refl);
+      of-value = λ κs a p x y u v e f. let q = one-print e f in (q .1, q .0 also refl);
     }

@@ -60,8 +60,8 @@ isPlain x = leb 0x21 x && (leb x 0x7e && not (eqb x 0x25))
 -- How an octet is shown: as it is, as two lower-case hex digits, or, where it does not stand for itself, as "%" and two capital ones.
 abbrev pub shown : Show → ℕ → List ℕ
 shown Plain x = x ∷ []
-shown Hex x = pair 97 x
-shown Escaped x = cond (isPlain x) (x ∷ []) (37 ∷ pair 65 x)
+shown Hex x = pair (code "a") x
+shown Escaped x = cond (isPlain x) (x ∷ []) (spelt "%" ++ pair (code "A") x)
 
 -- Octets shown one after another.
 abbrev pub showing : Show → List ℕ → List ℕ
@@ -84,11 +84,11 @@ filled (suc k) n = filled k (n / 10) ++ (48 + n % 10) ∷ []
 -- A signed number in decimal, with "-" before a negative one.
 abbrev pub signed : ℤ → List ℕ
 signed (pos n) = decimal n
-signed (negsuc n) = 45 ∷ decimal (n + 1)
+signed (negsuc n) = spelt "-" ++ decimal (n + 1)
 
 abbrev pub truth : Bool → List ℕ
-truth true = 49 ∷ []
-truth false = 48 ∷ []
+truth true = spelt "1"
+truth false = spelt "0"
 
 -- A refusal's number and place.
 abbrev pub refusal : ℕ → ℕ → List ℕ

@@ -5,7 +5,9 @@ ghost use mathlib.Core.List.{[], _∷_, _++_};
 ghost use Prim.Native.Nat.{_≤_, _<_};
 ghost use lib.ListN.{length, drop};
 ghost use Rattle.octets.specs.Writing.{word};
-ghost use Rattle.printing.specs.Text.{Prints, digit, pair, isPlain, shown, showing, decimal, filled, signed, truth, refusal};
+ghost use Rattle.printing.specs.Text.{spelt, Prints, digit, pair, isPlain, shown, showing, decimal, filled, signed, truth, refusal};
+ghost use Rattle.printing.specs.Values.{valueText};
+use kinds::Value;
 
 // How octets are shown: as they are, as hex digits, or as a string with escapes.
 pub enum Show {
@@ -192,4 +194,34 @@ pub fn truth(out: &mut [u8], n: usize, b: bool) -> usize
         return octet(out, n, b'1');
     }
     octet(out, n, b'0')
+}
+
+// Bits kept as they are: "x" and the hex digits of their octets.
+fn bits(out: &mut [u8], n: usize, w: usize, v: u64) -> usize
+    requires { ⌜ w ≤ 8 ⌝ }
+    ensures { λ r. ⌜ Prints (now (out .entry)) n (spelt "x" ++ showing Show.Hex (word w v)) (now (out .exit)) r ⌝ }
+{
+    let to = octet(out, n, b'x');
+    hex(out, to, w, v)
+}
+
+// A value that is a number; "-" for octets, which stand in the document.
+pub fn value(out: &mut [u8], n: usize, v: Value) -> usize
+    ensures { λ r. ⌜ Prints (now (out .entry)) n (valueText v) (now (out .exit)) r ⌝ }
+{
+    match v {
+        Value::Int(x) => signed(out, n, x as i64),
+        Value::UnsignedInt(x) => decimal(out, n, x as u64),
+        Value::Long(x) => signed(out, n, x),
+        Value::UnsignedLong(x) => decimal(out, n, x),
+        Value::Float(x) => bits(out, n, 4, x as u64),
+        Value::Double(x) => bits(out, n, 8, x),
+        Value::HexBinary => octet(out, n, b'-'),
+        Value::String => octet(out, n, b'-'),
+        Value::Boolean(x) => truth(out, n, x),
+        Value::Byte(x) => signed(out, n, x as i64),
+        Value::UnsignedByte(x) => decimal(out, n, x as u64),
+        Value::Short(x) => signed(out, n, x as i64),
+        Value::UnsignedShort(x) => decimal(out, n, x as u64),
+    }
 }

@@ -1,18 +1,13 @@
 // The probe: commands on standard input, a line for the answer of each entry point.
 
-mod asks;
-mod input;
-mod lines;
-mod pens;
-mod sum;
-
-use asks::Asked;
-use input::Fed;
-use input::Feed;
-use input::Taken;
-use pens::Pen;
-use pens::Penned;
 use printing::Show;
+use probe_input::Args;
+use probe_input::Fed;
+use probe_input::Feed;
+use probe_input::Given;
+use probe_reads::Asked;
+use probe_writes::Pen;
+use probe_writes::Penned;
 
 // How much is lent to the reader, the writer's pen, and how much waits to be written.
 pub struct Desk {
@@ -23,7 +18,14 @@ pub struct Desk {
 }
 
 pub enum Turned {
-    On(Desk, Feed),
+    On(Desk),
+    Bad,
+}
+
+// A command's letter, its arguments and what is to be taken behind it.
+pub enum Command {
+    Is(u8, Args, usize, Feed),
+    End,
     Bad,
 }
 
@@ -33,101 +35,76 @@ pub enum Next {
     Over(usize),
 }
 
+// The command D.
+fn document(doc: &mut [u8], desk: Desk, xs: &[u8]) -> Turned {
+    probe_input::put(doc, 0, xs);
+    let pen = desk.pen;
+    Turned::On(Desk {
+        doc: xs.len(),
+        book: desk.book,
+        pen,
+        to: desk.to,
+    })
+}
+
+// The command B.
+fn lent_book(book: &mut [u8], desk: Desk, xs: &[u8]) -> Turned {
+    probe_input::put(book, 0, xs);
+    let pen = desk.pen;
+    Turned::On(Desk {
+        doc: desk.doc,
+        book: xs.len(),
+        pen,
+        to: desk.to,
+    })
+}
+
 // The commands of the reading half.
-fn read_turn<'d, 'b, 'o, 'i>(
+fn read_turn(
     letter: u8,
-    doc: &'d [u8],
-    book: &'b mut [u8],
-    out: &'o mut [u8],
+    doc: &[u8],
+    book: &mut [u8],
     desk: Desk,
-    buf: &'i mut [u8; 4096],
-    feed: Feed,
+    a: Args,
+    out: &mut [u8],
 ) -> Turned {
     let pen = desk.pen;
     let lent = desk.book;
     if book.len() < lent {
         return Turned::Bad;
     }
-    let asked = asks::ask(letter, doc, &mut book[..lent], out, desk.to, buf, feed);
+    let asked = probe_reads::ask(letter, doc, &mut book[..lent], a, out, desk.to);
     match asked {
         Asked::Bad => Turned::Bad,
-        Asked::To(to, rest) => Turned::On(
-            Desk {
-                doc: desk.doc,
-                book: lent,
-                pen,
-                to,
-            },
-            rest,
-        ),
-    }
-}
-
-// The command D.
-fn document<'d, 'i>(doc: &'d mut [u8], desk: Desk, buf: &'i mut [u8; 4096], feed: Feed) -> Turned {
-    let pen = desk.pen;
-    let taken = input::take(buf, feed, doc, 65600);
-    match taken {
-        Taken::Bad => Turned::Bad,
-        Taken::Is(n, rest) => Turned::On(
-            Desk {
-                doc: n,
-                book: desk.book,
-                pen,
-                to: desk.to,
-            },
-            rest,
-        ),
-    }
-}
-
-// The command B.
-fn lent_book<'b, 'i>(
-    book: &'b mut [u8],
-    desk: Desk,
-    buf: &'i mut [u8; 4096],
-    feed: Feed,
-) -> Turned {
-    let pen = desk.pen;
-    let taken = input::take(buf, feed, book, 40000);
-    match taken {
-        Taken::Bad => Turned::Bad,
-        Taken::Is(n, rest) => Turned::On(
-            Desk {
-                doc: desk.doc,
-                book: n,
-                pen,
-                to: desk.to,
-            },
-            rest,
-        ),
+        Asked::To(to) => Turned::On(Desk {
+            doc: desk.doc,
+            book: lent,
+            pen,
+            to,
+        }),
     }
 }
 
 // The commands of the writing half.
-fn write_turn<'s, 'k, 'g, 'o, 'i>(
+fn write_turn(
     letter: u8,
-    sheet: &'s mut [u8],
-    shelf: &'k mut [u8],
-    given: &'g mut [u8],
-    out: &'o mut [u8],
+    sheet: &mut [u8],
+    shelf: &mut [u8],
     desk: Desk,
-    buf: &'i mut [u8; 4096],
-    feed: Feed,
+    a: Args,
+    xs: &[u8],
+    out: &mut [u8],
 ) -> Turned {
     let pen = desk.pen;
-    let penned = pens::written(letter, pen, sheet, shelf, given, out, desk.to, buf, feed);
+    let penned = probe_writes::written(letter, pen, a, xs, sheet, shelf, out, desk.to);
     match penned {
         Penned::Bad => Turned::Bad,
-        Penned::On(next, to, rest) => Turned::On(
-            Desk {
-                doc: desk.doc,
-                book: desk.book,
-                pen: next,
-                to,
-            },
-            rest,
-        ),
+        Penned::On(next, to) => Turned::On(Desk {
+            doc: desk.doc,
+            book: desk.book,
+            pen: next,
+            to,
+        }),
     }
 }
 
@@ -145,88 +122,102 @@ fn is_read(letter: u8) -> bool {
     }
 }
 
-// One command.
-fn turn<'d, 'b, 's, 'k, 'g, 'o, 'i>(
+// One command, which has these arguments.
+fn turn(
     letter: u8,
-    doc: &'d mut [u8],
-    book: &'b mut [u8],
-    sheet: &'s mut [u8],
-    shelf: &'k mut [u8],
-    given: &'g mut [u8],
-    out: &'o mut [u8],
+    doc: &mut [u8],
+    book: &mut [u8],
+    sheet: &mut [u8],
+    shelf: &mut [u8],
     desk: Desk,
-    buf: &'i mut [u8; 4096],
-    feed: Feed,
+    a: Args,
+    xs: &[u8],
+    out: &mut [u8],
 ) -> Turned {
     if letter == b'D' {
-        return document(doc, desk, buf, feed);
+        return document(doc, desk, xs);
     }
     if letter == b'B' {
-        return lent_book(book, desk, buf, feed);
+        return lent_book(book, desk, xs);
     }
     if is_read(letter) {
-        let lent = lines::front(doc, desk.doc);
-        return read_turn(letter, lent, book, out, desk, buf, feed);
+        let lent = probe_input::front(doc, desk.doc);
+        return read_turn(letter, lent, book, desk, a, out);
     }
-    write_turn(letter, sheet, shelf, given, out, desk, buf, feed)
+    write_turn(letter, sheet, shelf, desk, a, xs, out)
 }
 
-// Before any command nothing is lent.
-fn cleared() -> Desk {
-    let state = writing::fresh();
-    let pen = Pen {
-        state,
-        size: 0,
-        shelf: 0,
-        used: 0,
+// The next command, its octets put into a lent slice.
+fn command_at(buf: &mut [u8; 4096], feed: Feed, given: &mut [u8]) -> Command {
+    let Fed::Is(letter, rest) = probe_input::letter(buf, feed) else {
+        return Command::End;
     };
-    Desk {
-        doc: 0,
-        book: 0,
-        pen,
-        to: 0,
+    let arguments = probe_input::arguments(letter, buf, rest, given);
+    match arguments {
+        Given::Bad => Command::Bad,
+        Given::Is(a, n, behind) => Command::Is(letter, a, n as usize, behind),
     }
 }
 
-// The next command; what waits once the input ends or is bad.
-fn next_turn<'d, 'b, 's, 'k, 'g, 'o, 'i>(
-    doc: &'d mut [u8],
-    book: &'b mut [u8],
-    sheet: &'s mut [u8],
-    shelf: &'k mut [u8],
-    given: &'g mut [u8],
-    out: &'o mut [u8],
+// The last line where the input is bad.
+fn bad_input(out: &mut [u8], n: usize) -> usize {
+    printing::show_all(out, n, Show::Plain, b"bad input\n")
+}
+
+// What comes after a command was done, or found bad.
+fn next_of(turned: Turned, behind: Feed, out: &mut [u8], to: usize) -> Next {
+    match turned {
+        Turned::On(then) => Next::On(then, behind),
+        Turned::Bad => Next::Over(bad_input(out, to)),
+    }
+}
+
+// A command done; what waits once the input ends or is bad.
+fn done(
+    is: Command,
+    doc: &mut [u8],
+    book: &mut [u8],
+    sheet: &mut [u8],
+    shelf: &mut [u8],
+    given: &[u8],
+    out: &mut [u8],
     desk: Desk,
-    buf: &'i mut [u8; 4096],
-    feed: Feed,
 ) -> Next {
     let to = desk.to;
-    let Fed::Is(letter, rest) = input::letter(buf, feed) else {
-        return Next::Over(to);
-    };
-    let turned = turn(letter, doc, book, sheet, shelf, given, out, desk, buf, rest);
-    match turned {
-        Turned::On(then, behind) => Next::On(then, behind),
-        Turned::Bad => Next::Over(printing::show_all(out, to, Show::Plain, b"bad input\n")),
+    match is {
+        Command::End => Next::Over(to),
+        Command::Bad => Next::Over(bad_input(out, to)),
+        Command::Is(letter, a, n, behind) => {
+            let xs = probe_input::front(given, n);
+            let turned = turn(letter, doc, book, sheet, shelf, desk, a, xs, out);
+            next_of(turned, behind, out, to)
+        }
     }
 }
 
 // Commands until the input ends or is bad; how many octets wait then.
-fn run<'d, 'b, 's, 'k, 'g, 'o, 'i>(
-    doc: &'d mut [u8],
-    book: &'b mut [u8],
-    sheet: &'s mut [u8],
-    shelf: &'k mut [u8],
-    given: &'g mut [u8],
-    out: &'o mut [u8],
-    buf: &'i mut [u8; 4096],
+fn run(
+    doc: &mut [u8],
+    book: &mut [u8],
+    sheet: &mut [u8],
+    shelf: &mut [u8],
+    given: &mut [u8],
+    out: &mut [u8],
+    buf: &mut [u8; 4096],
 ) -> usize {
-    let mut desk = cleared();
+    let pen = probe_writes::cleared();
+    let mut desk = Desk {
+        doc: 0,
+        book: 0,
+        pen,
+        to: 0,
+    };
     let mut feed = Feed { at: 0, filled: 0 };
     let mut turns = u64::MAX;
     while 0 < turns {
         turns -= 1;
-        let next = next_turn(doc, book, sheet, shelf, given, out, desk, buf, feed);
+        let is = command_at(buf, feed, given);
+        let next = done(is, doc, book, sheet, shelf, given, out, desk);
         match next {
             Next::Over(to) => {
                 return to;

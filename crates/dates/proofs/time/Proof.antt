@@ -2,7 +2,7 @@
 use borrow.Author.Needs.{needs}
 use native.Mathlib.Omega.{arith}
 use mathlib.Core.Path.{_≡_, refl, sym, ap, _∙_}
-use mathlib.Core.List.{_∷_}
+use mathlib.Core.List.{_++_}
 use mir.Syntax.{w64}
 use mir.Val.{SFits}
 use mir.Facts.{toZ-ofZ}
@@ -10,14 +10,14 @@ use Prim.Native.Nat.{_≤_, _<_}
 use lib.IntN.{ℤ, pos, negsuc}
 use borrow.Author.Tests.{le-leb, lt-leb}
 use Rattle.kinds.specs.Kinds.{unsigned}
-use Rattle.printing.specs.Text.{signed}
+use Rattle.printing.specs.Text.{spelt, signed}
 use Rattle.printing.proofs.Puts.{then, says}
 use Rattle.dates.specs.Times.{momentText, timeText}
 use Rattle.dates.proofs.time.Statement.{statement}
 use Rattle.dates.proofs.time.Tie as tie
 
 -- A time by its bits: past every date, or dated.
-outside : (z : ℤ) → 253402300799999 < unsigned 8 z → 64 ∷ signed z ≡ timeText z
+outside : (z : ℤ) → 253402300799999 < unsigned 8 z → spelt "@" ++ signed z ≡ timeText z
 unfolding unsigned timeText
 outside (pos n) h = rw (lt-leb n 253402300799999 h) refl
 outside (negsuc n) h = refl
@@ -43,7 +43,7 @@ returns c =
     let last = c .before .before in
     let sign = last .before .before .before .before in
     let b = sign .before .before .before in
-    says (ap (λ (z : ℤ). 64 ∷ signed z) (toZ-ofZ (fits b)) ∙ outside (time b) (rw (is b) (sign .before .before .if1 .taken)))
+    says (ap (λ (z : ℤ). spelt "@" ++ signed z) (toZ-ofZ (fits b)) ∙ outside (time b) (rw (is b) (sign .before .before .if1 .taken)))
     (then (sign .octet .ensures) (last .signed .ensures))
 
 returns-2 : tie.Need-returns-2

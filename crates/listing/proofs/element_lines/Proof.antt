@@ -22,7 +22,7 @@ use Rattle.walks.specs.declared.Moved.{Moved}
 use Rattle.shelves.proofs.Marks.{tally-bounds}
 use Rattle.printing.specs.Text.{Prints}
 use Rattle.printing.proofs.Puts.{says}
-use Rattle.listing.specs.Lines.{endText, elementText}
+use Rattle.lines.specs.Lines.{endText, elementText}
 use Rattle.listing.proofs.Passed.{Passed, passed-start, passed-lent, passed-bears, passed-refused, passed-end, Grown, Goes, passed-item}
 use Rattle.listing.proofs.element_lines.Statement.{statement}
 use Rattle.listing.proofs.element_lines.Tie as tie

@@ -3,8 +3,8 @@ use borrow.Author.Needs.{needs}
 use borrow.Author.Tests.{le-leb, lt-leb}
 use denote.Ref.{now}
 use lib.ListN.{length}
-use Rattle.listing.specs.Lines.{tooLongText}
-use Rattle.listing.proofs.Words.{word}
+use Rattle.listing.specs.Listing.{tooLongText}
+use Rattle.lines.proofs.Words.{word}
 use Rattle.listing.proofs.listed.Statement.{statement}
 use Rattle.listing.proofs.listed.Tie as tie
 
@@ -18,7 +18,7 @@ returns-2 : tie.Need-returns-2
 returns-2 c =
     let all = c .before .before in
     let test = all .before .before in
-    rw (le-leb (length (now (test .before .before .before .args .doc))) 65536 (test .if1 .left)) (all .lines .ensures)
+    rw (le-leb (length (now (test .before .before .before .args .doc))) 65536 (test .if1 .left)) (all .document .ensures)
 
 pub listed-spec : {M : Type 1} → statement M
 listed-spec = tie.close (tie.spec (λ c. search needs) (λ c κs. search needs) (λ c. search needs) returns (λ c κs. search needs) (λ c. search needs) returns-2)

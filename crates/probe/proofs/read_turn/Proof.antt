@@ -13,4 +13,7 @@ slice-aggregate-ask c =
     sym (length-take-le (a .desk .book) (now (a .book)) (omega arith))
 
 pub read-turn-spec : {M : Type 1} → statement M
-read-turn-spec = tie.close (tie.spec (λ c. search needs) (λ c. search needs) slice-aggregate-ask (λ c κs. search needs) (λ c. search needs) (λ c. search needs) (λ c. search needs) (λ c. search needs) (λ c. search needs) (λ c. search needs) (λ c. search needs) (λ c. search needs))
+read-turn-spec =
+    tie.close
+    (tie.spec (λ c. search needs) (λ c. search needs) slice-aggregate-ask (λ c κs. search needs) (λ c. search needs) (λ c. search needs) (λ c. search needs)
+    (λ c. search needs) (λ c. search needs) (λ c. search needs) (λ c. search needs) (λ c. search needs))

@@ -1,0 +1,3 @@
+pub mod Words
+mod Stepping
+pub mod Contracts
