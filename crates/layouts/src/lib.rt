@@ -44,7 +44,7 @@ fn kind_end(s: &[u8], at: usize) -> Ended
 {
     let kind = kinds::kind_at(s, at);
     match kind {
-        Kinded::At(k) => Ended::End(at + 4),
+        Kinded::Is(k) => Ended::End(at + 4),
         Kinded::Refused(n, p) => Ended::Refused(n, p),
     }
 }
@@ -331,7 +331,7 @@ pub fn kind_here(s: &[u8], at: usize) -> Kind
 {
     let kind = kinds::kind_at(s, name_end(s, at));
     match kind {
-        Kinded::At(k) => k,
+        Kinded::Is(k) => k,
         Kinded::Refused(n, p) => Kind {
             derived: 0,
             basic: Basic::Int,

@@ -3,8 +3,8 @@ use Prim.Native.Nat.{ℕ, _*_, _%_, _^_}
 use mathlib.Core.List.{List, [], _∷_}
 use lib.Bits.{bitXor}
 use Rattle.octets.specs.Writing.{word}
-use Rattle.questions.specs.declared.Refusal.{Refusal}
-use Rattle.questions.specs.declared.Refusal.the-variants.{None, Is}
+use Rattle.octets.specs.declared.Refusal.{Refusal}
+use Rattle.octets.specs.declared.Refusal.the-variants.{None, Refused}
 use Rattle.printing.specs.Text.{showing, refusal}
 use Rattle.printing.specs.declared.Show.the-variants.{Plain, Hex}
 
@@ -27,4 +27,4 @@ sumText xs = 32 ∷ showing Hex (word 8 (checksum xs))
 -- A word, or the refusal of what was asked.
 abbrev pub headText : Refusal → List ℕ → List ℕ
 headText None w = showing Plain w
-headText (Is n p) w = refusal n p
+headText (Refused n p) w = refusal n p

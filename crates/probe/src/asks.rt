@@ -9,10 +9,10 @@ use elements::Met;
 use elements::Step;
 use elements::Stepping;
 use kinds::Kind;
+use kinds::Kinded;
+use octets::Refusal;
 use printing::Show;
 use questions::Fielded;
-use questions::Refusal;
-use questions::Typing;
 use reading::Checked;
 use reading::Headed;
 
@@ -165,7 +165,7 @@ fn field_head<'d, 'b, 'o>(
 ) -> usize {
     let refusal = questions::row_refusal(doc, given.at, given.rows, book, given.used, i);
     match refusal {
-        Refusal::Is(number, place) => printing::refused(out, n, number, place),
+        Refusal::Refused(number, place) => printing::refused(out, n, number, place),
         Refusal::None => value(doc, book, given, i, out, n),
     }
 }
@@ -220,8 +220,8 @@ fn attribute_kind<'d, 'b, 'o>(
 ) -> usize {
     let typing = questions::attribute_kind(doc, given.at, given.rows, book, given.used, i);
     match typing {
-        Typing::Refused(number, place) => printing::refused(out, n, number, place),
-        Typing::Is(is) => kind(out, n, b"attribute ", is),
+        Kinded::Refused(number, place) => printing::refused(out, n, number, place),
+        Kinded::Is(is) => kind(out, n, b"attribute ", is),
     }
 }
 
@@ -236,7 +236,7 @@ fn attribute_head<'d, 'b, 'o>(
 ) -> usize {
     let refusal = questions::attribute_refusal(doc, given.at, given.rows, book, given.used, i);
     match refusal {
-        Refusal::Is(number, place) => printing::refused(out, n, number, place),
+        Refusal::Refused(number, place) => printing::refused(out, n, number, place),
         Refusal::None => attribute_kind(doc, book, given, i, out, n),
     }
 }
@@ -263,22 +263,22 @@ fn attribute<'d, 'b, 'o>(
 // Whether a string of the header is refused.
 fn text_refusal(doc: &[u8], which: u64, n: usize) -> Refusal {
     match which {
-        2 => strings::namespace_refusal(doc, n),
-        3 => strings::namespace_refusal(doc, n),
-        4 => strings::service_refusal(doc, n),
-        _ => strings::header_refusal(doc),
+        2 => header_questions::namespace_refusal(doc, n),
+        3 => header_questions::namespace_refusal(doc, n),
+        4 => header_questions::service_refusal(doc, n),
+        _ => header_questions::header_refusal(doc),
     }
 }
 
 // A string of the header.
 fn text_part<'d>(doc: &'d [u8], which: u64, n: usize) -> &'d [u8] {
     match which {
-        0 => strings::recorder(doc),
-        1 => strings::default_namespace(doc),
-        2 => strings::namespace_uri(doc, n),
-        3 => strings::namespace_short(doc, n),
-        4 => strings::service(doc, n),
-        _ => strings::document_id(doc),
+        0 => header_questions::recorder(doc),
+        1 => header_questions::default_namespace(doc),
+        2 => header_questions::namespace_uri(doc, n),
+        3 => header_questions::namespace_short(doc, n),
+        4 => header_questions::service(doc, n),
+        _ => header_questions::document_id(doc),
     }
 }
 

@@ -5,8 +5,8 @@ ghost use lib.ListN.{take};
 ghost use Rattle.printing.specs.Text.{Prints};
 ghost use Rattle.probe.specs.Words.{partText, sumText, headText};
 use crate::sum;
+use octets::Refusal;
 use printing::Show;
-use questions::Refusal;
 
 // The first octets of a lent buffer, as far as it reaches.
 pub(crate) fn front<'s>(s: &'s [u8], n: usize) -> &'s [u8]
@@ -43,6 +43,6 @@ pub(crate) fn head<'o, 'x>(out: &'o mut [u8], n: usize, refusal: Refusal, word: 
 {
     match refusal {
         Refusal::None => printing::show_all(out, n, Show::Plain, word),
-        Refusal::Is(number, place) => printing::refused(out, n, number, place),
+        Refusal::Refused(number, place) => printing::refused(out, n, number, place),
     }
 }

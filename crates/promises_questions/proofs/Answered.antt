@@ -20,12 +20,14 @@ use Rattle.elements.specs.Element.{Element, item, layout, row, finish}
 use Rattle.elements.specs.Walk.{Lent}
 use Rattle.elements.specs.Reading.{Placed}
 use Rattle.reading.specs.Answers.{headTells}
-use Rattle.questions.specs.Questions.{rowOf, layoutOf, rowAsked, partOf}
+use Rattle.octets.specs.Asked.{partOf}
+use Rattle.questions.specs.Questions.{rowOf, layoutOf, rowAsked}
 use Rattle.questions.specs.Answers.{octetsOf, fieldTells, kindTells}
-use Rattle.questions.proofs.Asked.{nth-none, nth-some, attribute-asked}
+use Rattle.octets.proofs.Asked.{nth-none, nth-some}
+use Rattle.questions.proofs.Asked.{attribute-asked}
 use Rattle.questions.proofs.Line.{field-asked, field-unasked}
 use Rattle.questions.proofs.After.{row-after, layout-after}
-use Rattle.strings.specs.Strings.{namespacesPlace, servicesPlace, namespaceAsked, serviceAsked}
+use Rattle.header_questions.specs.Questions.{namespacesPlace, servicesPlace, namespaceAsked, serviceAsked}
 use Rattle.promises.specs.BySteps.{Ending, BySteps, Meets}
 use Rattle.promises.proofs.Over.{meets}
 use Rattle.promises_questions.specs.Answered.{fieldOver, layoutOver, attributeOver, Items, RowAnswered, LayoutAnswered, Answered, HeaderAnswered, AllAsked}

@@ -11,7 +11,8 @@ use Rattle.elements.specs.Element.{finishAt, elementAt}
 use Rattle.elements.specs.Steps.{lentBook}
 use Rattle.elements.specs.Walk.{walk, through}
 use Rattle.elements.specs.Reading.{readingFrom, reading, whole}
-use Rattle.questions.specs.Questions.{kindAsked, bookAsked, nth, rowAsked, fieldAsked}
+use Rattle.octets.specs.Asked.{nth}
+use Rattle.questions.specs.Questions.{kindAsked, bookAsked, rowAsked, fieldAsked}
 use Rattle.promises.specs.Specimen.{specimen, shorts, layoutBook, shortBook, emptyBook}
 use Rattle.promises_questions.specs.Cases.{cases, asks, expects}
 

@@ -14,8 +14,9 @@ use Rattle.rows.specs.Row.{Field, valueIn, fieldsIn, valuesAt, rowAt}
 use Rattle.headers.specs.Header.{Namespace, namespaceAt, idAt, headerFrom, headerAt}
 use Rattle.elements.specs.Element.{elementAt}
 use Rattle.elements.specs.Steps.{lentBook}
-use Rattle.questions.specs.Questions.{kindAsked, bookAsked, nth, rowAsked, fieldAsked, layoutAsked, attributeAsked}
-use Rattle.strings.specs.Strings.{namespaceAsked, serviceAsked}
+use Rattle.octets.specs.Asked.{nth}
+use Rattle.questions.specs.Questions.{kindAsked, bookAsked, rowAsked, fieldAsked, layoutAsked, attributeAsked}
+use Rattle.header_questions.specs.Questions.{namespaceAsked, serviceAsked}
 use Rattle.promises.specs.Specimen.{specimen, layoutBook, emptyBook}
 use Rattle.promises.specs.Refusals.{refusalOf, refusalsOf, Inputs}
 use Rattle.promises.proofs.Given.{layouts, long, too-long, header-long}

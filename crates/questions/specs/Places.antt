@@ -6,8 +6,6 @@ use mathlib.Core.Bool.{Bool, true, false}
 use lib.ListN.{length, drop}
 use Rattle.octets.specs.Limits.{longest, bookRoom}
 use Rattle.octets.specs.Reading.{Read, ok, no, _then_, stated}
-use Rattle.octets.specs.declared.Ended.{Ended}
-use Rattle.octets.specs.declared.Ended.the-variants as ended
 use Rattle.kinds.specs.declared.Basic.{Basic}
 use Rattle.kinds.specs.declared.Form.{Form}
 use Rattle.kinds.specs.declared.Form.the-variants as form
@@ -84,16 +82,3 @@ isHeld form.Text = true
 -- A layout from its number on, with what a book says of it; nothing is learnt.
 unfoldable pub layoutOver : Book → List ℕ → ℕ → Read Layout
 layoutOver book s at = layoutAt s at then λ l end. learn book l at then λ _ _. ok l end
-
--- What was asked for is what stands at a place of a document that is not too long.
-pub record Standing {A : Type 0} (s : List ℕ) (one : ℕ → Read A) (read : Read A) (p : ℕ) : Type 0 where
-  pub item : A
-  pub next : ℕ
-  pub last : ℕ
-  pub is : read ≡ ok item next
-  pub reads : one p ≡ ok item last
-  pub short : length s ≤ longest
-
-abbrev pub Stands : {A : Type 0} → List ℕ → (ℕ → Read A) → Read A → Ended → Type 0
-Stands s one read (ended.End p) = Standing s one read p
-Stands s one read (ended.Refused n p) = read ≡ no n p

@@ -1,4 +1,5 @@
 // Questions about a row or a layout at a place: its fields, its names and types. Each takes every input, hands back parts and no copies, and changes nothing.
+// What is asked stands in specs/Questions.antt, by elements Steps; what is answered in specs/Answers.antt; how an answer's place is found in specs/Places.antt.
 
 ghost use mathlib.Core.Path.{_≡_};
 ghost use mathlib.Core.List.{List};
@@ -7,57 +8,31 @@ ghost use lib.ListN.{length, take};
 ghost use Rattle.octets.specs.Limits.{longest, bookRoom};
 ghost use Rattle.octets.specs.Reading.{ok, ends, stated};
 ghost use Rattle.octets.specs.Answers.{says};
+ghost use Rattle.octets.specs.Asked.{refusalOf, partOf, StandsAt};
 ghost use Rattle.kinds.specs.Kinds.{formOf};
 ghost use Rattle.layouts.specs.Layout.{Layout, attributeAt, layoutAt};
 ghost use Rattle.layouts.specs.Book.{Book};
 ghost use Rattle.layouts.specs.Answers.{Image, Holds, Has};
 ghost use Rattle.rows.specs.Row.{Field, fieldsIn, rowAt};
-ghost use Rattle.elements.specs.Steps.{lentBook};
-ghost use Rattle.questions.specs.Questions.{kindAsked, bookAsked, rowAsked, fieldAsked, layoutAsked, attributeAsked, partOf};
-ghost use Rattle.questions.specs.Answers.{refusalOf, octetsOf, valueOf, fieldTells, kindTells};
-ghost use Rattle.questions.specs.Places.{Lines, NthField, Stood, Spots, isHeld, layoutOver, Stands};
+ghost use Rattle.questions.specs.Questions.{kindAsked, bookAsked, rowAsked, fieldAsked, layoutAsked, attributeAsked};
+ghost use Rattle.questions.specs.Answers.{octetsOf, valueOf, fieldTells, kindTells};
+ghost use Rattle.questions.specs.Places.{Lines, NthField, Stood, Spots, isHeld, layoutOver};
 use kinds::Basic;
 use kinds::Form;
 use kinds::Kind;
+use kinds::Kinded;
 use kinds::Value;
 use layouts::Learning;
 use layouts::Looked;
 use octets::Ended;
+use octets::Refusal;
 use rows::Rowed;
 use rows::Valued;
-
-// Whether what is asked is refused, by number and place.
-pub enum Refusal {
-    None,
-    Is(u32, usize),
-}
 
 // A field's type and value, or a refusal by number and place.
 pub enum Fielded {
     Is(Kind, Value),
     Refused(u32, usize),
-}
-
-// An attribute's type, or a refusal by number and place.
-pub enum Typing {
-    Is(Kind),
-    Refused(u32, usize),
-}
-
-// What stands before every question about an element: 2, then 17.
-fn lent_refusal<'d, 'b>(doc: &'d [u8], rows: usize, book: &'b [u8], used: usize) -> Refusal
-    ensures { λ r. ⌜ r ≡ refusalOf (lentBook (now (doc .entry)) rows (now (book .entry)) used) ⌝ }
-{
-    if octets::LONGEST < doc.len() {
-        return Refusal::Is(2, 0);
-    }
-    if !layouts::is_book(book, used) {
-        return Refusal::Is(17, 0);
-    }
-    if octets::MOST_ROWS < rows {
-        return Refusal::Is(17, 0);
-    }
-    Refusal::None
 }
 
 // The place behind a kind, which is the one asked about.
@@ -95,9 +70,9 @@ fn book_asked<'d, 'b>(
 ) -> Ended
     ensures { λ r. ⌜ says r ≡ ends (bookAsked wanted (now (doc .entry)) at rows (now (book .entry)) used) ⌝ }
 {
-    let lent = lent_refusal(doc, rows, book, used);
+    let lent = elements::lent_refusal(doc, rows, book, used);
     match lent {
-        Refusal::Is(n, p) => Ended::Refused(n, p),
+        Refusal::Refused(n, p) => Ended::Refused(n, p),
         Refusal::None => kind_asked(doc, at, wanted),
     }
 }
@@ -242,7 +217,7 @@ pub fn row_refusal<'d, 'b>(
     let spot = field_at(doc, at, rows, book, used, n);
     match spot {
         Spot::At(attribute, value) => Refusal::None,
-        Spot::Refused(m, p) => Refusal::Is(m, p),
+        Spot::Refused(m, p) => Refusal::Refused(m, p),
     }
 }
 
@@ -348,7 +323,7 @@ fn attribute_at<'d, 'b>(
     used: usize,
     n: usize,
 ) -> Ended
-    ensures { λ r. ⌜ Stands (now (doc .entry)) (attributeAt (now (doc .entry))) (attributeAsked (now (doc .entry)) at rows (now (book .entry)) used n) r ⌝ }
+    ensures { λ r. ⌜ StandsAt (now (doc .entry)) (attributeAt (now (doc .entry))) (attributeAsked (now (doc .entry)) at rows (now (book .entry)) used n) r ⌝ }
 {
     let layout = layout_at(doc, at, rows, book, used);
     match layout {
@@ -373,11 +348,7 @@ pub fn layout_refusal<'d, 'b>(
 ) -> Refusal
     ensures { λ r. ⌜ r ≡ refusalOf (layoutAsked (now (doc .entry)) at rows (now (book .entry)) used) ⌝ }
 {
-    let layout = layout_at(doc, at, rows, book, used);
-    match layout {
-        Ended::End(next) => Refusal::None,
-        Ended::Refused(n, p) => Refusal::Is(n, p),
-    }
+    octets::found_refusal(layout_at(doc, at, rows, book, used))
 }
 
 // Whether attribute n of the layout at a place is refused: as the layout, then 18 at the layout.
@@ -391,11 +362,7 @@ pub fn attribute_refusal<'d, 'b>(
 ) -> Refusal
     ensures { λ r. ⌜ r ≡ refusalOf (attributeAsked (now (doc .entry)) at rows (now (book .entry)) used n) ⌝ }
 {
-    let attribute = attribute_at(doc, at, rows, book, used, n);
-    match attribute {
-        Ended::End(place) => Refusal::None,
-        Ended::Refused(m, p) => Refusal::Is(m, p),
-    }
+    octets::found_refusal(attribute_at(doc, at, rows, book, used, n))
 }
 
 // The type name of the layout at a place, a part of the document; empty where there is a refusal.
@@ -441,12 +408,12 @@ pub fn attribute_kind<'d, 'b>(
     book: &'b [u8],
     used: usize,
     n: usize,
-) -> Typing
+) -> Kinded
     ensures { λ r. ⌜ r ≡ kindTells (attributeAsked (now (doc .entry)) at rows (now (book .entry)) used n) ⌝ }
 {
     let attribute = attribute_at(doc, at, rows, book, used, n);
     match attribute {
-        Ended::Refused(m, p) => Typing::Refused(m, p),
-        Ended::End(place) => Typing::Is(layouts::kind_here(doc, place)),
+        Ended::Refused(m, p) => Kinded::Refused(m, p),
+        Ended::End(place) => Kinded::Is(layouts::kind_here(doc, place)),
     }
 }

@@ -1,4 +1,4 @@
-// Walking through elements: what is kept of a book's layouts, and how a walk goes on, by a stretch of rows or by one element.
+// Walking through elements: what is kept of a book's layouts, and how a walk goes on, by a stretch of rows or by one element. What a walk is stands in elements Walk and Reading; what is kept and what a stretch is, here in specs/Kept.antt and Rows.antt.
 // Kept are, of the i-th layout of the book, its number in numbers[i], with 2^32 added where it has no plan; its place in places[i]; and where its plan stands in steps[i]. Plans stand behind the first 64 steps, one behind another.
 
 ghost use mathlib.Core.Path.{_≡_};
@@ -58,7 +58,7 @@ pub enum Moved {
 }
 
 // A count of rows with the place behind the end, or a refusal by number and place.
-pub enum Counting {
+pub enum RowCount {
     Rows(usize, usize),
     Refused(u32, usize),
 }
@@ -281,7 +281,7 @@ fn looked_at(places: &[u32; 64], known: usize, i: usize) -> Looked
 }
 
 // What a turn tells of a step that was read, with the position of its layout.
-fn told(step: Step, position: usize) -> Moved
+fn step_moved(step: Step, position: usize) -> Moved
     ensures { λ r. ⌜ r ≡ stepMoved step position ⌝ }
 {
     let met = step.met;
@@ -323,12 +323,12 @@ pub fn turn<'d, 's, 'n, 'l>(
     let one = elements::element_over(doc, at, rows, shelf, looked, used);
     match one {
         Stepping::Refused(n, p) => Moved::Refused(n, p),
-        Stepping::Done(step) => told(step, position),
+        Stepping::Done(step) => step_moved(step, position),
     }
 }
 
 // The rows from a place to the end, from an empty book; its layouts are kept by their places in the document. A word has room, and is not looked at.
-pub fn rows_from(doc: &[u8], at: usize) -> Counting
+pub fn rows_from(doc: &[u8], at: usize) -> RowCount
     requires { ⌜ (at ≤ length (now doc)) × (length (now doc) ≤ longest) ⌝ }
     ensures { λ r. ⌜ countSays r ≡ rowsRead (through (now (doc .entry)) (spotAt at 0 [])) ⌝ }
 {
@@ -357,10 +357,10 @@ pub fn rows_from(doc: &[u8], at: usize) -> Counting
         let moved = turn(doc, pos, rows, doc, used, &numbers, &places, tally.known);
         match moved {
             Moved::Refused(n, p) => {
-                return Counting::Refused(n, p);
+                return RowCount::Refused(n, p);
             }
             Moved::End(count, time, next) => {
-                return Counting::Rows(rows, next);
+                return RowCount::Rows(rows, next);
             }
             Moved::Item(gone) => {
                 if used < gone.used {

@@ -4,7 +4,7 @@ use mathlib.Core.Path.{ap, _∙_}
 use mathlib.Core.List.{[], _∷_}
 use Prim.Native.Nat.{ℕ}
 use Rattle.layouts.specs.Layout.{Layout}
-use Rattle.questions.specs.Questions.{partOf}
+use Rattle.octets.specs.Asked.{partOf}
 use Rattle.printing.specs.Text.{spelt, decimal}
 use Rattle.printing.proofs.Puts.{then, says}
 use Rattle.listing.specs.Lines.{numbered, stringText}

@@ -7,17 +7,17 @@ use Rattle.octets.specs.declared.Ended.{Ended}
 use Rattle.layouts.specs.Layout.{attributeAt}
 use Rattle.questions.specs.Questions.{attributeAsked}
 use Rattle.questions.specs.Answers.{kindTells}
-use Rattle.questions.specs.Places.{Stands}
-use Rattle.questions.specs.declared.Typing.the-variants.{Is}
+use Rattle.octets.specs.Asked.{StandsAt}
+use Rattle.kinds.specs.declared.Kinded.the-variants.{Is}
 use Rattle.questions.proofs.attribute_kind.Statement.{statement}
 use Rattle.questions.proofs.attribute_kind.Tie as tie
 
 -- What was found of the attribute.
 found : (v : tie.After-attribute-at) (x : Ended) → v .attribute-at .result ≡ x
-    → let a = v .before .before .before .args in Stands (now (a .doc)) (attributeAt (now (a .doc))) (attributeAsked (now (a .doc)) (a .at) (a .rows) (now (a .book)) (a .used) (a .n)) x
+    → let a = v .before .before .before .args in StandsAt (now (a .doc)) (attributeAt (now (a .doc))) (attributeAsked (now (a .doc)) (a .at) (a .rows) (now (a .book)) (a .used) (a .n)) x
 found v x q =
     let a = v .before .before .before .args in
-    subst (Stands (now (a .doc)) (attributeAt (now (a .doc))) (attributeAsked (now (a .doc)) (a .at) (a .rows) (now (a .book)) (a .used) (a .n))) q (v .attribute-at .ensures)
+    subst (StandsAt (now (a .doc)) (attributeAt (now (a .doc))) (attributeAsked (now (a .doc)) (a .at) (a .rows) (now (a .book)) (a .used) (a .n))) q (v .attribute-at .ensures)
 
 kind-here-requires : tie.Need-kind-here-requires
 kind-here-requires c κs = let p = found (c .before .before .before) _ (c .before .attribute2 .given .1) in (p .short, ap isOk (p .reads))

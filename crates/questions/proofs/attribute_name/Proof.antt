@@ -6,17 +6,17 @@ use Rattle.octets.specs.Reading.{isOk}
 use Rattle.octets.specs.declared.Ended.{Ended}
 use Rattle.layouts.specs.Layout.{Attribute, attributeAt}
 use Rattle.layouts.proofs.Parts.{attribute-named, attribute-text}
-use Rattle.questions.specs.Questions.{attributeAsked, partOf}
-use Rattle.questions.specs.Places.{Stands}
+use Rattle.questions.specs.Questions.{attributeAsked}
+use Rattle.octets.specs.Asked.{partOf, StandsAt}
 use Rattle.questions.proofs.attribute_name.Statement.{statement}
 use Rattle.questions.proofs.attribute_name.Tie as tie
 
 -- What was found of the attribute.
 found : (v : tie.After-attribute-at) (x : Ended) → v .attribute-at .result ≡ x
-    → let a = v .before .before .before .args in Stands (now (a .doc)) (attributeAt (now (a .doc))) (attributeAsked (now (a .doc)) (a .at) (a .rows) (now (a .book)) (a .used) (a .n)) x
+    → let a = v .before .before .before .args in StandsAt (now (a .doc)) (attributeAt (now (a .doc))) (attributeAsked (now (a .doc)) (a .at) (a .rows) (now (a .book)) (a .used) (a .n)) x
 found v x q =
     let a = v .before .before .before .args in
-    subst (Stands (now (a .doc)) (attributeAt (now (a .doc))) (attributeAsked (now (a .doc)) (a .at) (a .rows) (now (a .book)) (a .used) (a .n))) q (v .attribute-at .ensures)
+    subst (StandsAt (now (a .doc)) (attributeAt (now (a .doc))) (attributeAsked (now (a .doc)) (a .at) (a .rows) (now (a .book)) (a .used) (a .n))) q (v .attribute-at .ensures)
 
 name-part-requires : tie.Need-name-part-requires
 name-part-requires c κs =

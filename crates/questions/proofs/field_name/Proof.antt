@@ -10,7 +10,8 @@ use Rattle.octets.specs.Reading.{Read, isOk}
 use Rattle.octets.proofs.Spans.{each-octet}
 use Rattle.layouts.proofs.Parts.{attribute-named, attribute-text}
 use Rattle.rows.specs.Row.{Field}
-use Rattle.questions.specs.Questions.{fieldAsked, partOf}
+use Rattle.octets.specs.Asked.{partOf}
+use Rattle.questions.specs.Questions.{fieldAsked}
 use Rattle.questions.specs.Places.{Spotted, Spots}
 use Rattle.questions.specs.declared.Spot.{Spot}
 use Rattle.questions.proofs.Line.{field-used}

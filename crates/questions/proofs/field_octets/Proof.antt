@@ -12,7 +12,8 @@ use Rattle.octets.proofs.Spans.{each-octet}
 use Rattle.kinds.specs.Kinds.{formOf}
 use Rattle.kinds.specs.declared.Kind.{Kind}
 use Rattle.rows.specs.Row.{Field}
-use Rattle.questions.specs.Questions.{fieldAsked, partOf}
+use Rattle.octets.specs.Asked.{partOf}
+use Rattle.questions.specs.Questions.{fieldAsked}
 use Rattle.questions.specs.Answers.{octetsOf}
 use Rattle.questions.specs.Places.{Spotted, Spots, isHeld}
 use Rattle.questions.specs.declared.Spot.{Spot}
