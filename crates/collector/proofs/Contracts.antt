@@ -7,7 +7,7 @@ use Rattle.octets.specs.Reading.{Read, no}
 use Rattle.octets.specs.Contracts.{SettledLent}
 use Rattle.octets.proofs.Alike.{_also_, put-back, as-it-was}
 use Rattle.headers.specs.Header.{headerAt}
-use Rattle.elements.specs.Steps.{stepAt, leaves}
+use Rattle.elements.specs.Steps.{stepAt, octetsLeft}
 use Rattle.elements.specs.Reading.{whole}
 use Rattle.elements.specs.Walk.{lentAt}
 use Rattle.runs.specs.Runs.{runAsked}
@@ -41,7 +41,7 @@ contracts =
         λ κs a p x y u v e f. (e .0 ∙ sym (f .0), refl also refl also refl also (e .2 ∙ sym (f .2)) also refl also (e .1 ∙ sym (f .1)) also refl),
         λ κs a p x u e h.
             let r = stepAt (now (a .0)) (a .1 .0) (a .1 .1 .0) (now (a .1 .1 .1 .0)) (a .1 .1 .1 .1 .0) in
-            refl also refl also refl also put-back (e .2 ∙ kept (leaves _) _ (λ n p. refl) r x (e .0) h) also refl
+            refl also refl also refl also put-back (e .2 ∙ kept (octetsLeft _) _ (λ n p. refl) r x (e .0) h) also refl
             also put-back (e .1 ∙ kept (stepLeaves _) _ (λ n p. refl) r x (e .0) h) also refl,
       );
       of-run = (

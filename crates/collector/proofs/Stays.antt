@@ -15,7 +15,8 @@ use Rattle.elements.specs.Steps.{stepAt}
 use Rattle.elements.specs.Reading.{whole}
 use Rattle.elements.proofs.Refusing.{Stays, OfHeader, OfElement, header-stays, whole-stays, step-stays}
 use Rattle.elements.proofs.Before.{lent-long, step-refused}
-use Rattle.reading.proofs.Entry.{header-long, whole-refused}
+use Rattle.headers.proofs.Parts.{header-long}
+use Rattle.reading.proofs.Entry.{whole-refused}
 use Rattle.elements.specs.Walk.{Walk, walk, Lent, lentAt, turnOver}
 use Rattle.runs.specs.Runs.{runAsked}
 use Rattle.collector.specs.Calls.{Packs}

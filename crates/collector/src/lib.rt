@@ -3,7 +3,7 @@
 ghost use mathlib.Core.Path.{_≡_};
 ghost use Prim.Native.Nat.{_<_};
 ghost use Rattle.headers.specs.Header.{headerAt};
-ghost use Rattle.elements.specs.Steps.{stepAt, leaves};
+ghost use Rattle.elements.specs.Steps.{stepAt, octetsLeft};
 ghost use Rattle.elements.specs.Reading.{whole};
 ghost use Rattle.elements.specs.Walk.{lentAt};
 ghost use Rattle.runs.specs.Runs.{runAsked};
@@ -81,7 +81,7 @@ pub extern "C" fn ipdr_step<'d, 'b, 'o>(
     used: u32,
     out: &'o mut [u64; 8],
 ) -> u64
-    ensures { λ r. ⌜ (r ≡ answered (stepAt (now (doc .entry)) at rows (now (book .entry)) used)) × (now (out .exit) ≡ stepLeaves (now (out .entry)) (stepAt (now (doc .entry)) at rows (now (book .entry)) used)) × (now (book .exit) ≡ leaves (now (book .entry)) (stepAt (now (doc .entry)) at rows (now (book .entry)) used)) ⌝ }
+    ensures { λ r. ⌜ (r ≡ answered (stepAt (now (doc .entry)) at rows (now (book .entry)) used)) × (now (out .exit) ≡ stepLeaves (now (out .entry)) (stepAt (now (doc .entry)) at rows (now (book .entry)) used)) × (now (book .exit) ≡ octetsLeft (now (book .entry)) (stepAt (now (doc .entry)) at rows (now (book .entry)) used)) ⌝ }
 {
     let stepping = reading::step(doc, at as usize, rows as usize, book, used as usize);
     match stepping {

@@ -4,13 +4,15 @@ use mathlib.Core.Path.{_≡_, refl, sym, _∙_}
 use mathlib.Core.Bool.{Bool, true, false}
 use lib.Dec.{leb}
 use borrow.Author.Tests.{leb-true, leb-false}
-use Rattle.octets.specs.Contracts.{Once}
+use Rattle.octets.specs.Contracts.{Once, Settled}
 use Rattle.octets.proofs.Alike.{_also_}
+use Rattle.elements.proofs.lent_refusal as lent-refusal
 use Rattle.elements.proofs.number_behind as number-behind
 use Rattle.elements.proofs.grow as grow
 use Rattle.elements.proofs.element as element
 
 pub record Contracts : Type 0 where
+  pub of-lent-refusal : Settled lent-refusal.Kinds.ps lent-refusal.Kinds.r lent-refusal.Reads.Pre lent-refusal.Reads.Post
   pub of-number-behind : Once number-behind.Kinds.ps number-behind.Kinds.r number-behind.Reads.Pre number-behind.Reads.Post
   pub of-grow : Once grow.Kinds.ps grow.Kinds.r grow.Reads.Pre grow.Reads.Post
   pub of-element : Once element.Kinds.ps element.Kinds.r element.Reads.Pre element.Reads.Post
@@ -26,6 +28,7 @@ told-once a b n x y e f = go (leb a b) refl
 pub contracts : Contracts
 contracts =
     record {
+      of-lent-refusal = (λ κs a. tt, λ κs a p x y u v e f. (e ∙ sym f, refl));
       of-number-behind = λ κs a p x y u v e f. (told-once _ _ _ x y e f, refl);
       of-grow = λ κs a p x y u v e f. (refl, refl also refl also refl also (let g = p .2 in e (g .rows) (g .stepped) (g .reads) ∙ sym (f (g .rows) (g .stepped) (g .reads))) also refl);
       of-element = λ κs a p x y u v e f. (e .0 ∙ sym (f .0), refl also refl also refl also (e .1 ∙ sym (f .1)) also refl);

@@ -14,7 +14,8 @@ use Rattle.layouts.proofs.Growing.{Learnt, learnt}
 use Rattle.layouts.proofs.Positions.{position-front}
 use Rattle.elements.specs.Element.{Item, layout, row, item, Stepped, elementAt}
 use Rattle.elements.specs.Walk.{Seen, goes, Path, numberOf, Spot, turnAt}
-use Rattle.elements.proofs.Went.{Went, at-layout, at-row, at-finish, went, row-found}
+use Rattle.elements.proofs.Went.{Went, at-layout, at-row, at-finish, went}
+use Rattle.rows.proofs.RowLaws.{row-found}
 use Rattle.elements.proofs.Turns.{took-at}
 
 abbrev pub Longer : Book → Book → Type 0

@@ -3,28 +3,26 @@ use Prim.Native.Nat.{ℕ, _+_, _≤_, _<_}
 use mathlib.Core.Path.{_≡_, refl, ap, subst}
 use mathlib.Core.List.{List}
 use mathlib.Core.Bool.{Bool}
-use mathlib.Core.Option.{some, none}
 use native.Mathlib.Omega.{arith}
 use lib.ListN.{length, take-append-drop}
 use borrow.Author.Tests.{eq-eqb, ne-eqb}
-use Rattle.octets.specs.Reading.{Read, ok, no, _then_, ends, be, number}
+use Rattle.octets.specs.Reading.{Read, ok, no, ends, be, number}
 use Rattle.octets.specs.Writing.{Each, Octet}
 use Rattle.octets.proofs.Ends.{number-ok, number-no, refused}
 use Rattle.layouts.specs.Layout.{Layout, layoutAt}
-use Rattle.layouts.specs.Book.{Book, find, bookImage, bookIn, IsBook, learn}
+use Rattle.layouts.specs.Book.{Book, bookImage, bookIn, IsBook, learn}
 use Rattle.layouts.specs.Answers.{Looks}
 use Rattle.layouts.specs.declared.Looked.{Looked}
 use Rattle.layouts.proofs.Books.{Lent}
 use Rattle.layouts.proofs.Walks.{lent-book}
-use Rattle.rows.specs.Row.{Row, named, rowAt}
-use Rattle.rows.specs.Answers.{Shape, shape}
-use Rattle.elements.specs.Element.{item, layout, row, finish, Stepped, finishAt, layoutElement, rowElement, endElement, elementAt}
+use Rattle.rows.specs.Row.{rowAt}
+use Rattle.rows.proofs.RowLaws.{Shaped}
+use Rattle.elements.specs.Element.{item, layout, finish, Stepped, finishAt, layoutElement, rowElement, endElement, elementAt}
 use Rattle.elements.specs.Steps.{holding}
 use Rattle.elements.specs.Answers.{stepOf, tells, Over}
 use Rattle.elements.specs.declared.Met.the-variants as met
 use Rattle.elements.specs.declared.Step.{Step}
 use Rattle.elements.specs.declared.Stepping.the-variants.{Done, Refused}
-use Rattle.elements.proofs.Went.{named-number}
 
 -- The end, from its count on.
 module _ (s : List ℕ) (at rows : ℕ) (book : Book) where
@@ -58,41 +56,12 @@ looked-at s at in-s looked used book o h x e = subst (Looks in-s (be 4 s at) boo
 
 -- A row, from its layout's number on.
 module _ (s : List ℕ) (at rows : ℕ) (book : Book) where
-  pub row-cut : length s < at + 4 → rowElement s at rows book ≡ no 1 at
-  unfolding rowAt
-  row-cut h = rw (number-no s at 4 h) refl
+  pub row-refused : (n p : ℕ) → rowAt book s at ≡ no n p → rowElement s at rows book ≡ no n p
+  row-refused n p e = rw e refl
 
-  pub row-unknown : at + 4 ≤ length s → find (be 4 s at) book ≡ none → rowElement s at rows book ≡ no 12 at
-  unfolding rowAt
-  row-unknown h f = rw (number-ok s at 4 h, f) refl
-
-  module _ (l : Layout) (h : at + 4 ≤ length s) (f : find (be 4 s at) book ≡ some l) where
-    row-of : rowAt book s at ≡ named s at (be 4 s at) (at + 4) (some l)
-    unfolding rowAt
-    row-of = rw (number-ok s at 4 h, f) refl
-
-    pub row-refused : (n p : ℕ) → shape (named s at (be 4 s at) (at + 4) (some l)) ≡ no n p → rowElement s at rows book ≡ no n p
-    row-refused n p e = rw (row-of, unshaped (named s at (be 4 s at) (at + 4) (some l)) e) refl
-      where
-        unshaped : (r : Read Row) → shape r ≡ no n p → r ≡ no n p
-        unshaped (no m q) e = let a : m ≡ n = cc in let b : q ≡ p = cc in cc
-        unshaped (ok x end) e = absurd (let z : _≡_ {A = ℕ} 0 1 = cc in omega arith)
-
-    pub row-told : (stated : Bool) (count next : ℕ) → shape (named s at (be 4 s at) (at + 4) (some l)) ≡ ok (record { is-stated = stated; count = count }) next
-        → tells (rowElement s at rows book) ≡ Done (record { met = met.Row (be 4 s at) stated count; next = next; rows = rows + 1; used = length (bookImage book) })
-    row-told stated count next e = rw row-of (shaped (named s at (be 4 s at) (at + 4) (some l)) refl e)
-      where
-        shaped : (r : Read Row) → named s at (be 4 s at) (at + 4) (some l) ≡ r → shape r ≡ ok (record { is-stated = stated; count = count }) next
-            → tells (r then λ x end. ok (record { element = item (row x); rows = rows + 1; book = book }) end)
-            ≡ Done (record { met = met.Row (be 4 s at) stated count; next = next; rows = rows + 1; used = length (bookImage book) })
-        shaped (no m q) is e = absurd (let z : _≡_ {A = ℕ} 0 1 = cc in omega arith)
-        shaped (ok x end) is e =
-            let same : _≡_ {A = Shape} (record { is-stated = x .is-stated; count = length (x .fields) }) (record { is-stated = stated; count = count }) = cc in
-            let place : end ≡ next = cc in
-            let a : x .is-stated ≡ stated = ap (λ (y : Shape). y .is-stated) same in
-            let b : length (x .fields) ≡ count = ap (λ (y : Shape). y .count) same in
-            let n : x .number ≡ be 4 s at = named-number s at (be 4 s at) (at + 4) (some l) x end is .0 in
-            rw (n, a, b, place) refl
+  pub row-told : (stated : Bool) (count next : ℕ) → Shaped s at (rowAt book s at) stated count next
+      → tells (rowElement s at rows book) ≡ Done (record { met = met.Row (be 4 s at) stated count; next = next; rows = rows + 1; used = length (bookImage book) })
+  row-told stated count next r = rw (r .is, r .number, r .stated, r .counts) refl
 
 -- A layout, from its number on.
 module _ (s : List ℕ) (at rows : ℕ) (book : Book) where

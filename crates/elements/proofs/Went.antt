@@ -1,16 +1,15 @@
 -- One step of reading, taken apart: what each accepted step rests on.
 use Prim.Native.Nat.{ℕ, _+_}
 use native.Mathlib.Omega.{arith}
-use mathlib.Core.Path.{_≡_, refl, _∙_, ap, subst}
+use mathlib.Core.Path.{_≡_, refl, _∙_, ap}
 use mathlib.Core.List.{List}
-use mathlib.Core.Option.{Option, some, none}
 use lib.ListN.{length}
-use lib.Dec.{eqb, ltb}
+use lib.Dec.{eqb}
 use borrow.Author.Tests.{eqb-true}
 use Rattle.octets.specs.Reading.{ok, no, number}
 use Rattle.layouts.specs.Layout.{Layout, layoutAt}
-use Rattle.layouts.specs.Book.{Book, find, learn}
-use Rattle.rows.specs.Row.{Row, valuesAt, named, rowAt}
+use Rattle.layouts.specs.Book.{Book, learn}
+use Rattle.rows.specs.Row.{Row, rowAt}
 use Rattle.elements.specs.Element.{layout, row, Element, item, finish, Stepped, finishAt, elementAt}
 use Rattle.elements.specs.Reading.{asRow}
 use Rattle.octets.proofs.Inverse.{no-ok, ok-value, ok-place, after, either}
@@ -82,35 +81,6 @@ pub finish-step : (s : List ℕ) (at rows : ℕ) (b : Book) (f : Element) (end :
     → finishAt rows s (at + 4) ≡ ok f end → elementAt s at rows b ≡ ok (record { element = f; rows = rows; book = b }) end
 unfolding elementAt
 finish-step s at rows b f end k e = rw (k, e)
-
--- A row's layout: found where it was read, and all that the row takes of its book.
-pub named-number : (s : List ℕ) (at n p : ℕ) (o : Option Layout) (r : Row) (end : ℕ) → named s at n p o ≡ ok r end → (r .number ≡ n) × ((l : Layout) × (o ≡ some l))
-named-number s at n p none r end e = absurd (no-ok refl e)
-named-number s at n p (some l) r end e =
-    after (number 4 s p) _ e λ size _ _ e2. after (valuesAt (l .attributes) s p size) _ e2 λ fields x _ e3.
-    let q : r ≡ record { number = n; is-stated = ltb size 0xffffffff; fields = fields } = ok-value e3 refl in
-    (ap (λ (y : Row). y .number) q, (l, refl))
-
-module _ (b : Book) (s : List ℕ) (at : ℕ) (r : Row) (end : ℕ) (e : rowAt b s at ≡ ok r end) where
-  pub row-found : (l : Layout) × (find (r .number) b ≡ some l)
-  unfolding rowAt
-  row-found = after (number 4 s at) _ e λ n p _ e2.
-      let h = named-number s at n p (find n b) r end e2 in
-      (h .1 .0, ap (λ (k : ℕ). find k b) (h .0) ∙ h .1 .1)
-
-  pub row-agrees : (c : Book) → find (r .number) c ≡ find (r .number) b → rowAt c s at ≡ ok r end
-  unfolding rowAt
-  row-agrees c same = after (number 4 s at) _ e λ n p e1 e2.
-      let h = named-number s at n p (find n b) r end e2 in
-      let q : find n c ≡ find n b = subst (λ (k : ℕ). find k c ≡ find k b) (h .0) same in
-      rw (e1, q) e2
-
-  pub row-lacks : (c : Book) → find (r .number) c ≡ none → rowAt c s at ≡ no 12 at
-  unfolding rowAt
-  row-lacks c lacks = after (number 4 s at) _ e λ n p e1 e2.
-      let h = named-number s at n p (find n b) r end e2 in
-      let q : find n c ≡ none = subst (λ (k : ℕ). find k c ≡ none) (h .0) lacks in
-      rw (e1, q)
 
 -- A row counts, and nothing else does.
 pub step-rows : (s : List ℕ) (at rows : ℕ) (b : Book) (st : Stepped) (next : ℕ) → elementAt s at rows b ≡ ok st next → st .rows ≡ rows + asRow (st .element)

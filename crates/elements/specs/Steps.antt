@@ -13,9 +13,9 @@ abbrev pub holding : Book → List ℕ → List ℕ
 holding book octets = bookImage book ++ drop (length (bookImage book)) octets
 
 -- What a step leaves in the lent octets: the book behind it, and after a refusal all as it was.
-abbrev pub leaves : List ℕ → Read Stepped → List ℕ
-leaves octets (ok st next) = holding (st .book) octets
-leaves octets (no n p) = octets
+abbrev pub octetsLeft : List ℕ → Read Stepped → List ℕ
+octetsLeft octets (ok st next) = holding (st .book) octets
+octetsLeft octets (no n p) = octets
 
 -- What stands before every step: 2 for the document, then 17 for the book and the rows passed.
 unfoldable pub lentBook : List ℕ → ℕ → List ℕ → ℕ → Read Book

@@ -1,4 +1,4 @@
-// One element over a book that is known to be good.
+// One element over a book that is known to be good, and what stands before it. The definitions: specs/Element.antt (an element), Steps.antt (a step over a lent book), Walk.antt (turn after turn), Reading.antt (whole readings), Document.antt (what a document means).
 
 ghost use mathlib.Core.Path.{_≡_};
 ghost use mathlib.Core.Bool.{true};
@@ -6,15 +6,17 @@ ghost use Prim.Native.Nat.{ℕ, _+_, _≤_, _<_};
 ghost use lib.ListN.{length};
 ghost use Rattle.octets.specs.Limits.{longest, mostRows, bookRoom};
 ghost use Rattle.octets.specs.Reading.{ok, isOk, be};
+ghost use Rattle.octets.specs.Asked.{refusalOf};
 ghost use Rattle.layouts.specs.Layout.{Layout, layoutAt};
 ghost use Rattle.layouts.specs.Book.{Book, bookImage, IsBook, bookIn};
 ghost use Rattle.layouts.specs.Answers.{Stood};
 ghost use Rattle.elements.specs.Element.{item, layout, Stepped, layoutElement, rowElement, endElement, elementAt};
-ghost use Rattle.elements.specs.Steps.{leaves, holding};
+ghost use Rattle.elements.specs.Steps.{octetsLeft, lentBook, holding};
 ghost use Rattle.elements.specs.Answers.{tells, stepOf, Over, Grows};
 use layouts::Learning;
 use layouts::Looked;
 use octets::Ended;
+use octets::Refusal;
 use rows::Rowed;
 
 // What an element says: a layout's number and count of attributes; a row's number, whether its length is stated, and its count of fields; the end's count and time.
@@ -35,6 +37,22 @@ pub struct Step {
 pub enum Stepping {
     Done(Step),
     Refused(u32, usize),
+}
+
+// What stands before every step and every question about an element: 2 for the document, then 17 for the book and the rows passed.
+pub fn lent_refusal<'d, 'b>(doc: &'d [u8], rows: usize, book: &'b [u8], used: usize) -> Refusal
+    ensures { λ r. ⌜ r ≡ refusalOf (lentBook (now (doc .entry)) rows (now (book .entry)) used) ⌝ }
+{
+    if octets::LONGEST < doc.len() {
+        return Refusal::Refused(2, 0);
+    }
+    if !layouts::is_book(book, used) {
+        return Refusal::Refused(17, 0);
+    }
+    if octets::MOST_ROWS < rows {
+        return Refusal::Refused(17, 0);
+    }
+    Refusal::None
 }
 
 // The end from its count on: its count is that of the rows passed, and nothing follows it.
@@ -202,7 +220,7 @@ pub fn element<'d, 'b>(
     used: usize,
 ) -> Stepping
     requires { ⌜ (length (now doc) ≤ longest) × (rows ≤ mostRows) × IsBook (now book) used ⌝ }
-    ensures { λ r. ⌜ (r ≡ tells (elementAt (now (doc .entry)) at rows (bookIn (now (book .entry)) used))) × (now (book .exit) ≡ leaves (now (book .entry)) (elementAt (now (doc .entry)) at rows (bookIn (now (book .entry)) used))) ⌝ }
+    ensures { λ r. ⌜ (r ≡ tells (elementAt (now (doc .entry)) at rows (bookIn (now (book .entry)) used))) × (now (book .exit) ≡ octetsLeft (now (book .entry)) (elementAt (now (doc .entry)) at rows (bookIn (now (book .entry)) used))) ⌝ }
 {
     let looked = layouts::look_in(&book[..used], number_behind(doc, at));
     let one = element_over(doc, at, rows, &book[..used], looked, used);

@@ -1,16 +1,16 @@
 -- The header: reading and image are inverse, a line for each field.
 use mathlib.Core.Path.{_≡_, refl, sym, ap, _∙_}
 use mathlib.Core.List.{List, _++_, append-assoc, append-nil}
-use Prim.Native.Nat.{ℕ, _+_}
+use Prim.Native.Nat.{ℕ, _+_, _≤_}
 use native.Mathlib.Omega.{arith}
 use native.Mathlib.Nat.{le-refl}
 use lib.ListN.{length}
 use lib.Dec.{leb, lit<}
 use borrow.Author.Tests.{leb-true, le-leb}
-use Rattle.octets.specs.Limits.{mostListed}
+use Rattle.octets.specs.Limits.{longest, mostListed}
 use Rattle.octets.specs.Reading.{ok, part, exactly}
 use Rattle.octets.specs.Writing.{word, Each, Octet}
-use Rattle.headers.specs.Header.{namespaceAt, idAt, headerFrom, namespaceImage, headerImage, GoodNamespace, GoodHeader}
+use Rattle.headers.specs.Header.{Header, namespaceAt, idAt, headerFrom, headerAt, namespaceImage, headerImage, GoodNamespace, GoodHeader}
 use Rattle.octets.proofs.Spans.{join, middle, part-spans, part-is, spans-octets, word-octets, each-append}
 use Rattle.octets.proofs.Inverse.{Inverse, Answer, Any, after, settle, chosen, done, seq, seqOn, several, finally}
 use Rattle.octets.proofs.Fields.{number-whole, text-whole, count-inverse, exactly-inverse}
@@ -71,3 +71,11 @@ module _ (s : List ℕ) where
         id = f .0 .1 i;
       }))
       (λ h. simp (append-assoc, append-nil)) (λ h g. search) (λ h g. search)
+
+  -- A document's header, where it is accepted, is inside the limits and ends in the document.
+  pub header-forth : {h : Header} {next : ℕ} → Each Octet s → headerAt s ≡ ok h next → GoodHeader h × (next ≤ length s)
+  unfolding headerAt
+  header-forth o e =
+      let (t, from) = chosen (leb (length s) longest) (λ _. headerFrom s 0) 2 0 e in
+      let (_, good, span) = header-inverse .forth o (omega arith) from in
+      (good, span .inside)

@@ -1,4 +1,4 @@
--- The equations of the document id, of the two lists as runs of strings, and of a whole header by its parts.
+-- The equations of a header under the limit, of the document id, of the two lists as runs of strings, and of a whole header by its parts.
 use Prim.Native.Nat.{ℕ, zero, suc, _+_, _*_, _≤_, _<_}
 use mathlib.Core.Path.{_≡_, refl, sym, ap, _∙_, subst}
 use mathlib.Core.List.{List}
@@ -7,13 +7,23 @@ use native.Mathlib.Nat.{zero-mul, mul-one}
 use lib.ListN.{length}
 use lib.Dec.{leb}
 use borrow.Author.Tests.{le-leb, lt-leb}
-use Rattle.octets.specs.Limits.{mostListed}
+use Rattle.octets.specs.Limits.{longest, mostListed}
 use Rattle.octets.specs.Reading.{Read, ok, no, _then_, choose, ends, part, number, text, count, exactly, run}
 use Rattle.octets.proofs.Inverse.{after, chosen}
 use Rattle.octets.proofs.Ends.{stop, stop-both, ended, run-on, run-stop, run-none, count-is, exactly-place, number-place}
 use Rattle.octets.proofs.Runs.{run-length}
-use Rattle.headers.specs.Header.{namespaceAt, idAt, headerFrom}
+use Rattle.headers.specs.Header.{namespaceAt, idAt, headerFrom, headerAt}
 use Rattle.headers.specs.Answers.{Accepted}
+
+-- The header of a document, too long or not.
+module _ (s : List ℕ) where
+  pub header-long : longest < length s → headerAt s ≡ no 2 0
+  unfolding headerAt
+  header-long h = rw (lt-leb (length s) longest h) refl
+
+  pub header-short : length s ≤ longest → headerAt s ≡ headerFrom s 0
+  unfolding headerAt
+  header-short h = rw (le-leb (length s) longest h) refl
 
 module _ (s : List ℕ) (at : ℕ) where
   pub id-unsized : (n p : ℕ) → ends (exactly 16 5 s at) ≡ no n p → ends (idAt s at) ≡ no n p
@@ -173,11 +183,11 @@ module _ (s : List ℕ) where
   services-listed at end e = listed (text s) at end (services-list at ∙ e)
 
   -- A header whose parts are all accepted.
-  pub accepted : (start namespaces services id end : ℕ) → Fronted start namespaces → Listed (namespaceAt s) namespaces services → Listed (text s) services id
+  pub accepted : length s ≤ longest → (start namespaces services id end : ℕ) → Fronted start namespaces → Listed (namespaceAt s) namespaces services → Listed (text s) services id
       → ends (idAt s id then λ _ next. exactly 0xffffffff 6 s next) ≡ ok end end
-      → Accepted s (record { start = start; namespaces = namespaces; services = services; id = id; end = end })
+      → Accepted s (headerFrom s 0) (record { start = start; namespaces = namespaces; services = services; id = id; end = end })
   unfolding headerFrom
-  accepted start namespaces services id end f l m e =
+  accepted short start namespaces services id end f l m e =
       let (four, e₀) = ended (idAt s id then λ _ next. exactly 0xffffffff 6 s next) end e in
       after (idAt s id) _ e₀ λ value next e₁ e₂.
       record {
@@ -194,4 +204,5 @@ module _ (s : List ℕ) where
               services = m .reads;
               id = e₁ ∙ ap (ok value) (id-place s id value next e₁);
             };
+        short = short;
       }

@@ -1,10 +1,11 @@
 -- What the answers about a header say.
-use Prim.Native.Nat.{ℕ, _+_}
+use Prim.Native.Nat.{ℕ, _+_, _≤_}
 use mathlib.Core.Path.{_≡_}
 use mathlib.Core.List.{List}
 use lib.ListN.{length}
-use Rattle.octets.specs.Reading.{ok, no, number, text, run}
-use Rattle.headers.specs.Header.{Header, namespaceAt, idAt, headerFrom}
+use Rattle.octets.specs.Limits.{longest}
+use Rattle.octets.specs.Reading.{Read, ok, no, number, text, run}
+use Rattle.headers.specs.Header.{Header, namespaceAt, idAt}
 use Rattle.headers.specs.declared.Places.{Places}
 use Rattle.headers.specs.declared.Placing.{Placing}
 use Rattle.headers.specs.declared.Placing.the-variants.{At, Refused}
@@ -20,12 +21,13 @@ pub record Located (s : List ℕ) (h : Header) (p : Places) : Type 0 where
   pub services : run (text s) (length (h .services)) (p .services + 4) ≡ ok (h .services) (p .id)
   pub id : idAt s (p .id) ≡ ok (h .id) (p .id + 20)
 
--- The header of a document that is not too long, with the places of its fields; or its refusal.
-pub record Accepted (s : List ℕ) (p : Places) : Type 0 where
+-- What was read of a document that is not too long is a header with the places of its fields; or its refusal.
+pub record Accepted (s : List ℕ) (read : Read Header) (p : Places) : Type 0 where
   pub header : Header
-  pub reads : headerFrom s 0 ≡ ok header (p .end)
+  pub reads : read ≡ ok header (p .end)
   pub located : Located s header p
+  pub short : length s ≤ longest
 
-abbrev pub Locates : List ℕ → Placing → Type 0
-Locates s (At p) = Accepted s p
-Locates s (Refused n q) = headerFrom s 0 ≡ no n q
+abbrev pub Locates : List ℕ → Read Header → Placing → Type 0
+Locates s read (At p) = Accepted s read p
+Locates s read (Refused n q) = read ≡ no n q

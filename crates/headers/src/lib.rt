@@ -1,4 +1,4 @@
-// The header: its end or its refusal, and the places of its fields.
+// The header: the places of its fields, or its refusal. What a header is stands in specs/Header.antt, what is answered of its places in specs/Answers.antt; callers use `header_at`.
 
 ghost use mathlib.Core.Path.{_≡_};
 ghost use Prim.Native.Nat.{_+_, _*_, _≤_};
@@ -6,7 +6,7 @@ ghost use lib.ListN.{length};
 ghost use Rattle.octets.specs.Limits.{longest, mostListed};
 ghost use Rattle.octets.specs.Reading.{ends, _then_, number, text, count, exactly, run};
 ghost use Rattle.octets.specs.Answers.{says, Within};
-ghost use Rattle.headers.specs.Header.{idAt};
+ghost use Rattle.headers.specs.Header.{idAt, headerFrom, headerAt};
 ghost use Rattle.headers.specs.Answers.{Locates};
 use octets::Counted;
 use octets::Ended;
@@ -140,10 +140,10 @@ fn close_end(s: &[u8], at: usize) -> Ended
     }
 }
 
-// The places of a header's fields.
-pub fn header_places(s: &[u8]) -> Placing
+// The places of a header's fields, in a document that is not too long.
+fn header_places(s: &[u8]) -> Placing
     requires { ⌜ length (now s) ≤ longest ⌝ }
-    ensures { λ r. ⌜ Locates (now (s .entry)) r ⌝ }
+    ensures { λ r. ⌜ Locates (now (s .entry)) (headerFrom (now (s .entry)) 0) r ⌝ }
 {
     let recorder = recorder_end(s);
     let start = match recorder {
@@ -184,4 +184,14 @@ pub fn header_places(s: &[u8]) -> Placing
             end,
         }),
     }
+}
+
+// The places of a document's header: 2 before all where the document is too long.
+pub fn header_at(s: &[u8]) -> Placing
+    ensures { λ r. ⌜ Locates (now (s .entry)) (headerAt (now (s .entry))) r ⌝ }
+{
+    if octets::LONGEST < s.len() {
+        return Placing::Refused(2, 0);
+    }
+    header_places(s)
 }

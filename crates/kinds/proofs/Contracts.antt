@@ -6,7 +6,7 @@ use Rattle.kinds.specs.Answers.{kinds, kindSays}
 use Rattle.kinds.specs.declared.Typed.{Typed}
 use Rattle.kinds.specs.declared.Typed.the-variants as typed
 use Rattle.kinds.specs.declared.Kinded.{Kinded}
-use Rattle.kinds.specs.declared.Kinded.the-variants.{At, Refused}
+use Rattle.kinds.specs.declared.Kinded.the-variants as kinded
 use Rattle.octets.proofs.Ends.{value-is}
 use Rattle.octets.proofs.Contracts.{says-once}
 use Rattle.kinds.proofs.Table.{code-once}
@@ -59,10 +59,10 @@ kinds-once (typed.Refused n) (typed.Is l) e = cc
 kinds-once (typed.Refused n) (typed.Refused m) e = cc
 
 kind-says-once : (at : ℕ) (x y : Kinded) → kindSays at x ≡ kindSays at y → x ≡ y
-kind-says-once at (At k) (At l) e = cc
-kind-says-once at (At k) (Refused m q) e = cc
-kind-says-once at (Refused n p) (At l) e = cc
-kind-says-once at (Refused n p) (Refused m q) e = cc
+kind-says-once at (kinded.Is k) (kinded.Is l) e = cc
+kind-says-once at (kinded.Is k) (kinded.Refused m q) e = cc
+kind-says-once at (kinded.Refused n p) (kinded.Is l) e = cc
+kind-says-once at (kinded.Refused n p) (kinded.Refused m q) e = cc
 
 pub contracts : Contracts
 contracts =

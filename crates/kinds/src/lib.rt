@@ -97,7 +97,7 @@ pub enum Typed {
 
 // The type at a place, or a refusal by number and place.
 pub enum Kinded {
-    At(Kind),
+    Is(Kind),
     Refused(u32, usize),
 }
 
@@ -335,7 +335,7 @@ pub fn kind_at(s: &[u8], at: usize) -> Kinded
     }
     let typed = kind_of(octets::u32_at(s, at));
     match typed {
-        Typed::Is(kind) => Kinded::At(kind),
+        Typed::Is(kind) => Kinded::Is(kind),
         Typed::Refused(n) => Kinded::Refused(n, at),
     }
 }

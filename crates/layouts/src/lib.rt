@@ -38,7 +38,7 @@ fn kind_end(s: &[u8], at: usize) -> Ended
 {
     let kind = kinds::kind_at(s, at);
     match kind {
-        Kinded::At(k) => Ended::End(at + 4),
+        Kinded::Is(k) => Ended::End(at + 4),
         Kinded::Refused(n, p) => Ended::Refused(n, p),
     }
 }

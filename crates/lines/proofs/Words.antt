@@ -11,7 +11,7 @@ use Rattle.kinds.specs.declared.Kind.{Kind}
 use Rattle.layouts.specs.Layout.{Layout}
 use Rattle.rows.specs.Row.{Field}
 use Rattle.elements.specs.Element.{Element, item, layout}
-use Rattle.questions.specs.Questions.{partOf}
+use Rattle.octets.specs.Asked.{partOf}
 use Rattle.questions.specs.Answers.{valueOf, octetsOf, fieldTells}
 use Rattle.kinds.specs.declared.Value.{Value}
 use Rattle.questions.specs.declared.Fielded.the-variants.{Is}

@@ -12,6 +12,7 @@ use denote.Ref.{now}
 use Rattle.octets.proofs.Ends.{value-is}
 use Rattle.octets.proofs.Inverse.{ok-place}
 use Rattle.octets.proofs.Alike.{_also_}
+use Rattle.octets.proofs.found_refusal as found-refusal
 use Rattle.octets.proofs.u8_at as u8-at
 use Rattle.octets.proofs.u16_at as u16-at
 use Rattle.octets.proofs.u32_at as u32-at
@@ -29,6 +30,7 @@ use Rattle.octets.proofs.lay as lay
 use Rattle.octets.proofs.lay_number as lay-number
 
 pub record Contracts : Type 0 where
+  pub of-found-refusal : Once found-refusal.Kinds.ps found-refusal.Kinds.r found-refusal.Reads.Pre found-refusal.Reads.Post
   pub of-u8-at : Once u8-at.Kinds.ps u8-at.Kinds.r u8-at.Reads.Pre u8-at.Reads.Post
   pub of-u16-at : Once u16-at.Kinds.ps u16-at.Kinds.r u16-at.Reads.Pre u16-at.Reads.Post
   pub of-u32-at : Once u32-at.Kinds.ps u32-at.Kinds.r u32-at.Reads.Pre u32-at.Reads.Post
@@ -61,6 +63,7 @@ counts-once (counted.Refused n p) (counted.Refused m q) e = cc
 pub contracts : Contracts
 contracts =
     record {
+      of-found-refusal = λ κs a p x y u v e f. (e ∙ sym f, refl);
       of-u8-at = λ κs a p x y u v e f. (e ∙ sym f, refl);
       of-u16-at = λ κs a p x y u v e f. (e ∙ sym f, refl);
       of-u32-at = λ κs a p x y u v e f. (e ∙ sym f, refl);

@@ -261,13 +261,13 @@ pub one-end : {A : Type 0} (r : Read A) {a : A} {n m : ℕ} → r ≡ ok a n →
 one-end r e f = cc (ap ends e, f)
 
 -- A string where it stands: its octets are those behind its length.
-pub record Standing (s : List ℕ) (at : ℕ) (xs : List ℕ) (next : ℕ) : Type 0 where
+pub record TextAt (s : List ℕ) (at : ℕ) (xs : List ℕ) (next : ℕ) : Type 0 where
   pub head : at + 4 ≤ length s
   pub inside : next ≤ length s
   pub place : next ≡ at + 4 + be 4 s at
   pub is : part s (at + 4) (be 4 s at) ≡ xs
 
-pub text-stands : (s : List ℕ) (at : ℕ) {xs : List ℕ} {next : ℕ} → text s at ≡ ok xs next → Standing s at xs next
+pub text-stands : (s : List ℕ) (at : ℕ) {xs : List ℕ} {next : ℕ} → text s at ≡ ok xs next → TextAt s at xs next
 text-stands s at e =
     let (h, g) = text-room s at (ap isOk e) in
     let f = text-ok s at h g in

@@ -4,5 +4,6 @@ pub mod Fields
 pub mod Ends
 pub mod Copies
 pub mod Runs
+pub mod Asked
 pub mod Alike
 pub mod Contracts

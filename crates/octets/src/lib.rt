@@ -9,6 +9,7 @@ ghost use Rattle.octets.specs.Limits.{longest};
 ghost use Rattle.octets.specs.Reading.{ok, reach, overrun, be, part, same, ends, isOk, numberIn, ledIn, text, count};
 ghost use Rattle.octets.specs.Writing.{word, over};
 ghost use Rattle.octets.specs.Answers.{says, counts, Within, CountWithin};
+ghost use Rattle.octets.specs.Asked.{refusalOf};
 
 // The most octets of a document, and the most rows that a step may be told.
 pub const LONGEST: usize = 1048576;
@@ -44,6 +45,22 @@ pub enum Counted {
 pub enum Room {
     Document,
     Stated(usize, usize),
+}
+
+// Whether what is asked is refused, by number and place.
+pub enum Refusal {
+    None,
+    Refused(u32, usize),
+}
+
+// Whether what was found is a refusal.
+pub fn found_refusal(found: Ended) -> Refusal
+    ensures { λ r. ⌜ r ≡ refusalOf (says found) ⌝ }
+{
+    match found {
+        Ended::End(place) => Refusal::None,
+        Ended::Refused(n, p) => Refusal::Refused(n, p),
+    }
 }
 
 fn wide(x: u8) -> u32

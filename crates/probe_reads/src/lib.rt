@@ -9,8 +9,8 @@ use kinds::Kind;
 use printing::Show;
 use probe_input::Args;
 use questions::Fielded;
-use questions::Refusal;
-use questions::Typing;
+use octets::Refusal;
+use kinds::Kinded;
 use reading::Checked;
 use reading::Headed;
 
@@ -26,7 +26,7 @@ fn head(out: &mut [u8], n: usize, refusal: Refusal, word: &[u8]) -> usize
 {
     match refusal {
         Refusal::None => printing::show_all(out, n, Show::Plain, word),
-        Refusal::Is(number, place) => printing::refused(out, n, number, place),
+        Refusal::Refused(number, place) => printing::refused(out, n, number, place),
     }
 }
 
@@ -121,7 +121,7 @@ fn fielded(out: &mut [u8], n: usize, field: Fielded) -> usize {
 // A field's refusal, or its type and value.
 fn field_head(out: &mut [u8], n: usize, refusal: Refusal, field: Fielded) -> usize {
     match refusal {
-        Refusal::Is(number, place) => printing::refused(out, n, number, place),
+        Refusal::Refused(number, place) => printing::refused(out, n, number, place),
         Refusal::None => fielded(out, n, field),
     }
 }
@@ -152,12 +152,12 @@ fn type_name(doc: &[u8], book: &[u8], a: Args, out: &mut [u8], n: usize) -> usiz
 }
 
 // An attribute's refusal, or its type.
-fn attribute_head(out: &mut [u8], n: usize, refusal: Refusal, typing: Typing) -> usize {
+fn attribute_head(out: &mut [u8], n: usize, refusal: Refusal, typing: Kinded) -> usize {
     match refusal {
-        Refusal::Is(number, place) => printing::refused(out, n, number, place),
+        Refusal::Refused(number, place) => printing::refused(out, n, number, place),
         Refusal::None => match typing {
-            Typing::Refused(number, place) => printing::refused(out, n, number, place),
-            Typing::Is(is) => kind(out, n, b"attribute ", is),
+            Kinded::Refused(number, place) => printing::refused(out, n, number, place),
+            Kinded::Is(is) => kind(out, n, b"attribute ", is),
         },
     }
 }
@@ -178,22 +178,22 @@ fn attribute(doc: &[u8], book: &[u8], a: Args, out: &mut [u8], n: usize) -> usiz
 // Whether a string of the header is refused.
 fn text_refusal(doc: &[u8], which: u64, n: usize) -> Refusal {
     match which {
-        2 => strings::namespace_refusal(doc, n),
-        3 => strings::namespace_refusal(doc, n),
-        4 => strings::service_refusal(doc, n),
-        _ => strings::header_refusal(doc),
+        2 => header_questions::namespace_refusal(doc, n),
+        3 => header_questions::namespace_refusal(doc, n),
+        4 => header_questions::service_refusal(doc, n),
+        _ => header_questions::header_refusal(doc),
     }
 }
 
 // A string of the header.
 fn text_part<'d>(doc: &'d [u8], which: u64, n: usize) -> &'d [u8] {
     match which {
-        0 => strings::recorder(doc),
-        1 => strings::default_namespace(doc),
-        2 => strings::namespace_uri(doc, n),
-        3 => strings::namespace_short(doc, n),
-        4 => strings::service(doc, n),
-        _ => strings::document_id(doc),
+        0 => header_questions::recorder(doc),
+        1 => header_questions::default_namespace(doc),
+        2 => header_questions::namespace_uri(doc, n),
+        3 => header_questions::namespace_short(doc, n),
+        4 => header_questions::service(doc, n),
+        _ => header_questions::document_id(doc),
     }
 }
 

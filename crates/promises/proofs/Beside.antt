@@ -17,7 +17,8 @@ use Rattle.promises.specs.Resume.{layoutOf, layoutsOf}
 use Rattle.octets.specs.Writing.{Each, Octet}
 use Rattle.layouts.proofs.Finding.{absent, some-same, Within}
 use Rattle.layouts.proofs.Growing.{absent-append, Alike, alike-append, Learns, learns-within}
-use Rattle.elements.proofs.Went.{Went, at-layout, at-row, at-finish, went, layout-step, row-step, row-stop, finish-step, row-found, row-agrees, row-lacks}
+use Rattle.elements.proofs.Went.{Went, at-layout, at-row, at-finish, went, layout-step, row-step, row-stop, finish-step}
+use Rattle.rows.proofs.RowLaws.{row-found, row-agrees, row-lacks}
 use Rattle.elements.proofs.Turns.{took-at, ends, turn-item, turn-end}
 use Rattle.promises.proofs.Run.{Gains, element-gains, turn-gains, path-gains}
 

@@ -2,7 +2,7 @@
 use Rattle.reading.proofs.Contracts as reading
 use Rattle.runs.proofs.Contracts as runs
 use Rattle.questions.proofs.Contracts as questions
-use Rattle.strings.proofs.Contracts as strings
+use Rattle.header_questions.proofs.Contracts as header-questions
 use Rattle.writing.proofs.Contracts as writing
 use Rattle.collector.proofs.Contracts as collector
 use Rattle.promises.proofs.Given.{refusals}
@@ -16,7 +16,7 @@ demand-1 =
       of-reading = reading.contracts;
       of-runs = runs.contracts;
       of-questions = questions.contracts;
-      of-strings = strings.contracts;
+      of-header-questions = header-questions.contracts;
       of-writing = writing.contracts;
       of-collector = collector.contracts;
       refusals = refusals;

@@ -2,7 +2,7 @@
 use Rattle.reading.proofs.Contracts as reading
 use Rattle.runs.proofs.Contracts as runs
 use Rattle.questions.proofs.Contracts as questions
-use Rattle.strings.proofs.Contracts as strings
+use Rattle.header_questions.proofs.Contracts as header-questions
 use Rattle.writing.proofs.Contracts as writing
 use Rattle.collector.proofs.Contracts as collector
 use Rattle.promises.specs.Refusals.{Refusals}
@@ -13,7 +13,7 @@ pub record Demand1 : Type 0 where
   pub of-reading : reading.Contracts
   pub of-runs : runs.Contracts
   pub of-questions : questions.Contracts
-  pub of-strings : strings.Contracts
+  pub of-header-questions : header-questions.Contracts
   pub of-writing : writing.Contracts
   pub of-collector : collector.Contracts
   -- The header check, the step and the whole check, for C as for Rattle; a run and the questions; each of the writer's calls.

@@ -8,7 +8,7 @@ use lib.ListN.{length, drop, length-append}
 use lib.Dec.{leb}
 use Rattle.octets.specs.Limits.{longest}
 use Rattle.octets.specs.Reading.{Read, ok, no, number}
-use Rattle.octets.specs.Writing.{word, textImage, images, Each, Octet}
+use Rattle.octets.specs.Writing.{word, ledImage, images, Each, Octet}
 use Rattle.octets.proofs.Spans.{Spans, middle, length-word}
 use Rattle.octets.proofs.Fields.{number-whole}
 use Rattle.octets.proofs.Inverse.{chosen}
@@ -20,12 +20,14 @@ use Rattle.elements.specs.Element.{Element, item, layout, row, finish}
 use Rattle.elements.specs.Walk.{Lent}
 use Rattle.elements.specs.Reading.{Placed}
 use Rattle.reading.specs.Answers.{headTells}
-use Rattle.questions.specs.Questions.{rowOf, layoutOf, rowAsked, partOf}
+use Rattle.octets.specs.Asked.{partOf}
+use Rattle.questions.specs.Questions.{rowOf, layoutOf, rowAsked}
 use Rattle.questions.specs.Answers.{octetsOf, fieldTells, kindTells}
-use Rattle.questions.proofs.Asked.{nth-none, nth-some, attribute-asked}
+use Rattle.octets.proofs.Asked.{nth-none, nth-some}
+use Rattle.questions.proofs.Asked.{attribute-asked}
 use Rattle.questions.proofs.Line.{field-asked, field-unasked}
 use Rattle.questions.proofs.After.{row-after, layout-after}
-use Rattle.strings.specs.Strings.{namespacesPlace, servicesPlace, namespaceAsked, serviceAsked}
+use Rattle.header_questions.specs.Questions.{namespacesPlace, servicesPlace, namespaceAsked, serviceAsked}
 use Rattle.promises.specs.BySteps.{Ending, BySteps, Meets}
 use Rattle.promises.proofs.Over.{meets}
 use Rattle.promises_questions.specs.Answered.{fieldOver, layoutOver, attributeOver, Items, RowAnswered, LayoutAnswered, Answered, HeaderAnswered, AllAsked}
@@ -111,10 +113,10 @@ module _ (s : List ℕ) (o : Each Octet s) (h : Header) (next : ℕ) (e : header
 
   -- What stands before the first count, and behind the second.
   front : List ℕ
-  front = word 4 4 ++ (textImage (h .recorder) ++ (word 8 (h .start) ++ textImage (h .default)))
+  front = word 4 4 ++ (ledImage (h .recorder) ++ (word 8 (h .start) ++ ledImage (h .default)))
 
   back : List ℕ
-  back = images textImage (h .services) ++ (word 4 16 ++ (h .id ++ word 4 0xffffffff))
+  back = images ledImage (h .services) ++ (word 4 16 ++ (h .id ++ word 4 0xffffffff))
 
   namespaces-stand : number 4 s (namespacesPlace h) ≡ ok (length (h .others)) (namespacesPlace h + 4)
   unfolding headerImage namespacesPlace front back

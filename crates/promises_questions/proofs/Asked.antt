@@ -19,9 +19,10 @@ use Rattle.elements.specs.Element.{Element, item, layout, row, finish, elementA
 use Rattle.elements.specs.Steps.{lentBook}
 use Rattle.elements.proofs.Refusing.{number-stays, layout-stays, learn-stays, row-stays}
 use Rattle.elements.proofs.Told.{element-layout, element-row}
-use Rattle.questions.specs.Questions.{kindAsked, bookAsked, firstOf, nth, rowOf, layoutOf, rowAsked, fieldAsked, layoutAsked, attributeAsked}
+use Rattle.octets.specs.Asked.{firstOf, nth}
+use Rattle.questions.specs.Questions.{kindAsked, bookAsked, rowOf, layoutOf, rowAsked, fieldAsked, layoutAsked, attributeAsked}
 use Rattle.questions.proofs.Asked.{kind-forth}
-use Rattle.strings.specs.Strings.{namespacesPlace, servicesPlace, namespaceAsked, serviceAsked}
+use Rattle.header_questions.specs.Questions.{namespacesPlace, servicesPlace, namespaceAsked, serviceAsked}
 use Rattle.promises.specs.Refusals.{Only}
 use Rattle.promises.proofs.Numbers.{taken, given, In, only, only-with, only-then, only-choose, book-17, header-only}
 use Rattle.promises_questions.specs.Numbers.{fieldNumbers, layoutNumbers, attributeNumbers, listedNumbers}

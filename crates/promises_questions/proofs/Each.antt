@@ -5,17 +5,19 @@ use mathlib.Core.List.{List, [], _∷_, _++_}
 use lib.ListN.{length, set}
 use borrow.Author.Tests.{lt-leb}
 use Rattle.octets.specs.Limits.{longest}
-use Rattle.octets.specs.Reading.{Read, no, be, part, numberIn, octetsIn, textIn, count, exactly, run}
-use Rattle.octets.specs.Writing.{word, textImage, images}
+use Rattle.octets.specs.Reading.{Read, no, be, part, numberIn, ledIn, count, exactly, run}
+use Rattle.octets.specs.Writing.{word, ledImage, images}
 use Rattle.kinds.specs.Kinds.{among, basicOf, kindAt}
 use Rattle.layouts.specs.Layout.{Attribute, Layout, attributeAt, layoutAt, attributeImage, layoutImage}
 use Rattle.layouts.specs.Book.{find, bookImage, layoutsAt, bookOf, learn}
-use Rattle.rows.specs.Row.{Field, valueIn, fieldsIn, valuesAt, rowAt}
+use Rattle.rows.specs.Row.{Field, fieldsIn, valuesAt, rowAt}
+use Rattle.kinds.specs.Forms.{valueIn}
 use Rattle.headers.specs.Header.{Namespace, namespaceAt, idAt, headerFrom, headerAt}
 use Rattle.elements.specs.Element.{elementAt}
 use Rattle.elements.specs.Steps.{lentBook}
-use Rattle.questions.specs.Questions.{kindAsked, bookAsked, nth, rowAsked, fieldAsked, layoutAsked, attributeAsked}
-use Rattle.strings.specs.Strings.{namespaceAsked, serviceAsked}
+use Rattle.octets.specs.Asked.{nth}
+use Rattle.questions.specs.Questions.{kindAsked, bookAsked, rowAsked, fieldAsked, layoutAsked, attributeAsked}
+use Rattle.header_questions.specs.Questions.{namespaceAsked, serviceAsked}
 use Rattle.promises.specs.Specimen.{specimen, layoutBook, emptyBook}
 use Rattle.promises.specs.Refusals.{refusalOf, refusalsOf, Inputs}
 use Rattle.promises.proofs.Given.{layouts, long, too-long, header-long}
@@ -66,7 +68,7 @@ abbrev field : Indexed → Read Field
 field i = fieldAsked (i .step .document) (i .step .place) (i .step .rows) (i .step .octets) (i .step .used) (i .index)
 
 field-each : refusalsOf field fieldInputs ≡ fieldNumbers
-unfolding fieldInputs specimen layoutBook emptyBook be part numberIn octetsIn textIn count run among basicOf kindAt attributeAt layoutAt find layoutsAt bookOf valueIn fieldsIn valuesAt rowAt elementAt lentBook kindAsked bookAsked nth rowAsked fieldAsked
+unfolding fieldInputs specimen layoutBook emptyBook be part numberIn ledIn count run among basicOf kindAt attributeAt layoutAt find layoutsAt bookOf valueIn fieldsIn valuesAt rowAt elementAt lentBook kindAsked bookAsked nth rowAsked fieldAsked
 field-each = ap (λ (r : Read Field). 1 ∷ refusalOf r ∷ 7 ∷ 12 ∷ 13 ∷ 14 ∷ 17 ∷ 18 ∷ 19 ∷ []) field-long
 
 layoutInputs : List Inputs
@@ -79,7 +81,7 @@ abbrev layout : Inputs → Read Layout
 layout i = layoutAsked (i .document) (i .place) (i .rows) (i .octets) (i .used)
 
 layout-each : refusalsOf layout layoutInputs ≡ layoutNumbers
-unfolding layoutInputs specimen layoutBook emptyBook be part numberIn octetsIn textIn count run word textImage images among basicOf kindAt attributeAt layoutAt attributeImage layoutImage find bookImage layoutsAt bookOf learn elementAt lentBook kindAsked bookAsked layoutAsked
+unfolding layoutInputs specimen layoutBook emptyBook be part numberIn ledIn count run word ledImage images among basicOf kindAt attributeAt layoutAt attributeImage layoutImage find bookImage layoutsAt bookOf learn elementAt lentBook kindAsked bookAsked layoutAsked
 layout-each = ap (λ (r : Read Layout). 1 ∷ refusalOf r ∷ 4 ∷ 7 ∷ 8 ∷ 9 ∷ 10 ∷ 11 ∷ 17 ∷ 19 ∷ []) layout-long
 
 abbrev attribute : Indexed → Read Attribute
@@ -94,7 +96,7 @@ attributeInputs : List Indexed
 attributeInputs = record { step = bare specimen 52; index = 2 } ∷ firsts layoutInputs
 
 attribute-each : refusalsOf attribute attributeInputs ≡ attributeNumbers
-unfolding attributeInputs layoutInputs specimen layoutBook emptyBook be part numberIn octetsIn textIn count run word textImage images among basicOf kindAt attributeAt layoutAt attributeImage layoutImage find bookImage layoutsAt bookOf learn elementAt lentBook kindAsked bookAsked nth layoutAsked attributeAsked
+unfolding attributeInputs layoutInputs specimen layoutBook emptyBook be part numberIn ledIn count run word ledImage images among basicOf kindAt attributeAt layoutAt attributeImage layoutImage find bookImage layoutsAt bookOf learn elementAt lentBook kindAsked bookAsked nth layoutAsked attributeAsked
 attribute-each = ap (λ (r : Read Attribute). 18 ∷ 1 ∷ refusalOf r ∷ 4 ∷ 7 ∷ 8 ∷ 9 ∷ 10 ∷ 11 ∷ 17 ∷ 19 ∷ []) attribute-long
 
 listedInputs : List Listed
@@ -103,11 +105,11 @@ listedInputs =
     ∷ record { document = set specimen 23 17; index = 0 } ∷ record { document = set specimen 31 15; index = 0 } ∷ record { document = set specimen 51 0; index = 0 } ∷ []
 
 namespace-each : refusalsOf (λ (i : Listed). namespaceAsked (i .document) (i .index)) listedInputs ≡ listedNumbers
-unfolding listedInputs specimen be part numberIn octetsIn textIn count exactly run namespaceAt idAt headerFrom headerAt nth namespaceAsked
+unfolding listedInputs specimen be part numberIn ledIn count exactly run namespaceAt idAt headerFrom headerAt nth namespaceAsked
 namespace-each = ap (λ (r : Read Namespace). 18 ∷ 1 ∷ refusalOf r ∷ 3 ∷ 4 ∷ 5 ∷ 6 ∷ []) namespace-long
 
 service-each : refusalsOf (λ (i : Listed). serviceAsked (i .document) (i .index)) listedInputs ≡ listedNumbers
-unfolding listedInputs specimen be part numberIn octetsIn textIn count exactly run namespaceAt idAt headerFrom headerAt nth serviceAsked
+unfolding listedInputs specimen be part numberIn ledIn count exactly run namespaceAt idAt headerFrom headerAt nth serviceAsked
 service-each = ap (λ (r : Read (List ℕ)). 18 ∷ 1 ∷ refusalOf r ∷ 3 ∷ 4 ∷ 5 ∷ 6 ∷ []) service-long
 
 pub numbers : Numbers

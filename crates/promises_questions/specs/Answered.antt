@@ -14,11 +14,12 @@ use Rattle.elements.specs.Walk.{Lent, lentAt}
 use Rattle.elements.specs.Reading.{Placed, Reading, reading, rowsOf}
 use Rattle.reading.specs.Answers.{headTells}
 use Rattle.reading.specs.declared.Headed.the-variants as headed
-use Rattle.questions.specs.Questions.{nth, fieldAsked, layoutAsked, attributeAsked, partOf}
+use Rattle.octets.specs.Asked.{nth, partOf}
+use Rattle.questions.specs.Questions.{fieldAsked, layoutAsked, attributeAsked}
 use Rattle.questions.specs.Answers.{valueOf, octetsOf, fieldTells, kindTells}
 use Rattle.questions.specs.declared.Fielded.the-variants as fielded
-use Rattle.questions.specs.declared.Typing.the-variants as typing
-use Rattle.strings.specs.Strings.{namespacesPlace, servicesPlace, namespaceAsked, serviceAsked}
+use Rattle.kinds.specs.declared.Kinded.the-variants as kinded
+use Rattle.header_questions.specs.Questions.{namespacesPlace, servicesPlace, namespaceAsked, serviceAsked}
 use Rattle.promises.specs.BySteps.{Ending, BySteps, Meets, Stops}
 use Rattle.promises.specs.Resume.{AllIn, layoutsOf, FirstLacking}
 
@@ -55,8 +56,8 @@ pub record LayoutAnswered (s : List ℕ) (x : Lent) (l : Layout) (next : ℕ) : 
   pub type-name : partOf (λ y. y .type-name) (layoutOver s x) ≡ l .type-name
   pub attribute : Items (attributeOver s x) (x .at) (l .attributes) next
   pub name : AtEach (l .attributes) λ n a. partOf (λ y. y .name) (attributeOver s x n) ≡ a .name
-  pub kind : AtEach (l .attributes) λ n a. kindTells (attributeOver s x n) ≡ typing.Is (a .kind)
-  pub behind : (n : ℕ) → length (l .attributes) ≤ n → kindTells (attributeOver s x n) ≡ typing.Refused 18 (x .at)
+  pub kind : AtEach (l .attributes) λ n a. kindTells (attributeOver s x n) ≡ kinded.Is (a .kind)
+  pub behind : (n : ℕ) → length (l .attributes) ≤ n → kindTells (attributeOver s x n) ≡ kinded.Refused 18 (x .at)
   pub other : (n : ℕ) → fieldOver s x n ≡ no 19 (x .at)
 
 -- The end is neither.

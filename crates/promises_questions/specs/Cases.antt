@@ -9,7 +9,7 @@ use Rattle.kinds.specs.declared.Basic.{Basic}
 use Rattle.kinds.specs.declared.Basic.the-variants.{UnsignedInt, Byte, Short}
 use Rattle.kinds.specs.Kinds.{signed}
 use Rattle.layouts.specs.Layout.{Attribute}
-use Rattle.rows.specs.Row.{bits}
+use Rattle.kinds.specs.Forms.{bits}
 use Rattle.elements.specs.Element.{layout, row, item, finish}
 use Rattle.elements.specs.Reading.{Placed, readingFrom, reading, whole}
 use Rattle.questions.specs.Questions.{fieldAsked}

@@ -4,7 +4,7 @@ use mathlib.Core.List.{List, [], _∷_}
 use Rattle.elements.specs.Walk.{lentAt}
 use Rattle.runs.specs.Runs.{runAsked}
 use Rattle.questions.specs.Questions.{fieldAsked, layoutAsked, attributeAsked}
-use Rattle.strings.specs.Strings.{namespaceAsked, serviceAsked}
+use Rattle.header_questions.specs.Questions.{namespaceAsked, serviceAsked}
 use Rattle.promises.specs.Refusals.{Gives, headerNumbers, stepNumbers, Inputs}
 
 -- Field n of a row.

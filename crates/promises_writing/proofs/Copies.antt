@@ -22,7 +22,8 @@ use Rattle.elements.specs.Steps.{lentBook}
 use Rattle.elements.proofs.Before.{lent-forth}
 use Rattle.elements.proofs.Elements.{Came, a-layout, a-row, an-end, element-forth}
 use Rattle.reading.proofs.Times.{Timed, header-timed, step-timed}
-use Rattle.questions.specs.Questions.{kindAsked, bookAsked, firstOf, nth, rowOf, rowAsked, fieldAsked}
+use Rattle.octets.specs.Asked.{firstOf, nth}
+use Rattle.questions.specs.Questions.{kindAsked, bookAsked, rowOf, rowAsked, fieldAsked}
 use Rattle.questions.specs.Answers.{bitsOf, octetsOf, valueOf}
 use Rattle.questions.proofs.Asked.{kind-forth}
 use Rattle.writer.specs.Writer.{startTime, value, inForm, valueCall, finish}

@@ -1,60 +1,34 @@
 -- What stands before a question about an element, and that a question reads what the step reads: each equation is a definition at one outcome of its tests.
-use Prim.Native.Nat.{ℕ, zero, suc, _+_, _≤_, _<_}
+use Prim.Native.Nat.{ℕ, _+_, _≤_, _<_}
 use mathlib.Core.Path.{_≡_, refl, sym, ap, _∙_}
-use mathlib.Core.List.{List, [], _∷_}
+use mathlib.Core.List.{List}
 use mathlib.Core.Bool.{Bool, true, false, _&&_}
 use native.Mathlib.Omega.{arith}
-use lib.ListN.{length, drop}
-use lib.Seq.{drop-nil}
+use lib.ListN.{length, take}
+use lib.Seq.{length-take-le}
 use lib.Dec.{leb, eqb}
 use borrow.Author.Tests.{le-leb, lt-leb, eq-eqb, ne-eqb, eqb-true}
-use Rattle.octets.specs.Limits.{longest, mostRows}
+use Rattle.octets.specs.Limits.{longest, mostRows, bookRoom}
 use Rattle.octets.specs.Reading.{Read, ok, no, _then_, choose, ends, isOk, be, number}
+use Rattle.octets.specs.Asked.{nth, Standing}
 use Rattle.octets.specs.Writing.{Each, Octet}
-use Rattle.octets.proofs.Inverse.{after}
-use Rattle.octets.proofs.Ends.{made, stop, ended, number-ok, number-no, number-room}
-use Rattle.octets.proofs.Inverse.{ok-value, ok-place}
-use Rattle.layouts.specs.Layout.{Layout, layoutAt}
+use Rattle.octets.specs.Answers.{says}
+use Rattle.octets.specs.declared.Ended.{Ended}
+use Rattle.octets.specs.declared.Ended.the-variants as answer
+use Rattle.octets.proofs.Inverse.{after, ok-value, ok-place}
+use Rattle.octets.proofs.Asked.{nth-none, nth-some}
+use Rattle.octets.proofs.Ends.{made, stop, ended, refused, number-ok, number-no, number-room}
+use Rattle.layouts.specs.Layout.{Layout, attributeAt, layoutAt}
 use Rattle.layouts.specs.Book.{Book, bookIn, IsBook, learn}
+use Rattle.layouts.specs.Answers.{Image, Holds, Nth}
+use Rattle.layouts.proofs.Walks.{lent-book, book-image}
 use Rattle.rows.specs.Row.{Row, rowAt}
 use Rattle.elements.specs.Element.{item, layout, row, Stepped}
 use Rattle.elements.specs.Steps.{lentBook}
 use Rattle.elements.proofs.Before.{lent-is, lent-forth}
 use Rattle.elements.proofs.Told.{element-layout, element-row}
-use Rattle.questions.specs.Questions.{kindAsked, bookAsked, nth, rowOf, layoutOf, rowAsked, layoutAsked, attributeAsked}
-use Rattle.questions.specs.Answers.{refusalOf}
+use Rattle.questions.specs.Questions.{kindAsked, bookAsked, rowOf, layoutOf, rowAsked, layoutAsked, attributeAsked}
 use Rattle.questions.specs.Places.{layoutOver}
-use Rattle.questions.specs.declared.Refusal.the-variants as refusal
-
--- A refusal question that answers none has a value behind it; one that answers a refusal has none.
-pub unrefused : {A : Type 0} (r : Read A) → refusalOf r ≡ refusal.None → (a : A) × (next : ℕ) × (r ≡ ok a next)
-unrefused (ok a next) e = (a, next, refl)
-unrefused (no n p) e = absurd (let z : _≡_ {A = ℕ} 0 1 = cc in omega arith)
-
-pub refused-as : {A : Type 0} (r : Read A) (n p : ℕ) → refusalOf r ≡ refusal.Is n p → r ≡ no n p
-refused-as (no m q) n p e = let a : m ≡ n = cc in let b : q ≡ p = cc in cc
-refused-as (ok a next) n p e = absurd (let z : _≡_ {A = ℕ} 0 1 = cc in omega arith)
-
--- A refusal shows in the end alone.
-pub refusal-ends : {A : Type 0} (r : Read A) (q : Read ℕ) → ends r ≡ q → refusalOf r ≡ refusalOf q
-refusal-ends (ok a next) q e = ap refusalOf e
-refusal-ends (no n p) q e = ap refusalOf e
-
--- Item n of a list that has no more than n, or more.
-module _ {A : Type 0} where
-  past : (n : ℕ) (xs : List A) → length xs ≤ n → drop n xs ≡ []
-  past n [] h = drop-nil n
-  past zero (a ∷ xs) h = absurd (omega arith)
-  past (suc n) (a ∷ xs) h = past n xs (omega arith)
-
-  module _ (n place : ℕ) (xs : List A) (next : ℕ) where
-    pub nth-none : length xs ≤ n → nth n place xs next ≡ no 18 place
-    unfolding nth
-    nth-none h = rw (past n xs h) refl
-
-    pub nth-some : {a : A} {rest : List A} → drop n xs ≡ a ∷ rest → nth n place xs next ≡ ok a next
-    unfolding nth
-    nth-some e = rw e refl
 
 -- The kind.
 module _ (wanted : ℕ) (s : List ℕ) (at : ℕ) where
@@ -104,6 +78,12 @@ pub record Asked (wanted : ℕ) (s : List ℕ) (at rows : ℕ) (octets : List �
   pub place : next ≡ at + 4
 
 module _ (s : List ℕ) (at rows : ℕ) (octets : List ℕ) (used : ℕ) where
+  pub record Opened (wanted next : ℕ) : Type 0 where
+    pub asked : Asked wanted s at rows octets used next
+    pub image : Image (take used octets) (bookIn octets used)
+    pub whole : length (take used octets) ≡ used
+    pub small : length (take used octets) ≤ bookRoom
+
   module _ (wanted : ℕ) where
     pub asked-unlent : (n p : ℕ) → lentBook s rows octets used ≡ no n p → bookAsked wanted s at rows octets used ≡ no n p
     unfolding bookAsked
@@ -127,14 +107,34 @@ module _ (s : List ℕ) (at rows : ℕ) (octets : List ℕ) (used : ℕ) where
     unfolding bookAsked
     asked a = rw (lent-is s rows octets used (a .short) (a .is) (a .few), kind-right wanted s at (a .room) (a .kind)) refl
 
+    -- Before a row and a layout alike: the refusal of what stands before, or a book whose used octets are lent on, at a place inside the document.
+    module _ (r : Ended) (says-it : says r ≡ ends (bookAsked wanted s at rows octets used)) where
+      pub unopened : (n p : ℕ) → r ≡ answer.Refused n p → bookAsked wanted s at rows octets used ≡ no n p
+      unopened n p q = refused (bookAsked wanted s at rows octets used) n p (sym says-it ∙ ap says q)
+
+      pub opened : Each Octet octets → (next : ℕ) → r ≡ answer.End next → Opened wanted next
+      opened o next q =
+          let a = asked-is o next (sym says-it ∙ ap says q) in
+          let held = lent-book octets used o (a .is) in
+          let whole = length-take-le used octets (omega (arith, held .room, held .most)) in
+          record {
+            asked = a;
+            image = book-image octets used (bookIn octets used) held;
+            whole = whole;
+            small = omega (arith, whole, held .most);
+          }
+
+  pub opened-lent : {wanted next : ℕ} → Opened wanted next → (next ≤ length s) × (length s ≤ longest) × (length (take used octets) ≤ bookRoom) × Holds (take used octets)
+  opened-lent o = let a = o .asked in (omega (arith, a .place, a .room), a .short, o .small, record { book = bookIn octets used; image = o .image })
+
   -- A row is asked as the step reads it, and so is a layout.
   pub row-unasked : (n p : ℕ) → bookAsked 2 s at rows octets used ≡ no n p → rowAsked s at rows octets used ≡ no n p
   unfolding rowAsked
   row-unasked n p e = rw e refl
 
-  pub row-asked : {next : ℕ} → Asked 2 s at rows octets used next → rowAsked s at rows octets used ≡ rowAt (bookIn octets used) s (at + 4)
+  pub row-asked : {next : ℕ} → Asked 2 s at rows octets used next → rowAt (bookIn octets used) s next ≡ rowAsked s at rows octets used
   unfolding rowAsked
-  row-asked a = rw (asked 2 a, element-row s at rows (bookIn octets used) (a .room) (a .kind)) (go (rowAt (bookIn octets used) s (at + 4)))
+  row-asked a = ap (rowAt (bookIn octets used) s) (a .place) ∙ sym (rw (asked 2 a, element-row s at rows (bookIn octets used) (a .room) (a .kind)) (go (rowAt (bookIn octets used) s (at + 4))))
     where
       go : (r : Read Row) → ((r then λ x end. ok (record { element = item (row x); rows = rows + 1; book = bookIn octets used }) end) then λ (st : Stepped) next. rowOf at (st .element) next) ≡ r
       go (ok x end) = refl
@@ -144,9 +144,9 @@ module _ (s : List ℕ) (at rows : ℕ) (octets : List ℕ) (used : ℕ) where
   unfolding layoutAsked
   layout-unasked n p e = rw e refl
 
-  pub layout-asked : {next : ℕ} → Asked 1 s at rows octets used next → layoutAsked s at rows octets used ≡ layoutOver (bookIn octets used) s (at + 4)
+  pub layout-asked : {next : ℕ} → Asked 1 s at rows octets used next → layoutOver (bookIn octets used) s next ≡ layoutAsked s at rows octets used
   unfolding layoutAsked layoutOver
-  layout-asked a = rw (asked 1 a, element-layout s at rows (bookIn octets used) (a .room) (a .kind)) (go (layoutAt s (at + 4)))
+  layout-asked a = ap (layoutOver (bookIn octets used) s) (a .place) ∙ sym (rw (asked 1 a, element-layout s at rows (bookIn octets used) (a .room) (a .kind)) (go (layoutAt s (at + 4))))
     where
       learnt : (l : Layout) (end : ℕ) (r : Read Book)
           → ((r then λ b _. ok (record { element = item (layout l); rows = rows; book = b }) end) then λ (st : Stepped) next. layoutOf at (st .element) next) ≡ (r then λ _ _. ok l end)
@@ -181,20 +181,29 @@ module _ (book : Book) (s : List ℕ) (at : ℕ) where
       after (learn book m at) _ e₂ λ more x e₃ e₄. e₁ ∙ e₄
 
 -- A layout that is asked for stands behind its kind.
-pub record Layed (s : List ℕ) (at : ℕ) (l : Layout) (next : ℕ) : Type 0 where
-  pub short : length s ≤ longest
-  pub room : at + 4 ≤ length s
-  pub stands : layoutAt s (at + 4) ≡ ok l next
-
 module _ (s : List ℕ) (at rows : ℕ) (octets : List ℕ) (used : ℕ) where
+  pub record Layed (next : ℕ) : Type 0 where
+    pub layout : Layout
+    pub is : layoutAsked s at rows octets used ≡ ok layout next
+    pub short : length s ≤ longest
+    pub room : at + 4 ≤ length s
+    pub stands : layoutAt s (at + 4) ≡ ok layout next
+
   at-layout : {l : Layout} {next : ℕ} → Each Octet octets → layoutAsked s at rows octets used ≡ ok l next → (mid : ℕ) × Asked 1 s at rows octets used mid
   unfolding layoutAsked
   at-layout o e = after (bookAsked 1 s at rows octets used) _ e λ book mid e₁ e₂. (mid, asked-is s at rows octets used 1 o mid (ap ends e₁))
 
-  pub layout-stands : {l : Layout} {next : ℕ} → Each Octet octets → layoutAsked s at rows octets used ≡ ok l next → Layed s at l next
-  layout-stands o e =
+  pub layed : Each Octet octets → (r : Ended) → says r ≡ ends (layoutAsked s at rows octets used) → (next : ℕ) → r ≡ answer.End next → Layed next
+  layed o r says-it next q =
+      let (l, e) = ended (layoutAsked s at rows octets used) next (sym says-it ∙ ap says q) in
       let (mid, a) = at-layout o e in
-      record { short = a .short; room = a .room; stands = over-forth (bookIn octets used) s (at + 4) (sym (layout-asked s at rows octets used a) ∙ e) }
+      record {
+        layout = l;
+        is = e;
+        short = a .short;
+        room = a .room;
+        stands = over-forth (bookIn octets used) s (at + 4) (ap (layoutOver (bookIn octets used) s) (sym (a .place)) ∙ (layout-asked s at rows octets used a ∙ e));
+      }
 
   module _ (n : ℕ) where
     pub attribute-unasked : (m p : ℕ) → layoutAsked s at rows octets used ≡ no m p → attributeAsked s at rows octets used n ≡ no m p
@@ -204,3 +213,19 @@ module _ (s : List ℕ) (at rows : ℕ) (octets : List ℕ) (used : ℕ) where
     pub attribute-asked : (l : Layout) (next : ℕ) → layoutAsked s at rows octets used ≡ ok l next → attributeAsked s at rows octets used n ≡ nth n at (l .attributes) next
     unfolding attributeAsked
     attribute-asked l next e = rw e refl
+
+    -- Attribute n of it: there is none, or it stands at its place.
+    module _ {next : ℕ} (l : Layed next) where
+      pub attribute-none : length (l .layout .attributes) ≤ n → attributeAsked s at rows octets used n ≡ no 18 at
+      attribute-none h = attribute-asked (l .layout) next (l .is) ∙ nth-none n at (l .layout .attributes) next h
+
+      pub attribute-stands : (p : ℕ) → Nth s (l .layout .attributes) n p → Standing s (attributeAt s) (attributeAsked s at rows octets used n) p
+      attribute-stands p a =
+          record {
+            item = a .attribute;
+            next = next;
+            last = a .next;
+            is = attribute-asked (l .layout) next (l .is) ∙ nth-some n at (l .layout .attributes) next (a .is);
+            reads = a .reads;
+            short = l .short;
+          }

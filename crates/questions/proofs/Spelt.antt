@@ -7,90 +7,81 @@ use native.Mathlib.Omega.{arith}
 use lib.ListN.{length}
 use lib.Dec.{leb}
 use borrow.Author.Tests.{leb-true}
-use Rattle.octets.specs.Reading.{ok, be, part, stated, numberIn, octetsIn, textIn, text}
+use Rattle.octets.specs.Reading.{ok, isOk, be, numberIn, ledIn, text}
+use Rattle.octets.specs.declared.Room.the-variants.{Stated}
 use Rattle.octets.proofs.Inverse.{after, chosen, ok-value, ok-place}
-use Rattle.octets.proofs.Ends.{text-ok}
+use Rattle.octets.proofs.Ends.{text-ok, led-in, led-room}
 use Rattle.kinds.specs.declared.Basic.{Basic}
 use Rattle.kinds.specs.declared.Form.{Form}
 use Rattle.kinds.specs.declared.Form.the-variants as form
-use Rattle.kinds.specs.Kinds.{formOf}
-use Rattle.rows.specs.Row.{Value, bits, valueIn}
+use Rattle.kinds.specs.Kinds.{formBy}
+use Rattle.kinds.specs.Forms.{Value, bits, valueIn}
 use Rattle.kinds.specs.Values.{numeral}
 use Rattle.questions.specs.Answers.{bitsOf, octetsOf, valueOf}
 use Rattle.questions.specs.Places.{Stood, isHeld}
 
 module _ (s : List ℕ) (end at : ℕ) where
-  number-stood : (w : ℕ) {n next : ℕ} → numberIn (stated end 0) w s at ≡ ok n next → (at + w ≤ end) × (n ≡ be w s at) × (next ≡ at + w)
+  number-stood : (w : ℕ) {n next : ℕ} → numberIn (Stated end 0) w s at ≡ ok n next → (at + w ≤ end) × (n ≡ be w s at) × (next ≡ at + w)
   unfolding numberIn
   number-stood w e =
       let (t, f) = chosen (leb (at + w) end) (λ _. ok (be w s at) (at + w)) 13 0 e in
       (leb-true (at + w) end t, sym (ok-value refl f), sym (ok-place refl f))
 
-  fixed-stood : (w : ℕ) {v : Value} {next : ℕ} → valueIn (stated end 0) (form.Fixed w) s at ≡ ok v next → (at + w ≤ end) × (bitsOf v ≡ be w s at)
+  fixed-stood : (w : ℕ) {v : Value} {next : ℕ} → valueIn (Stated end 0) (form.Fixed w) s at ≡ ok v next → (at + w ≤ end) × (bitsOf v ≡ be w s at)
   unfolding valueIn
   fixed-stood w e =
-      after (numberIn (stated end 0) w s at) _ e λ n mid e₁ e₂.
+      after (numberIn (Stated end 0) w s at) _ e λ n mid e₁ e₂.
       let (h, is, p) = number-stood w e₁ in
       (h, sym (ap bitsOf (ok-value refl e₂)) ∙ is)
 
-  truth-stood : {v : Value} {next : ℕ} → valueIn (stated end 0) form.Truth s at ≡ ok v next → (at + 1 ≤ end) × (bitsOf v ≡ be 1 s at)
+  truth-stood : {v : Value} {next : ℕ} → valueIn (Stated end 0) form.Truth s at ≡ ok v next → (at + 1 ≤ end) × (bitsOf v ≡ be 1 s at)
   unfolding valueIn
   truth-stood e =
-      after (numberIn (stated end 0) 1 s at) _ e λ n mid e₁ e₂.
+      after (numberIn (Stated end 0) 1 s at) _ e λ n mid e₁ e₂.
       let (h, is, p) = number-stood 1 e₁ in
       let (t, f) = chosen (leb n 1) (λ _. ok (bits n) mid) 14 at e₂ in
       (h, sym (ap bitsOf (ok-value refl f)) ∙ is)
 
-  octets-stood : (inside : end ≤ length s) {xs : List ℕ} {next : ℕ} → octetsIn (stated end 0) s at ≡ ok xs next → text s at ≡ ok xs next
-  unfolding octetsIn
-  octets-stood inside e =
-      after (numberIn (stated end 0) 4 s at) _ e λ n mid e₁ e₂.
-      let (h, is, p) = number-stood 4 e₁ in
-      let (t, f) = chosen (leb (mid + n) end) (λ _. ok (part s mid n) (mid + n)) 13 0 e₂ in
-      let fit : at + 4 + be 4 s at ≤ length s = omega (arith, leb-true (mid + n) end t) in
-      text-ok s at (omega arith) fit ∙ (rw (← is, ← p) refl ∙ f)
+  led-stood : (inside : end ≤ length s) {xs : List ℕ} {next : ℕ} → ledIn (Stated end 0) s at ≡ ok xs next → text s at ≡ ok xs next
+  led-stood inside e =
+      let (h, g) = led-room (Stated end 0) s at (ap isOk e) in
+      text-ok s at (omega arith) (omega arith) ∙ (sym (led-in (Stated end 0) s at h g) ∙ e)
 
   -- Octets are read as a string in the document, and a number holds none.
-  pub held-stood : (f : Form) (inside : end ≤ length s) {v : Value} {next : ℕ} → isHeld f ≡ true → valueIn (stated end 0) f s at ≡ ok v next → text s at ≡ ok (octetsOf v) next
-  unfolding valueIn textIn
+  pub held-stood : (f : Form) (inside : end ≤ length s) {v : Value} {next : ℕ} → isHeld f ≡ true → valueIn (Stated end 0) f s at ≡ ok v next → text s at ≡ ok (octetsOf v) next
+  unfolding valueIn
   held-stood (form.Fixed w) inside t e = absurd (let z : _≡_ {A = ℕ} 0 1 = cc in omega arith)
   held-stood form.Truth inside t e = absurd (let z : _≡_ {A = ℕ} 0 1 = cc in omega arith)
-  held-stood form.Octets inside {next = next} t e =
-      after (octetsIn (stated end 0) s at) _ e λ xs mid e₁ e₂.
-      octets-stood inside e₁ ∙ (ap (ok xs) (ok-place refl e₂) ∙ ap (λ (x : Value). ok (octetsOf x) next) (ok-value refl e₂))
-  held-stood form.Text inside {next = next} t e =
-      after (octetsIn (stated end 0) s at) _ e λ xs mid e₁ e₂.
-      octets-stood inside e₁ ∙ (ap (ok xs) (ok-place refl e₂) ∙ ap (λ (x : Value). ok (octetsOf x) next) (ok-value refl e₂))
+  held-stood form.Led inside {next = next} t e =
+      after (ledIn (Stated end 0) s at) _ e λ xs mid e₁ e₂.
+      led-stood inside e₁ ∙ (ap (ok xs) (ok-place refl e₂) ∙ ap (λ (x : Value). ok (octetsOf x) next) (ok-value refl e₂))
 
-  pub number-held : (f : Form) {v : Value} {next : ℕ} → isHeld f ≡ false → valueIn (stated end 0) f s at ≡ ok v next → octetsOf v ≡ []
+  pub number-held : (f : Form) {v : Value} {next : ℕ} → isHeld f ≡ false → valueIn (Stated end 0) f s at ≡ ok v next → octetsOf v ≡ []
   unfolding valueIn
   number-held (form.Fixed w) t e =
-      after (numberIn (stated end 0) w s at) _ e λ n mid e₁ e₂.
+      after (numberIn (Stated end 0) w s at) _ e λ n mid e₁ e₂.
       sym (ap octetsOf (ok-value refl e₂))
   number-held form.Truth t e =
-      after (numberIn (stated end 0) 1 s at) _ e λ n mid e₁ e₂.
+      after (numberIn (Stated end 0) 1 s at) _ e λ n mid e₁ e₂.
       let (t₁, f) = chosen (leb n 1) (λ _. ok (bits n) mid) 14 at e₂ in
       sym (ap octetsOf (ok-value refl f))
-  number-held form.Octets t e = absurd (let z : _≡_ {A = ℕ} 0 1 = cc in omega arith)
-  number-held form.Text t e = absurd (let z : _≡_ {A = ℕ} 0 1 = cc in omega arith)
+  number-held form.Led t e = absurd (let z : _≡_ {A = ℕ} 0 1 = cc in omega arith)
 
 -- The width of a number.
 abbrev pub Wide : Form → ℕ → Type 0
 Wide (form.Fixed v) w = v ≡ w
 Wide form.Truth w = 1 ≡ w
-Wide form.Octets w = ⊥
-Wide form.Text w = ⊥
+Wide form.Led w = ⊥
 
 -- A number of w octets stands within the document, and by its octets its value is said.
-module _ (s : List ℕ) (b c : Basic) (at w : ℕ) (told : b ≡ c) (wide : Wide (formOf c) w) (v : Stood s b at) where
-  by-form : (f : Form) → Wide f w → valueIn (stated (v .end) 0) f s at ≡ ok (v .value) (v .next) → (at + w ≤ v .end) × (bitsOf (v .value) ≡ be w s at)
+module _ (s : List ℕ) (b c : Basic) (at w : ℕ) (told : b ≡ c) (wide : Wide (formBy c) w) (v : Stood s b at) where
+  by-form : (f : Form) → Wide f w → valueIn (Stated (v .end) 0) f s at ≡ ok (v .value) (v .next) → (at + w ≤ v .end) × (bitsOf (v .value) ≡ be w s at)
   by-form (form.Fixed u) e r = subst (λ (x : ℕ). (at + x ≤ v .end) × (bitsOf (v .value) ≡ be x s at)) e (fixed-stood s (v .end) at u r)
   by-form form.Truth e r = subst (λ (x : ℕ). (at + x ≤ v .end) × (bitsOf (v .value) ≡ be x s at)) e (truth-stood s (v .end) at r)
-  by-form form.Octets e r = absurd e
-  by-form form.Text e r = absurd e
+  by-form form.Led e r = absurd e
 
   spelt : (at + w ≤ v .end) × (bitsOf (v .value) ≡ be w s at)
-  spelt = by-form (formOf b) (subst (λ (x : Basic). Wide (formOf x) w) (sym told) wide) (v .reads)
+  spelt = by-form (formBy b) (subst (λ (x : Basic). Wide (formBy x) w) (sym told) wide) (v .reads)
 
   pub stood-room : at + w ≤ length s
   stood-room = omega (arith, spelt .0, v .inside)

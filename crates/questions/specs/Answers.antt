@@ -4,20 +4,13 @@ use mathlib.Core.List.{List, []}
 use Rattle.octets.specs.Reading.{Read, ok, no}
 use Rattle.kinds.specs.declared.Basic.{Basic}
 use Rattle.kinds.specs.declared.Value.{Value}
+use Rattle.kinds.specs.declared.Kinded.{Kinded}
+use Rattle.kinds.specs.declared.Kinded.the-variants as kinded
 use Rattle.kinds.specs.Values.{numeral}
 use Rattle.layouts.specs.Layout.{Attribute}
 use Rattle.rows.specs.Row as row
-use Rattle.questions.specs.declared.Refusal.{Refusal}
-use Rattle.questions.specs.declared.Refusal.the-variants as refusal
 use Rattle.questions.specs.declared.Fielded.{Fielded}
 use Rattle.questions.specs.declared.Fielded.the-variants as fielded
-use Rattle.questions.specs.declared.Typing.{Typing}
-use Rattle.questions.specs.declared.Typing.the-variants as typing
-
--- The refusal question: none, or its number and place.
-abbrev pub refusalOf : {A : Type 0} → Read A → Refusal
-refusalOf (ok a next) = refusal.None
-refusalOf (no n p) = refusal.Is n p
 
 -- A value's bits where it is a number, and its octets where it has them.
 abbrev pub bitsOf : row.Value → ℕ
@@ -38,6 +31,6 @@ fieldTells (ok f next) = fielded.Is (f .attribute .kind) (valueOf (f .attribute 
 fieldTells (no n p) = fielded.Refused n p
 
 -- An attribute's type.
-abbrev pub kindTells : Read Attribute → Typing
-kindTells (ok a next) = typing.Is (a .kind)
-kindTells (no n p) = typing.Refused n p
+abbrev pub kindTells : Read Attribute → Kinded
+kindTells (ok a next) = kinded.Is (a .kind)
+kindTells (no n p) = kinded.Refused n p

@@ -5,16 +5,16 @@ use mathlib.Core.List.{List, _∷_}
 use mathlib.Core.Bool.{Bool, true, false}
 use lib.ListN.{length, drop}
 use Rattle.octets.specs.Limits.{longest, bookRoom}
-use Rattle.octets.specs.Reading.{Read, ok, no, _then_, stated}
-use Rattle.octets.specs.declared.Ended.{Ended}
-use Rattle.octets.specs.declared.Ended.the-variants as ended
+use Rattle.octets.specs.Reading.{Read, ok, no, _then_}
+use Rattle.octets.specs.declared.Room.the-variants.{Stated}
 use Rattle.kinds.specs.declared.Basic.{Basic}
 use Rattle.kinds.specs.declared.Form.{Form}
 use Rattle.kinds.specs.declared.Form.the-variants as form
-use Rattle.kinds.specs.Kinds.{formOf}
+use Rattle.kinds.specs.Kinds.{formBy, formOf}
 use Rattle.layouts.specs.Layout.{Attribute, Layout, attributeAt, layoutAt}
 use Rattle.layouts.specs.Book.{Book, learn}
-use Rattle.rows.specs.Row.{Value, Field, Row, valueIn, fieldsIn}
+use Rattle.rows.specs.Row.{Field, Row, fieldsIn}
+use Rattle.kinds.specs.Forms.{Value, valueIn}
 use Rattle.questions.specs.declared.Lined.{Lined}
 use Rattle.questions.specs.declared.Lined.the-variants as lined
 use Rattle.questions.specs.declared.Spot.{Spot}
@@ -28,7 +28,7 @@ pub record Line (s book : List ℕ) (read : Read Row) (place count first end : �
   pub is : read ≡ ok row end
   pub stands : layoutAt book place ≡ ok layout last
   pub counts : length (layout .attributes) ≡ count
-  pub fields : fieldsIn (stated end 0) (layout .attributes) s first ≡ ok (row .fields) end
+  pub fields : fieldsIn (Stated end 0) (layout .attributes) s first ≡ ok (row .fields) end
   pub later : first ≤ end
   pub inside : end ≤ length s
   pub short : length s ≤ longest
@@ -46,7 +46,7 @@ pub record NthField (s : List ℕ) (end : ℕ) (attributes : List Attribute) (fi
   pub next : ℕ
   pub is : drop n fields ≡ field ∷ rest
   pub names : drop n attributes ≡ field .attribute ∷ more
-  pub reads : valueIn (stated end 0) (formOf (field .attribute .kind .basic)) s p ≡ ok (field .value) next
+  pub reads : valueIn (Stated end 0) (formOf (field .attribute .kind)) s p ≡ ok (field .value) next
 
 -- A value of a basic type that stands at a place.
 pub record Stood (s : List ℕ) (basic : Basic) (at : ℕ) : Type 0 where
@@ -54,7 +54,7 @@ pub record Stood (s : List ℕ) (basic : Basic) (at : ℕ) : Type 0 where
   pub end : ℕ
   pub next : ℕ
   pub inside : end ≤ length s
-  pub reads : valueIn (stated end 0) (formOf basic) s at ≡ ok value next
+  pub reads : valueIn (Stated end 0) (formBy basic) s at ≡ ok value next
 
 -- A field that was asked for: its attribute's place in the used octets of a book, and its value's in the document.
 pub record Spotted (s book : List ℕ) (read : Read Field) (attribute value : ℕ) : Type 0 where
@@ -65,7 +65,7 @@ pub record Spotted (s book : List ℕ) (read : Read Field) (attribute value : �
   pub after : ℕ
   pub is : read ≡ ok field next
   pub names : attributeAt book attribute ≡ ok (field .attribute) last
-  pub reads : valueIn (stated end 0) (formOf (field .attribute .kind .basic)) s value ≡ ok (field .value) after
+  pub reads : valueIn (Stated end 0) (formOf (field .attribute .kind)) s value ≡ ok (field .value) after
   pub inside : end ≤ length s
   pub short : length s ≤ longest
   pub small : length book ≤ bookRoom
@@ -78,22 +78,8 @@ Spots s book read (spot.Refused n p) = read ≡ no n p
 abbrev pub isHeld : Form → Bool
 isHeld (form.Fixed w) = false
 isHeld form.Truth = false
-isHeld form.Octets = true
-isHeld form.Text = true
+isHeld form.Led = true
 
 -- A layout from its number on, with what a book says of it; nothing is learnt.
 unfoldable pub layoutOver : Book → List ℕ → ℕ → Read Layout
 layoutOver book s at = layoutAt s at then λ l end. learn book l at then λ _ _. ok l end
-
--- What was asked for is what stands at a place of a document that is not too long.
-pub record Standing {A : Type 0} (s : List ℕ) (one : ℕ → Read A) (read : Read A) (p : ℕ) : Type 0 where
-  pub item : A
-  pub next : ℕ
-  pub last : ℕ
-  pub is : read ≡ ok item next
-  pub reads : one p ≡ ok item last
-  pub short : length s ≤ longest
-
-abbrev pub Stands : {A : Type 0} → List ℕ → (ℕ → Read A) → Read A → Ended → Type 0
-Stands s one read (ended.End p) = Standing s one read p
-Stands s one read (ended.Refused n p) = read ≡ no n p

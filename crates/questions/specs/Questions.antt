@@ -1,10 +1,10 @@
 -- The questions about an element: what of a step is asked for, with the refusals that come before the answer.
 use Prim.Native.Nat.{ℕ}
-use mathlib.Core.List.{List, [], _∷_}
+use mathlib.Core.List.{List}
 use mathlib.Core.Bool.{_&&_}
-use lib.ListN.{drop}
 use lib.Dec.{eqb, leb}
 use Rattle.octets.specs.Reading.{Read, ok, no, _then_, choose, number}
+use Rattle.octets.specs.Asked.{nth}
 use Rattle.layouts.specs.Layout.{Attribute, Layout}
 use Rattle.layouts.specs.Book.{Book}
 use Rattle.rows.specs.Row.{Field, Row}
@@ -20,14 +20,6 @@ kindAsked wanted s at =
 -- What stands before every question about an element: 2 and 17 as before a step, then the kind. At a wrong kind nothing else of the element is read.
 unfoldable pub bookAsked : ℕ → List ℕ → ℕ → ℕ → List ℕ → ℕ → Read Book
 bookAsked wanted s at rows octets used = lentBook s rows octets used then λ book _. kindAsked wanted s at then λ _ next. ok book next
-
--- Item n of a list, counted from 0. Refusal 18, last of all: there is none.
-abbrev pub firstOf : {A : Type 0} → ℕ → List A → ℕ → Read A
-firstOf place [] next = no 18 place
-firstOf place (a ∷ rest) next = ok a next
-
-unfoldable pub nth : {A : Type 0} → ℕ → ℕ → List A → ℕ → Read A
-nth n place xs next = firstOf place (drop n xs) next
 
 -- The row, or the layout, that a step has read; an element of another kind is not the one asked about.
 abbrev pub rowOf : ℕ → Element → ℕ → Read Row
@@ -57,8 +49,3 @@ layoutAsked s at rows octets used =
 -- Attribute n of it, from the document; 18 at the layout.
 unfoldable pub attributeAsked : List ℕ → ℕ → ℕ → List ℕ → ℕ → ℕ → Read Attribute
 attributeAsked s at rows octets used n = layoutAsked s at rows octets used then λ l next. nth n at (l .attributes) next
-
--- A part handed back of what was asked for; where there is a refusal it is empty.
-abbrev pub partOf : {A : Type 0} → (A → List ℕ) → Read A → List ℕ
-partOf f (ok a next) = f a
-partOf f (no n p) = []

@@ -1,63 +1,39 @@
 // Questions about a row or a layout at a place: its fields, its names and types. Each takes every input, hands back parts and no copies, and changes nothing.
+// What is asked stands in specs/Questions.antt, by elements Steps; what is answered in specs/Answers.antt; how an answer's place is found in specs/Places.antt.
 
 ghost use mathlib.Core.Path.{_≡_};
 ghost use mathlib.Core.List.{List};
 ghost use Prim.Native.Nat.{ℕ, _≤_};
 ghost use lib.ListN.{length, take};
 ghost use Rattle.octets.specs.Limits.{longest, bookRoom};
-ghost use Rattle.octets.specs.Reading.{ok, ends, stated};
+ghost use Rattle.octets.specs.Reading.{ok, ends};
+ghost use Rattle.octets.specs.declared.Room.the-variants.{Stated};
 ghost use Rattle.octets.specs.Answers.{says};
+ghost use Rattle.octets.specs.Asked.{refusalOf, partOf, StandsAt};
 ghost use Rattle.kinds.specs.Kinds.{formOf};
 ghost use Rattle.layouts.specs.Layout.{Layout, attributeAt, layoutAt};
 ghost use Rattle.layouts.specs.Book.{Book};
 ghost use Rattle.layouts.specs.Answers.{Image, Holds, Has};
 ghost use Rattle.rows.specs.Row.{Field, fieldsIn, rowAt};
-ghost use Rattle.elements.specs.Steps.{lentBook};
-ghost use Rattle.questions.specs.Questions.{kindAsked, bookAsked, rowAsked, fieldAsked, layoutAsked, attributeAsked, partOf};
-ghost use Rattle.questions.specs.Answers.{refusalOf, octetsOf, valueOf, fieldTells, kindTells};
-ghost use Rattle.questions.specs.Places.{Lines, NthField, Stood, Spots, isHeld, layoutOver, Stands};
+ghost use Rattle.questions.specs.Questions.{kindAsked, bookAsked, rowAsked, fieldAsked, layoutAsked, attributeAsked};
+ghost use Rattle.questions.specs.Answers.{octetsOf, valueOf, fieldTells, kindTells};
+ghost use Rattle.questions.specs.Places.{Lines, NthField, Stood, Spots, isHeld, layoutOver};
 use kinds::Basic;
 use kinds::Form;
 use kinds::Kind;
+use kinds::Kinded;
 use kinds::Value;
 use layouts::Learning;
 use layouts::Looked;
 use octets::Ended;
+use octets::Room;
+use octets::Refusal;
 use rows::Rowed;
-use rows::Valued;
-
-// Whether what is asked is refused, by number and place.
-pub enum Refusal {
-    None,
-    Is(u32, usize),
-}
 
 // A field's type and value, or a refusal by number and place.
 pub enum Fielded {
     Is(Kind, Value),
     Refused(u32, usize),
-}
-
-// An attribute's type, or a refusal by number and place.
-pub enum Typing {
-    Is(Kind),
-    Refused(u32, usize),
-}
-
-// What stands before every question about an element: 2, then 17.
-fn lent_refusal<'d, 'b>(doc: &'d [u8], rows: usize, book: &'b [u8], used: usize) -> Refusal
-    ensures { λ r. ⌜ r ≡ refusalOf (lentBook (now (doc .entry)) rows (now (book .entry)) used) ⌝ }
-{
-    if octets::LONGEST < doc.len() {
-        return Refusal::Is(2, 0);
-    }
-    if !layouts::is_book(book, used) {
-        return Refusal::Is(17, 0);
-    }
-    if octets::MOST_ROWS < rows {
-        return Refusal::Is(17, 0);
-    }
-    Refusal::None
 }
 
 // The place behind a kind, which is the one asked about.
@@ -95,9 +71,9 @@ fn book_asked<'d, 'b>(
 ) -> Ended
     ensures { λ r. ⌜ says r ≡ ends (bookAsked wanted (now (doc .entry)) at rows (now (book .entry)) used) ⌝ }
 {
-    let lent = lent_refusal(doc, rows, book, used);
+    let lent = elements::lent_refusal(doc, rows, book, used);
     match lent {
-        Refusal::Is(n, p) => Ended::Refused(n, p),
+        Refusal::Refused(n, p) => Ended::Refused(n, p),
         Refusal::None => kind_asked(doc, at, wanted),
     }
 }
@@ -156,14 +132,13 @@ fn value_place<'d, 'b>(
     n: u32,
 ) -> usize
     requires { ⌜ (first ≤ end) × (end ≤ length (now doc)) × (length (now doc) ≤ longest) × (length (now book) ≤ longest) × Has (now book) place n ⌝ }
-    ensures { λ r. ⌜ ((l : Layout) (last : ℕ) (fields : List Field) → layoutAt (now (book .entry)) place ≡ ok l last → fieldsIn (stated end 0) (l .attributes) (now (doc .entry)) first ≡ ok fields end → NthField (now (doc .entry)) end (l .attributes) fields n r) ⌝ }
+    ensures { λ r. ⌜ ((l : Layout) (last : ℕ) (fields : List Field) → layoutAt (now (book .entry)) place ≡ ok l last → fieldsIn (Stated end 0) (l .attributes) (now (doc .entry)) first ≡ ok fields end → NthField (now (doc .entry)) end (l .attributes) fields n r) ⌝ }
 {
     let attributes = layouts::attributes_at(book, place) + 4;
-    let values = rows::fields_end(doc, first, end, book, attributes, n);
+    let values = rows::fields_end(doc, first, Room::Stated(end, 0), book, attributes, n);
     match values {
-        Valued::To(p) => p,
-        Valued::Over(p) => p,
-        Valued::Bad(p) => p,
+        Ended::End(p) => p,
+        Ended::Refused(number, p) => p,
     }
 }
 
@@ -215,16 +190,15 @@ fn value_at(doc: &[u8], at: usize, basic: Basic) -> Value
     }
 }
 
-// Whether values of a basic type are octets behind a length.
-fn is_held(basic: Basic) -> bool
-    ensures { λ r. ⌜ r ≡ isHeld (formOf basic) ⌝ }
+// Whether values of a type are octets behind a length.
+fn is_held(kind: Kind) -> bool
+    ensures { λ r. ⌜ r ≡ isHeld (formOf kind) ⌝ }
 {
-    let form = kinds::form_of(basic);
+    let form = kinds::form_of(kind);
     match form {
         Form::Fixed(w) => false,
         Form::Truth => false,
-        Form::Octets => true,
-        Form::Text => true,
+        Form::Led => true,
     }
 }
 
@@ -242,7 +216,7 @@ pub fn row_refusal<'d, 'b>(
     let spot = field_at(doc, at, rows, book, used, n);
     match spot {
         Spot::At(attribute, value) => Refusal::None,
-        Spot::Refused(m, p) => Refusal::Is(m, p),
+        Spot::Refused(m, p) => Refusal::Refused(m, p),
     }
 }
 
@@ -261,7 +235,7 @@ pub fn field<'d, 'b>(
     match spot {
         Spot::Refused(m, p) => Fielded::Refused(m, p),
         Spot::At(attribute, value) => {
-            let kind = layouts::kind_here(&book[..used], attribute);
+            let kind = layouts::kind_behind(&book[..used], attribute);
             let basic = kind.basic;
             Fielded::Is(kind, value_at(doc, value, basic))
         }
@@ -283,7 +257,7 @@ pub fn field_name<'d, 'b>(
     let Spot::At(attribute, value) = spot else {
         return &book[..0];
     };
-    layouts::name_part(&book[..used], attribute)
+    octets::led_part(&book[..used], attribute)
 }
 
 // The octets of field n of the row at a place, a part of the document; empty where there is a refusal, and where the value is a number.
@@ -301,10 +275,9 @@ pub fn field_octets<'d, 'b>(
     let Spot::At(attribute, value) = spot else {
         return &doc[..0];
     };
-    let kind = layouts::kind_here(&book[..used], attribute);
-    let basic = kind.basic;
-    if is_held(basic) {
-        return layouts::name_part(doc, value);
+    let kind = layouts::kind_behind(&book[..used], attribute);
+    if is_held(kind) {
+        return octets::led_part(doc, value);
     }
     return &doc[..0];
 }
@@ -348,7 +321,7 @@ fn attribute_at<'d, 'b>(
     used: usize,
     n: usize,
 ) -> Ended
-    ensures { λ r. ⌜ Stands (now (doc .entry)) (attributeAt (now (doc .entry))) (attributeAsked (now (doc .entry)) at rows (now (book .entry)) used n) r ⌝ }
+    ensures { λ r. ⌜ StandsAt (now (doc .entry)) (attributeAt (now (doc .entry))) (attributeAsked (now (doc .entry)) at rows (now (book .entry)) used n) r ⌝ }
 {
     let layout = layout_at(doc, at, rows, book, used);
     match layout {
@@ -373,11 +346,7 @@ pub fn layout_refusal<'d, 'b>(
 ) -> Refusal
     ensures { λ r. ⌜ r ≡ refusalOf (layoutAsked (now (doc .entry)) at rows (now (book .entry)) used) ⌝ }
 {
-    let layout = layout_at(doc, at, rows, book, used);
-    match layout {
-        Ended::End(next) => Refusal::None,
-        Ended::Refused(n, p) => Refusal::Is(n, p),
-    }
+    octets::found_refusal(layout_at(doc, at, rows, book, used))
 }
 
 // Whether attribute n of the layout at a place is refused: as the layout, then 18 at the layout.
@@ -391,11 +360,7 @@ pub fn attribute_refusal<'d, 'b>(
 ) -> Refusal
     ensures { λ r. ⌜ r ≡ refusalOf (attributeAsked (now (doc .entry)) at rows (now (book .entry)) used n) ⌝ }
 {
-    let attribute = attribute_at(doc, at, rows, book, used, n);
-    match attribute {
-        Ended::End(place) => Refusal::None,
-        Ended::Refused(m, p) => Refusal::Is(m, p),
-    }
+    octets::found_refusal(attribute_at(doc, at, rows, book, used, n))
 }
 
 // The type name of the layout at a place, a part of the document; empty where there is a refusal.
@@ -430,7 +395,7 @@ pub fn attribute_name<'d, 'b>(
     let Ended::End(place) = attribute else {
         return &doc[..0];
     };
-    layouts::name_part(doc, place)
+    octets::led_part(doc, place)
 }
 
 // The type of attribute n of the layout at a place.
@@ -441,12 +406,12 @@ pub fn attribute_kind<'d, 'b>(
     book: &'b [u8],
     used: usize,
     n: usize,
-) -> Typing
+) -> Kinded
     ensures { λ r. ⌜ r ≡ kindTells (attributeAsked (now (doc .entry)) at rows (now (book .entry)) used n) ⌝ }
 {
     let attribute = attribute_at(doc, at, rows, book, used, n);
     match attribute {
-        Ended::Refused(m, p) => Typing::Refused(m, p),
-        Ended::End(place) => Typing::Is(layouts::kind_here(doc, place)),
+        Ended::Refused(m, p) => Kinded::Refused(m, p),
+        Ended::End(place) => Kinded::Is(layouts::kind_behind(doc, place)),
     }
 }

@@ -4,7 +4,7 @@ use mathlib.Core.Path.{_≡_, refl, sym, _∙_}
 use mathlib.Core.List.{List}
 use Rattle.octets.specs.Contracts.{Settled, SettledLent}
 use Rattle.octets.proofs.Alike.{_also_, put-back, as-it-was}
-use Rattle.elements.specs.Steps.{stepAt, leaves}
+use Rattle.elements.specs.Steps.{stepAt, octetsLeft}
 use Rattle.elements.specs.Answers.{tells}
 use Rattle.elements.specs.declared.Stepping.{Stepping}
 use Rattle.reading.specs.Answers.{Refuses}
@@ -17,8 +17,8 @@ pub record Contracts : Type 0 where
   pub of-step : SettledLent step.Kinds.ps step.Kinds.r (λ κs s. s) (λ κs. Refuses) step.Reads.Pre step.Reads.Post
   pub of-whole : Settled whole.Kinds.ps whole.Kinds.r whole.Reads.Pre whole.Reads.Post
 
-kept : (s : List ℕ) (at rows : ℕ) (o : List ℕ) (used : ℕ) (x : Stepping) → x ≡ tells (stepAt s at rows o used) → Refuses x → leaves o (stepAt s at rows o used) ≡ o
-kept s at rows o used = as-it-was tells Refuses (λ st next z. z) (leaves o) o (λ n p. refl) (stepAt s at rows o used)
+kept : (s : List ℕ) (at rows : ℕ) (o : List ℕ) (used : ℕ) (x : Stepping) → x ≡ tells (stepAt s at rows o used) → Refuses x → octetsLeft o (stepAt s at rows o used) ≡ o
+kept s at rows o used = as-it-was tells Refuses (λ st next z. z) (octetsLeft o) o (λ n p. refl) (stepAt s at rows o used)
 
 pub contracts : Contracts
 contracts =

@@ -4,15 +4,14 @@ use mathlib.Core.List.{List}
 use Prim.Native.Nat.{ℕ, _^_, _≤_, _<_}
 use native.Mathlib.Omega.{arith}
 use lib.ListN.{length}
-use lib.Dec.{leb}
 use Rattle.octets.specs.Limits.{longest}
 use Rattle.octets.specs.Reading.{ok, isOk, number}
 use Rattle.octets.specs.Writing.{Each, Octet}
-use Rattle.octets.proofs.Inverse.{after, chosen}
+use Rattle.octets.proofs.Inverse.{after}
 use Rattle.octets.proofs.Ends.{number-room, first-ok}
 use Rattle.layouts.specs.Book.{Book}
-use Rattle.headers.specs.Header.{Header, headerFrom, headerAt}
-use Rattle.headers.proofs.Headers.{header-inverse}
+use Rattle.headers.specs.Header.{Header, headerAt}
+use Rattle.headers.proofs.Headers.{header-forth}
 use Rattle.elements.specs.Element.{Element, item, finish, Stepped, elementAt}
 use Rattle.elements.specs.Steps.{lentBook, stepAt}
 use Rattle.elements.proofs.Before.{lent-forth}
@@ -24,10 +23,7 @@ Timed (finish n t) = t < 2 ^ 64
 
 module _ (s : List ℕ) (o : Each Octet s) where
   pub header-timed : (h : Header) (next : ℕ) → headerAt s ≡ ok h next → h .start < 2 ^ 64
-  unfolding headerAt
-  header-timed h next e =
-      let (t, from) = chosen (leb (length s) longest) (λ _. headerFrom s 0) 2 0 e in
-      header-inverse s .forth o (omega arith) from .1 .start
+  header-timed h next e = header-forth s o e .0 .start
 
   element-timed : length s ≤ longest → (at rows : ℕ) (book : Book) (st : Stepped) (next : ℕ) → elementAt s at rows book ≡ ok st next → Timed (st .element)
   unfolding elementAt

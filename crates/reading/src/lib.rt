@@ -1,14 +1,16 @@
 // Reading for Rattle callers: the header check, one step, and the whole check. Each takes every input.
+// The definitions: headers Header (the header), elements Steps (a step) and Reading (the whole check); the code below them: headers, elements and walks.
 
 ghost use mathlib.Core.Path.{_≡_};
 ghost use Rattle.headers.specs.Header.{headerAt};
-ghost use Rattle.elements.specs.Steps.{stepAt, leaves};
+ghost use Rattle.elements.specs.Steps.{stepAt, octetsLeft};
 ghost use Rattle.elements.specs.Reading.{whole};
 ghost use Rattle.elements.specs.Answers.{tells};
 ghost use Rattle.reading.specs.Answers.{headTells, checkTells};
 use elements::Stepping;
 use headers::Placing;
-use walks::Counting;
+use octets::Refusal;
+use walks::RowCount;
 
 // The header's numbers: the start time, how many other namespaces and service definitions there are, and the place behind the header.
 pub struct Head {
@@ -33,10 +35,7 @@ pub enum Checked {
 pub fn header(doc: &[u8]) -> Headed
     ensures { λ r. ⌜ r ≡ headTells (headerAt (now (doc .entry))) ⌝ }
 {
-    if octets::LONGEST < doc.len() {
-        return Headed::Refused(2, 0);
-    }
-    let placing = headers::header_places(doc);
+    let placing = headers::header_at(doc);
     match placing {
         Placing::Refused(n, p) => Headed::Refused(n, p),
         Placing::At(places) => {
@@ -61,36 +60,28 @@ pub fn step<'d, 'b>(
     book: &'b mut [u8],
     used: usize,
 ) -> Stepping
-    ensures { λ r. ⌜ (r ≡ tells (stepAt (now (doc .entry)) at rows (now (book .entry)) used)) × (now (book .exit) ≡ leaves (now (book .entry)) (stepAt (now (doc .entry)) at rows (now (book .entry)) used)) ⌝ }
+    ensures { λ r. ⌜ (r ≡ tells (stepAt (now (doc .entry)) at rows (now (book .entry)) used)) × (now (book .exit) ≡ octetsLeft (now (book .entry)) (stepAt (now (doc .entry)) at rows (now (book .entry)) used)) ⌝ }
 {
-    if octets::LONGEST < doc.len() {
-        return Stepping::Refused(2, 0);
-    }
     let lent = book.len();
-    if !layouts::is_book(&book[..lent], used) {
-        return Stepping::Refused(17, 0);
+    let guard = elements::lent_refusal(doc, rows, &book[..lent], used);
+    match guard {
+        Refusal::Refused(n, p) => Stepping::Refused(n, p),
+        Refusal::None => elements::element(doc, at, rows, book, used),
     }
-    if octets::MOST_ROWS < rows {
-        return Stepping::Refused(17, 0);
-    }
-    elements::element(doc, at, rows, book, used)
 }
 
 // The whole check: how many rows a document has.
 pub fn whole(doc: &[u8]) -> Checked
     ensures { λ r. ⌜ r ≡ checkTells (whole (now (doc .entry))) ⌝ }
 {
-    if octets::LONGEST < doc.len() {
-        return Checked::Refused(2, 0);
-    }
-    let placing = headers::header_places(doc);
+    let placing = headers::header_at(doc);
     match placing {
         Placing::Refused(n, p) => Checked::Refused(n, p),
         Placing::At(places) => {
             let rows = walks::rows_from(doc, places.end);
             match rows {
-                Counting::Refused(n, p) => Checked::Refused(n, p),
-                Counting::Rows(n, end) => Checked::Rows(n),
+                RowCount::Refused(n, p) => Checked::Refused(n, p),
+                RowCount::Rows(n, end) => Checked::Rows(n),
             }
         }
     }

@@ -1,4 +1,5 @@
 // A run of steps in one call: the layouts and rows from a place on, each told in one number, over a lent book that is checked once.
+// What a run is stands in specs/Runs.antt, over elements Walk; the code of its turns and stretches of rows in walks.
 
 ghost use mathlib.Core.Path.{_≡_};
 ghost use Prim.Native.Nat.{_≤_, _<_};
@@ -10,6 +11,7 @@ ghost use Rattle.runs.specs.Runs.{layoutWord, runAsked, reachOf};
 ghost use Rattle.runs.specs.Answers.{metWord, boundTurn, Ran, runTells, bookLeft, wordsLeft};
 ghost use Rattle.octets.specs.Limits.{longest, mostRows};
 use elements::Met;
+use octets::Refusal;
 use walks::Moved;
 
 // How many items a run has passed, and where it stands then.
@@ -189,18 +191,15 @@ pub fn run<'d, 'b, 'w>(
 ) -> Running
     ensures { λ r. ⌜ (r ≡ runTells (runAsked (now (doc .entry)) (lentAt at rows (now (book .entry)) used))) × (now (book .exit) ≡ bookLeft (now (book .entry)) (runAsked (now (doc .entry)) (lentAt at rows (now (book .entry)) used))) × (now (words .exit) ≡ wordsLeft (now (words .entry)) (runAsked (now (doc .entry)) (lentAt at rows (now (book .entry)) used))) ⌝ }
 {
-    if octets::LONGEST < doc.len() {
-        return Running::Refused(2, 0);
-    }
     let lent = book.len();
-    if !layouts::is_book(&book[..lent], used) {
-        return Running::Refused(17, 0);
+    let guard = elements::lent_refusal(doc, rows, &book[..lent], used);
+    match guard {
+        Refusal::Refused(n, p) => Running::Refused(n, p),
+        Refusal::None => {
+            if doc.len() < at {
+                return Running::Refused(1, at);
+            }
+            items(doc, at, rows, book, used, words)
+        }
     }
-    if octets::MOST_ROWS < rows {
-        return Running::Refused(17, 0);
-    }
-    if doc.len() < at {
-        return Running::Refused(1, at);
-    }
-    items(doc, at, rows, book, used, words)
 }

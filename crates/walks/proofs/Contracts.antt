@@ -3,8 +3,8 @@ use mathlib.Core.Path.{_≡_, refl, sym, _∙_}
 use Rattle.octets.specs.Contracts.{Once}
 use Rattle.octets.proofs.Alike.{_also_}
 use Rattle.walks.specs.Answers.{countSays}
-use Rattle.walks.specs.declared.Counting.{Counting}
-use Rattle.walks.specs.declared.Counting.the-variants.{Rows, Refused}
+use Rattle.walks.specs.declared.RowCount.{RowCount}
+use Rattle.walks.specs.declared.RowCount.the-variants.{Rows, Refused}
 use Rattle.walks.proofs.Stretches.{stretch-once}
 use Rattle.walks.proofs.row_word as row-word
 use Rattle.walks.proofs.turn as turn
@@ -17,7 +17,7 @@ pub record Contracts : Type 0 where
   pub of-rows-on : Once rows-on.Kinds.ps rows-on.Kinds.r rows-on.Reads.Pre rows-on.Reads.Post
   pub of-rows-from : Once rows-from.Kinds.ps rows-from.Kinds.r rows-from.Reads.Pre rows-from.Reads.Post
 
-count-says-once : (x y : Counting) → countSays x ≡ countSays y → x ≡ y
+count-says-once : (x y : RowCount) → countSays x ≡ countSays y → x ≡ y
 count-says-once (Rows k p) (Rows l q) e = cc
 count-says-once (Rows k p) (Refused m q) e = cc
 count-says-once (Refused n p) (Rows l q) e = cc

@@ -16,8 +16,8 @@ use Rattle.shelves.specs.Kept.{Numbered, Shelved}
 use Rattle.walks.specs.declared.Gone.{Gone}
 use Rattle.walks.specs.declared.Moved.{Moved}
 use Rattle.walks.specs.declared.Moved.the-variants as moved
-use Rattle.walks.specs.declared.Counting.{Counting}
-use Rattle.walks.specs.declared.Counting.the-variants as counting
+use Rattle.walks.specs.declared.RowCount.{RowCount}
+use Rattle.walks.specs.declared.RowCount.the-variants as row-count
 
 -- An item and the spot behind it.
 abbrev pub goneOf : Seen → Spot → Gone
@@ -48,6 +48,6 @@ pub record Borne (shelf : List ℕ) (used : ℕ) (numbers places : List ℕ) (kn
   pub book : Book
   pub bears : Bears shelf used numbers places known book
 
-abbrev pub countSays : Counting → Read ℕ
-countSays (counting.Rows n end) = ok n end
-countSays (counting.Refused n p) = no n p
+abbrev pub countSays : RowCount → Read ℕ
+countSays (row-count.Rows n end) = ok n end
+countSays (row-count.Refused n p) = no n p

@@ -45,7 +45,7 @@ pub enum Moved {
 }
 
 // A count of rows with the place behind the end, or a refusal by number and place.
-pub enum Counting {
+pub enum RowCount {
     Rows(usize, usize),
     Refused(u32, usize),
 }
@@ -150,7 +150,7 @@ pub fn rows_on<'d, 'n, 'p, 'k, 'w>(
 }
 
 // What a turn tells of a step that was read, with the position of its layout.
-fn told(step: Step, position: usize) -> Moved
+fn step_moved(step: Step, position: usize) -> Moved
     ensures { λ r. ⌜ r ≡ stepMoved step position ⌝ }
 {
     let met = step.met;
@@ -192,12 +192,12 @@ pub fn turn<'d, 's, 'n, 'l>(
     let one = elements::element_over(doc, at, rows, shelf, looked, used);
     match one {
         Stepping::Refused(n, p) => Moved::Refused(n, p),
-        Stepping::Done(step) => told(step, position),
+        Stepping::Done(step) => step_moved(step, position),
     }
 }
 
 // The rows from a place to the end, from an empty book; its layouts are kept by their places in the document. A word has room, and is not looked at.
-pub fn rows_from(doc: &[u8], at: usize) -> Counting
+pub fn rows_from(doc: &[u8], at: usize) -> RowCount
     requires { ⌜ (at ≤ length (now doc)) × (length (now doc) ≤ longest) ⌝ }
     ensures { λ r. ⌜ countSays r ≡ rowsRead (through (now (doc .entry)) (spotAt at 0 [])) ⌝ }
 {
@@ -226,10 +226,10 @@ pub fn rows_from(doc: &[u8], at: usize) -> Counting
         let moved = turn(doc, pos, rows, doc, used, &numbers, &places, tally.known);
         match moved {
             Moved::Refused(n, p) => {
-                return Counting::Refused(n, p);
+                return RowCount::Refused(n, p);
             }
             Moved::End(count, time, next) => {
-                return Counting::Rows(rows, next);
+                return RowCount::Rows(rows, next);
             }
             Moved::Item(gone) => {
                 if used < gone.used {

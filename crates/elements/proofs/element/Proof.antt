@@ -16,7 +16,7 @@ use Rattle.layouts.proofs.Books.{Lent}
 use Rattle.layouts.proofs.Lends.{stood}
 use Rattle.layouts.proofs.Walks.{lent-book, book-image}
 use Rattle.elements.specs.Element.{elementAt}
-use Rattle.elements.specs.Steps.{leaves, holding}
+use Rattle.elements.specs.Steps.{octetsLeft, holding}
 use Rattle.elements.specs.Answers.{tells, Over}
 use Rattle.elements.specs.declared.Step.{Step}
 use Rattle.elements.specs.declared.Stepping.the-variants.{Done}
@@ -103,7 +103,7 @@ returns c =
     let v = c .before .before .before in
     let k = Of v in
     let e = refusing (elementAt (doc k) (at k) (rows k) (book k)) _ _ (sym (is-read v) ∙ c .before .one .given .1) in
-    (sym (ap tells e), sym (ap (leaves (lent k)) e))
+    (sym (ap tells e), sym (ap (octetsLeft (lent k)) e))
 
 -- A layout that the book grew by.
 grow-requires : tie.Need-grow-requires
@@ -127,7 +127,7 @@ returns-2 c =
     let is = m .before .before .before .one2 .given .1 in
     let x = reads v _ is in (
       sym is ∙ is-read v,
-      y .grow .ensures (rows k) (x .stepped) (x .reads ∙ ap (λ (z : Step). ok (x .stepped) (z .next)) (x .is)) ∙ sym (ap (leaves (lent k)) (x .reads)),
+      y .grow .ensures (rows k) (x .stepped) (x .reads ∙ ap (λ (z : Step). ok (x .stepped) (z .next)) (x .is)) ∙ sym (ap (octetsLeft (lent k)) (x .reads)),
     )
 
 returns-3 : tie.Need-returns-3
@@ -138,7 +138,7 @@ returns-3 c =
     let x = reads v _ is in
     let same = element-old (doc k) (octets k) (at k) (rows k) (book k) (x .stepped) (x .next) (x .reads) (used k) _ (held k .size) (told-used x) (c .if1 .left) in (
       sym is ∙ is-read v,
-      sym (holding-same (lent k) (used k) (lent-octets k) (k .before .before .pre .2)) ∙ (ap (λ (b : Book). holding b (lent k)) (sym same) ∙ sym (ap (leaves (lent k)) (x .reads))),
+      sym (holding-same (lent k) (used k) (lent-octets k) (k .before .before .pre .2)) ∙ (ap (λ (b : Book). holding b (lent k)) (sym same) ∙ sym (ap (octetsLeft (lent k)) (x .reads))),
     )
 
 -- The used octets are lent twice.

@@ -6,7 +6,8 @@ use mir.Syntax.{w64}
 use mir.Facts.{toZ-ofZ}
 use Rattle.elements.specs.Element.{Element}
 use Rattle.layouts.specs.Layout.{Layout}
-use Rattle.questions.specs.Questions.{rowOf, layoutOf, partOf}
+use Rattle.octets.specs.Asked.{partOf}
+use Rattle.questions.specs.Questions.{rowOf, layoutOf}
 use Rattle.questions.proofs.After.{row-after, layout-after}
 use Rattle.printing.proofs.Puts.{says}
 use Rattle.lines.specs.Lines.{endText, elementText}

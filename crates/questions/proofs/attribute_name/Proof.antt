@@ -6,20 +6,20 @@ use Rattle.octets.specs.Reading.{isOk}
 use Rattle.octets.specs.declared.Ended.{Ended}
 use Rattle.layouts.specs.Layout.{Attribute, attributeAt}
 use Rattle.layouts.proofs.Parts.{attribute-named, attribute-text}
-use Rattle.questions.specs.Questions.{attributeAsked, partOf}
-use Rattle.questions.specs.Places.{Stands}
+use Rattle.questions.specs.Questions.{attributeAsked}
+use Rattle.octets.specs.Asked.{partOf, StandsAt}
 use Rattle.questions.proofs.attribute_name.Statement.{statement}
 use Rattle.questions.proofs.attribute_name.Tie as tie
 
 -- What was found of the attribute.
 found : (v : tie.After-attribute-at) (x : Ended) → v .attribute-at .result ≡ x
-    → let a = v .before .before .before .args in Stands (now (a .doc)) (attributeAt (now (a .doc))) (attributeAsked (now (a .doc)) (a .at) (a .rows) (now (a .book)) (a .used) (a .n)) x
+    → let a = v .before .before .before .args in StandsAt (now (a .doc)) (attributeAt (now (a .doc))) (attributeAsked (now (a .doc)) (a .at) (a .rows) (now (a .book)) (a .used) (a .n)) x
 found v x q =
     let a = v .before .before .before .args in
-    subst (Stands (now (a .doc)) (attributeAt (now (a .doc))) (attributeAsked (now (a .doc)) (a .at) (a .rows) (now (a .book)) (a .used) (a .n))) q (v .attribute-at .ensures)
+    subst (StandsAt (now (a .doc)) (attributeAt (now (a .doc))) (attributeAsked (now (a .doc)) (a .at) (a .rows) (now (a .book)) (a .used) (a .n))) q (v .attribute-at .ensures)
 
-name-part-requires : tie.Need-name-part-requires
-name-part-requires c κs =
+led-part-requires : tie.Need-led-part-requires
+led-part-requires c κs =
     let v = c .before .before .before in
     let p = found v _ (c .before .attribute .given .1) in
     (p .short, attribute-named (now (v .before .before .before .args .doc)) _ (ap isOk (p .reads)))
@@ -30,10 +30,10 @@ returns-2 c =
     let v = k .before .before .before in
     let p = found v _ (k .before .attribute .given .1) in
     let (mid, named) = attribute-text (now (v .before .before .before .args .doc)) _ (p .reads) in
-    c .name-part .ensures (p .item .name) mid named ∙ sym (ap (partOf (λ (a : Attribute). a .name)) (p .is))
+    c .led-part .ensures (p .item .name) mid named ∙ sym (ap (partOf (λ (a : Attribute). a .name)) (p .is))
 
 pub attribute-name-spec : {M : Type 1} → statement M
 attribute-name-spec =
     tie.close
     (tie.spec (λ c κs. search needs) (λ c. search needs) (λ c. search needs) (λ c. search needs)
-    (λ c. sym (ap (partOf (λ (a : Attribute). a .name)) (found (c .before .before .before) _ (c .before .enum-told .given .1)))) name-part-requires returns-2)
+    (λ c. sym (ap (partOf (λ (a : Attribute). a .name)) (found (c .before .before .before) _ (c .before .enum-told .given .1)))) led-part-requires returns-2)

@@ -5,10 +5,11 @@ use denote.Ref.{now}
 use mathlib.Core.Path.{_≡_, sym, ap, _∙_}
 use Rattle.octets.specs.Reading.{Read, ok, ends}
 use Rattle.octets.proofs.Spans.{each-octet}
+use Rattle.octets.proofs.Asked.{unrefused, refused-as}
 use Rattle.layouts.specs.Book.{Book}
 use Rattle.elements.specs.Steps.{lentBook}
 use Rattle.elements.proofs.Before.{lent-forth}
-use Rattle.questions.proofs.Asked.{unrefused, refused-as, asked-unlent, asked-kind}
+use Rattle.questions.proofs.Asked.{asked-unlent, asked-kind}
 use Rattle.questions.proofs.book_asked.Statement.{statement}
 use Rattle.questions.proofs.book_asked.Tie as tie
 

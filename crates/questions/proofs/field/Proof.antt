@@ -6,11 +6,13 @@ use denote.Ref.{now}
 use mathlib.Core.Path.{_≡_, sym, ap, _∙_, subst}
 use mathlib.Core.List.{List}
 use lib.ListN.{length, take}
-use Rattle.octets.specs.Reading.{Read, ok, isOk, stated}
+use Rattle.octets.specs.Reading.{Read, ok, isOk}
+use Rattle.octets.specs.declared.Room.the-variants.{Stated}
 use Rattle.octets.proofs.Spans.{each-octet}
-use Rattle.kinds.specs.Kinds.{formOf}
+use Rattle.kinds.specs.Kinds.{formBy}
 use Rattle.kinds.specs.declared.Kind.{Kind}
-use Rattle.rows.specs.Row.{Field, valueIn}
+use Rattle.rows.specs.Row.{Field}
+use Rattle.kinds.specs.Forms.{valueIn}
 use Rattle.questions.specs.Questions.{fieldAsked}
 use Rattle.questions.specs.Answers.{valueOf, fieldTells}
 use Rattle.questions.specs.Places.{Spotted, Spots, Stood}
@@ -61,16 +63,16 @@ whole k =
 
 -- Its type, and its value of that type.
 abbrev Typed : Type 0
-Typed = tie.After-kind-here
+Typed = tie.After-kind-behind
 
 module _ (t : Typed) where
   abbrev at : Placed
   at = t .before .before
 
-  kind : t .kind-here .result ≡ spotted at .field .attribute .kind
-  kind = t .kind-here .ensures (spotted at .field .attribute) (spotted at .last) (spotted at .names)
+  kind : t .kind-behind .result ≡ spotted at .field .attribute .kind
+  kind = t .kind-behind .ensures (spotted at .field .attribute) (spotted at .last) (spotted at .names)
 
-  stood : Stood (doc (Of at)) (t .kind-here .result .basic) (at .before .spot2 .given .0 .1 .0)
+  stood : Stood (doc (Of at)) (t .kind-behind .result .basic) (at .before .spot2 .given .0 .1 .0)
   stood =
       let p = spotted at in
       record {
@@ -78,7 +80,7 @@ module _ (t : Typed) where
         end = p .end;
         next = p .after;
         inside = p .inside;
-        reads = subst (λ (k : Kind). valueIn (stated (p .end) 0) (formOf (k .basic)) (doc (Of at)) (at .before .spot2 .given .0 .1 .0) ≡ ok (p .field .value) (p .after)) (sym kind) (p .reads);
+        reads = subst (λ (k : Kind). valueIn (Stated (p .end) 0) (formBy (k .basic)) (doc (Of at)) (at .before .spot2 .given .0 .1 .0) ≡ ok (p .field .value) (p .after)) (sym kind) (p .reads);
       }
 
 returns-2 : tie.Need-returns-2
@@ -86,7 +88,7 @@ unfolding stood spotted
 returns-2 c =
     let t = c .before in
     let p = spotted (at t) in
-    ap (fielded.Is (t .kind-here .result)) (c .value-at .ensures (stood t))
+    ap (fielded.Is (t .kind-behind .result)) (c .value-at .ensures (stood t))
     ∙ (ap (λ (k : Kind). fielded.Is k (valueOf (k .basic) (p .field .value))) (kind t) ∙ sym (ap fieldTells (p .is)))
 
 pub field-spec : {M : Type 1} → statement M

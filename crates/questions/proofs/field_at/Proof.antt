@@ -4,14 +4,12 @@ use native.Mathlib.Omega.{arith}
 use Prim.Native.Nat.{ℕ}
 use denote.Ref.{now}
 use mathlib.Core.Path.{_≡_, sym, subst}
-use mathlib.Core.List.{List}
 use lib.ListN.{length, take}
-use Rattle.octets.specs.Reading.{Read}
 use Rattle.octets.proofs.Spans.{each-octet}
-use Rattle.rows.specs.Row.{Row}
 use Rattle.questions.specs.Questions.{rowAsked}
-use Rattle.questions.specs.Places.{Line, Lines}
+use Rattle.questions.specs.Places.{Lines}
 use Rattle.questions.specs.declared.Lined.{Lined}
+use Rattle.questions.specs.declared.Lined.the-variants as lined
 use Rattle.questions.proofs.Line.{used-whole, field-unasked, field-none, field-spotted}
 use Rattle.questions.proofs.field_at.Statement.{statement}
 use Rattle.questions.proofs.field_at.Tie as tie
@@ -20,38 +18,17 @@ use Rattle.questions.proofs.field_at.Tie as tie
 abbrev Rowed : Type 0
 Rowed = tie.After-row-at
 
-module _ (v : Rowed) where
-  abbrev start : tie.Start
-  start = v .before .before .before
+abbrev Start : Rowed → tie.Start
+Start v = v .before .before .before
 
-  abbrev doc : List ℕ
-  doc = now (start .args .doc)
-
-  abbrev at : ℕ
-  at = start .args .at
-
-  abbrev rows : ℕ
-  rows = start .args .rows
-
-  abbrev lent : List ℕ
-  lent = now (start .args .book)
-
-  abbrev used : ℕ
-  used = start .args .used
-
-  abbrev n : ℕ
-  n = start .args .n
-
-  abbrev read : Read Row
-  read = rowAsked doc at rows lent used
-
-  lined : (x : Lined) → v .row-at .result ≡ x → Lines doc (take used lent) read x
-  lined x q = subst (Lines doc (take used lent) read) q (v .row-at .ensures)
+abbrev Found : Rowed → Lined → Type 0
+Found v = let a = Start v .args in Lines (now (a .doc)) (take (a .used) (now (a .book))) (rowAsked (now (a .doc)) (a .at) (a .rows) (now (a .book)) (a .used))
 
 returns-2 : tie.Need-returns-2
 returns-2 c =
     let v = c .before .before .before in
-    field-unasked (doc v) (at v) (rows v) (lent v) (used v) (n v) _ _ (lined v _ (c .before .row .given .1))
+    let a = Start v .args in
+    field-unasked (now (a .doc)) (a .at) (a .rows) (now (a .book)) (a .used) (a .n) _ _ (subst (Found v) (c .before .row .given .1) (v .row-at .ensures))
 
 -- The row is accepted.
 abbrev Accepted : Type 0
@@ -73,17 +50,17 @@ module _ (k : Accepted) where
   abbrev end : ℕ
   end = k .before .row2 .given .0 .1 .1 .1 .0
 
-  line : Line (doc (Of k)) (take (used (Of k)) (lent (Of k))) (read (Of k)) place count first end
-  line = lined (Of k) _ (k .before .row2 .given .1)
+  line : Found (Of k) (lined.At place count first end)
+  line = subst (Found (Of k)) (k .before .row2 .given .1) (Of k .row-at .ensures)
 
-  whole : length (take (used (Of k)) (lent (Of k))) ≡ used (Of k)
-  whole = let v = Of k in used-whole (doc v) (at v) (rows v) (lent v) (used v) (each-octet (lent v) (v .before .shared-slice-known2 .given)) (line .is)
+  whole : length (take (Start (Of k) .args .used) (now (Start (Of k) .args .book))) ≡ Start (Of k) .args .used
+  whole =
+      let v = Of k in
+      let a = Start v .args in
+      used-whole (now (a .doc)) (a .at) (a .rows) (now (a .book)) (a .used) (each-octet (now (a .book)) (v .before .shared-slice-known2 .given)) (line .is)
 
 returns : tie.Need-returns
-returns c =
-    let k = c .before in
-    let v = Of k in
-    field-none (doc v) (at v) (rows v) (lent v) (used v) (n v) _ _ _ _ (line k) (c .if1 .taken)
+returns c = field-none _ _ _ _ _ _ _ _ _ _ (line (c .before)) (c .if1 .taken)
 
 attribute-place-requires : tie.Need-attribute-place-requires
 attribute-place-requires c κs =
@@ -102,9 +79,8 @@ returns-3 : tie.Need-returns-3
 returns-3 c =
     let m = c .before .before in
     let k = m .before .before .before in
-    let v = Of k in
     let l = line k in
-    field-spotted (doc v) (at v) (rows v) (lent v) (used v) (n v) _ _ _ _ l _ _ (m .attribute-place .ensures (l .layout) (l .last) (l .stands))
+    field-spotted _ _ _ _ _ _ _ _ _ _ l _ _ (m .attribute-place .ensures (l .layout) (l .last) (l .stands))
     (c .value-place .ensures (l .layout) (l .last) (l .row .fields) (l .stands) (l .fields))
 
 pub field-at-spec : {M : Type 1} → statement M

@@ -10,7 +10,8 @@ use Rattle.octets.specs.Reading.{Read, isOk}
 use Rattle.octets.proofs.Spans.{each-octet}
 use Rattle.layouts.proofs.Parts.{attribute-named, attribute-text}
 use Rattle.rows.specs.Row.{Field}
-use Rattle.questions.specs.Questions.{fieldAsked, partOf}
+use Rattle.octets.specs.Asked.{partOf}
+use Rattle.questions.specs.Questions.{fieldAsked}
 use Rattle.questions.specs.Places.{Spotted, Spots}
 use Rattle.questions.specs.declared.Spot.{Spot}
 use Rattle.questions.proofs.Line.{field-used}
@@ -56,7 +57,7 @@ returns-2 c =
     let k = c .before .before in
     let p = spotted k in
     let (mid, named) = attribute-text (book (Of k)) (at k) (p .names) in
-    c .name-part .ensures (p .field .attribute .name) mid named ∙ sym (ap (partOf (λ (f : Field). f .attribute .name)) (p .is))
+    c .led-part .ensures (p .field .attribute .name) mid named ∙ sym (ap (partOf (λ (f : Field). f .attribute .name)) (p .is))
 
 pub field-name-spec : {M : Type 1} → statement M
 field-name-spec =

@@ -12,7 +12,8 @@ use Rattle.octets.proofs.Spans.{each-octet}
 use Rattle.kinds.specs.Kinds.{formOf}
 use Rattle.kinds.specs.declared.Kind.{Kind}
 use Rattle.rows.specs.Row.{Field}
-use Rattle.questions.specs.Questions.{fieldAsked, partOf}
+use Rattle.octets.specs.Asked.{partOf}
+use Rattle.questions.specs.Questions.{fieldAsked}
 use Rattle.questions.specs.Answers.{octetsOf}
 use Rattle.questions.specs.Places.{Spotted, Spots, isHeld}
 use Rattle.questions.specs.declared.Spot.{Spot}
@@ -63,25 +64,25 @@ module _ (t : Typed) where
   abbrev at : Placed
   at = t .before .before .before
 
-  held : (b : Bool) → t .is-held .result ≡ b → isHeld (formOf (spotted at .field .attribute .kind .basic)) ≡ b
+  held : (b : Bool) → t .is-held .result ≡ b → isHeld (formOf (spotted at .field .attribute .kind)) ≡ b
   held b q =
       let p = spotted at in
-      ap (λ (k : Kind). isHeld (formOf (k .basic))) (sym (t .before .kind-here .ensures (p .field .attribute) (p .last) (p .names))) ∙ (sym (t .is-held .ensures) ∙ q)
+      ap (λ (k : Kind). isHeld (formOf k)) (sym (t .before .kind-behind .ensures (p .field .attribute) (p .last) (p .names))) ∙ (sym (t .is-held .ensures) ∙ q)
 
   string : t .is-held .result ≡ true → text (doc (Of at)) (at .before .spot .given .0 .1 .0) ≡ ok (octetsOf (spotted at .field .value)) (spotted at .after)
-  string q = let p = spotted at in held-stood (doc (Of at)) (p .end) _ (formOf (p .field .attribute .kind .basic)) (p .inside) (held true q) (p .reads)
+  string q = let p = spotted at in held-stood (doc (Of at)) (p .end) _ (formOf (p .field .attribute .kind)) (p .inside) (held true q) (p .reads)
 
 returns-2 : tie.Need-returns-2
 returns-2 c =
     let t = c .before .before in
     let p = spotted (at t) in
-    c .name-part .ensures (octetsOf (p .field .value)) (p .after) (string t (c .before .if1 .taken)) ∙ sym (ap (partOf (λ (f : Field). octetsOf (f .value))) (p .is))
+    c .led-part .ensures (octetsOf (p .field .value)) (p .after) (string t (c .before .if1 .taken)) ∙ sym (ap (partOf (λ (f : Field). octetsOf (f .value))) (p .is))
 
 returns-3 : tie.Need-returns-3
 returns-3 c =
     let t = c .before .before in
     let p = spotted (at t) in
-    sym (number-held (doc (Of (at t))) (p .end) _ (formOf (p .field .attribute .kind .basic)) (held t false (c .before .if1 .left)) (p .reads))
+    sym (number-held (doc (Of (at t))) (p .end) _ (formOf (p .field .attribute .kind)) (held t false (c .before .if1 .left)) (p .reads))
     ∙ sym (ap (partOf (λ (f : Field). octetsOf (f .value))) (p .is))
 
 pub field-octets-spec : {M : Type 1} → statement M

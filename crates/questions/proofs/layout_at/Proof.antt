@@ -1,23 +1,11 @@
 -- `questions::layout_at` meets its contract: what stands before the question, then the layout over the book's used octets. Assumes nothing.
 use borrow.Author.Needs.{needs}
-use native.Mathlib.Omega.{arith}
-use Prim.Native.Nat.{ℕ}
 use denote.Ref.{now}
-use mathlib.Core.Path.{_≡_, sym, ap, _∙_}
-use mathlib.Core.List.{List}
-use lib.ListN.{length, take}
-use lib.Seq.{length-take-le}
+use mathlib.Core.Path.{sym, ap, _∙_}
 use Rattle.octets.specs.Reading.{ends}
-use Rattle.octets.specs.Answers.{says}
 use Rattle.octets.proofs.Spans.{each-octet}
-use Rattle.octets.proofs.Ends.{refused}
 use Rattle.layouts.specs.Book.{bookIn}
-use Rattle.layouts.specs.Answers.{Image}
-use Rattle.layouts.proofs.Books.{Lent}
-use Rattle.layouts.proofs.Walks.{lent-book, book-image}
-use Rattle.questions.specs.Questions.{bookAsked}
-use Rattle.questions.specs.Places.{layoutOver}
-use Rattle.questions.proofs.Asked.{Asked, asked-is, layout-unasked, layout-asked}
+use Rattle.questions.proofs.Asked.{Opened, unopened, opened, opened-lent, layout-unasked, layout-asked}
 use Rattle.questions.proofs.layout_at.Statement.{statement}
 use Rattle.questions.proofs.layout_at.Tie as tie
 
@@ -26,52 +14,29 @@ returns c =
     let v = c .before .before .before in
     let a = v .before .before .before .args in
     sym (ap ends (layout-unasked (now (a .doc)) (a .at) (a .rows) (now (a .book)) (a .used) _ _
-    (refused (bookAsked 1 (now (a .doc)) (a .at) (a .rows) (now (a .book)) (a .used)) _ _ (sym (v .book-asked .ensures) ∙ ap says (c .before .asked .given .1)))))
+    (unopened (now (a .doc)) (a .at) (a .rows) (now (a .book)) (a .used) 1 _ (v .book-asked .ensures) _ _ (c .before .asked .given .1))))
 
--- The layout is asked about at its kind, over a good book.
+-- It is asked about at its kind, over a good book.
 abbrev Right : Type 0
 Right = tie.After-known-told2
 
-module _ (k : Right) where
-  abbrev start : tie.Start
-  start = k .before .before .before .before .before .before
+abbrev Start : Right → tie.Start
+Start k = k .before .before .before .before .before .before
 
-  abbrev doc : List ℕ
-  doc = now (start .args .doc)
-
-  abbrev lent : List ℕ
-  lent = now (start .args .book)
-
-  abbrev used : ℕ
-  used = start .args .used
-
-  asked : Asked 1 doc (start .args .at) (start .args .rows) lent used (k .before .asked2 .given .0 .0)
-  asked =
-      let v = k .before .before .before in
-      asked-is doc (start .args .at) (start .args .rows) lent used 1 (each-octet lent (v .before .shared-slice-known2 .given)) _ (sym (v .book-asked .ensures) ∙ ap says (k .before .asked2 .given .1))
-
-  held : Lent lent used (bookIn lent used)
-  held = lent-book lent used (each-octet lent (k .before .before .before .before .shared-slice-known2 .given)) (asked .is)
-
-  image : Image (take used lent) (bookIn lent used)
-  image = book-image lent used (bookIn lent used) held
-
-  used-length : length (take used lent) ≡ used
-  used-length = length-take-le used lent (omega (arith, held .room, held .most))
-
-layout-here-requires : tie.Need-layout-here-requires
-layout-here-requires c κs =
-    let k = c .before in
-    (omega (arith, asked k .place, asked k .room), asked k .short, omega (arith, used-length k, held k .most), record { book = bookIn (lent k) (used k); image = image k })
+ready : (k : Right) → let a = Start k .args in Opened (now (a .doc)) (a .at) (a .rows) (now (a .book)) (a .used) 1 (k .before .asked2 .given .0 .0)
+ready k =
+    let v = k .before .before .before in
+    let a = Start k .args in
+    opened (now (a .doc)) (a .at) (a .rows) (now (a .book)) (a .used) 1 _ (v .book-asked .ensures) (each-octet (now (a .book)) (v .before .shared-slice-known2 .given)) _ (k .before .asked2 .given .1)
 
 returns-2 : tie.Need-returns-2
 returns-2 c =
     let k = c .before .before in
-    let s = start k .args in
-    c .layout-here .ensures (bookIn (lent k) (used k)) (image k)
-    ∙ ap ends (ap (layoutOver (bookIn (lent k) (used k)) (doc k)) (asked k .place) ∙ sym (layout-asked (doc k) (s .at) (s .rows) (lent k) (used k) (asked k)))
+    let a = Start k .args in
+    let o = ready k in
+    c .layout-here .ensures (bookIn (now (a .book)) (a .used)) (o .image) ∙ ap ends (layout-asked (now (a .doc)) (a .at) (a .rows) (now (a .book)) (a .used) (o .asked))
 
 pub layout-at-spec : {M : Type 1} → statement M
 layout-at-spec =
     tie.close
-    (tie.spec (λ c κs. search needs) (λ c. search needs) (λ c. search needs) (λ c. sym (used-length (c .before))) layout-here-requires returns returns-2)
+    (tie.spec (λ c κs. search needs) (λ c. search needs) (λ c. search needs) (λ c. sym (ready (c .before) .whole)) (λ c κs. opened-lent _ _ _ _ _ (ready (c .before))) returns returns-2)

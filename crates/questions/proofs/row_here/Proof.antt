@@ -10,12 +10,12 @@ use Rattle.layouts.specs.Book.{Book}
 use Rattle.layouts.specs.declared.Looked.{Looked}
 use Rattle.layouts.specs.Answers.{Image, Looks}
 use Rattle.rows.specs.Answers.{rowSays}
-use Rattle.questions.proofs.Line.{row-cut, row-unknown, row-refused, row-taken}
+use Rattle.rows.proofs.RowLaws.{row-unnumbered, row-unknown, row-unshaped, row-taken}
 use Rattle.questions.proofs.row_here.Statement.{statement}
 use Rattle.questions.proofs.row_here.Tie as tie
 
 returns : tie.Need-returns
-returns c = λ b i. let a = c .before .before .before .args in row-cut (now (a .doc)) (a .at) b (c .if1 .taken)
+returns c = λ b i. let a = c .before .before .before .args in row-unnumbered (now (a .doc)) (a .at) b (c .if1 .taken)
 
 -- What the look for the number that stands there has found.
 abbrev Found : Type 0
@@ -50,7 +50,7 @@ returns-3 c = λ b i.
     let f = r .before .before .before .before in
     let a = Start f .args in
     let w = looked-up f b i _ (r .before .before .looked2 .given .1) in
-    row-refused (now (a .doc)) (a .at) b (w .layout) (omega arith) (w .found) _ _
+    row-unshaped (now (a .doc)) (a .at) b (w .layout) (omega arith) (w .found) _ _
     (sym (r .row-end .ensures .0 _ (w .layout) (w .next) (w .reads)) ∙ ap rowSays (c .before .row .given .1))
 
 returns-4 : tie.Need-returns-4
@@ -59,8 +59,8 @@ returns-4 c = λ b i.
     let f = r .before .before .before .before in
     let a = Start f .args in
     let w = looked-up f b i _ (r .before .before .looked2 .given .1) in
-    let t = row-taken (now (a .doc)) (a .at) b (w .layout) (omega arith) (w .found) (each-octet (now (a .doc)) (f .before .before .before .before .shared-slice-known .given)) _ _ _
-    (sym (r .row-end .ensures .0 _ (w .layout) (w .next) (w .reads)) ∙ ap rowSays (c .before .row2 .given .1)) in
+    let t = row-taken (now (a .doc)) (a .at) b (w .layout) (omega arith) (w .found) _ _ _ (sym (r .row-end .ensures .0 _ (w .layout) (w .next) (w .reads)) ∙ ap rowSays (c .before .row2 .given .1))
+    (each-octet (now (a .doc)) (f .before .before .before .before .shared-slice-known .given)) in
     record {
       row = t .row;
       layout = w .layout;

@@ -3,8 +3,8 @@ use borrow.Author.Needs.{needs}
 use denote.Ref.{now}
 use mathlib.Core.Path.{_≡_, sym, ap, subst}
 use lib.ListN.{take}
+use Rattle.octets.specs.Asked.{refusalOf}
 use Rattle.questions.specs.Questions.{fieldAsked}
-use Rattle.questions.specs.Answers.{refusalOf}
 use Rattle.questions.specs.Places.{Spots}
 use Rattle.questions.specs.declared.Spot.{Spot}
 use Rattle.questions.proofs.row_refusal.Statement.{statement}

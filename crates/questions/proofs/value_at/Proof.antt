@@ -8,7 +8,7 @@ use lib.ListN.{length}
 use mir.Syntax.{w8, w16, w32, w64}
 use mir.ValLaws.{toZ-ofZ}
 use Rattle.octets.specs.Reading.{be}
-use Rattle.kinds.specs.Kinds.{formOf}
+use Rattle.kinds.specs.Kinds.{formBy}
 use Rattle.kinds.specs.declared.Basic.{Basic}
 use Rattle.kinds.specs.declared.Basic.the-variants as basic
 use Rattle.kinds.specs.declared.Value.the-variants as value
@@ -30,10 +30,10 @@ module _ (k : tie.After-shared-slice-known) where
   abbrev type : Basic
   type = k .before .args .basic
 
-  room : (c : Basic) (w : ℕ) → type ≡ c → Wide (formOf c) w → at + w ≤ length doc
+  room : (c : Basic) (w : ℕ) → type ≡ c → Wide (formBy c) w → at + w ≤ length doc
   room c w told wide = stood-room doc type c at w told wide (k .before .pre)
 
-  says : (c : Basic) (w : ℕ) → type ≡ c → Wide (formOf c) w → (v : Stood doc type at) (n : ℕ) → n ≡ be w doc at → numeral c n ≡ valueOf type (v .value)
+  says : (c : Basic) (w : ℕ) → type ≡ c → Wide (formBy c) w → (v : Stood doc type at) (n : ℕ) → n ≡ be w doc at → numeral c n ≡ valueOf type (v .value)
   says c w told wide v n e = stood-says doc type c at w told wide v n e
 
 pub value-at-spec : {M : Type 1} → statement M

@@ -6,13 +6,14 @@ use denote.Ref.{now}
 use mathlib.Core.Path.{_≡_, refl, sym, ap, _∙_, subst}
 use mathlib.Core.List.{List}
 use lib.ListN.{length, take}
-use Rattle.octets.specs.Reading.{ok, ends, isOk, stated, run}
+use Rattle.octets.specs.Reading.{ok, ends, isOk, run}
+use Rattle.octets.specs.declared.Room.the-variants.{Stated}
 use Rattle.octets.proofs.Inverse.{ok-value, no-ok}
 use Rattle.layouts.specs.Layout.{Layout, attributeAt, layoutAt}
 use Rattle.layouts.proofs.Parts.{layout-fields}
 use Rattle.rows.specs.Row.{fieldsIn}
-use Rattle.rows.specs.Answers.{valued}
-use Rattle.rows.specs.declared.Valued.{Valued}
+use Rattle.octets.specs.Answers.{says}
+use Rattle.octets.specs.declared.Ended.{Ended}
 use Rattle.questions.proofs.Line.{run-front, walk, nth-field}
 use Rattle.questions.proofs.value_place.Statement.{statement}
 use Rattle.questions.proofs.value_place.Tie as tie
@@ -50,14 +51,13 @@ fields-end-requires c κs =
 abbrev Walked : Type 0
 Walked = tie.After-fields-end
 
-told : (v : Walked) (x : Valued) → v .fields-end .result ≡ x → (l : Layout) (last : ℕ) → layoutAt (Book (v .before)) (Start (v .before) .args .place) ≡ ok l last
-    → ends (fieldsIn (stated (Start (v .before) .args .end) 0) (take (N (v .before)) (l .attributes)) (now (Start (v .before) .args .doc)) (Start (v .before) .args .first))
-    ≡ valued (stated (Start (v .before) .args .end) 0) x
+told : (v : Walked) (x : Ended) → v .fields-end .result ≡ x → (l : Layout) (last : ℕ) → layoutAt (Book (v .before)) (Start (v .before) .args .place) ≡ ok l last
+    → ends (fieldsIn (Stated (Start (v .before) .args .end) 0) (take (N (v .before)) (l .attributes)) (now (Start (v .before) .args .doc)) (Start (v .before) .args .first))
+    ≡ says x
 told v x q l last e =
     let f = v .before in
-    let room = stated (Start f .args .end) 0 in
     let (p, reads) = first f l last e in
-    sym (v .fields-end .ensures .0 (take (N f) (l .attributes)) p reads room refl) ∙ ap (valued room) q
+    sym (v .fields-end .ensures .0 (take (N f) (l .attributes)) p reads) ∙ ap says q
 
 returns : tie.Need-returns
 returns c = λ l last fields e r.
@@ -72,17 +72,10 @@ returns-2 c = λ l last fields e r.
     let v = c .before .before .before in
     let f = v .before in
     let a = Start f .args in
-    absurd (no-ok (told v _ (c .before .values2 .given .1) l last e) (walk (stated (a .end) 0) (now (a .doc)) (a .n) (l .attributes) (a .first) (a .end) fields r (more f l last e) .before))
-
-returns-3 : tie.Need-returns-3
-returns-3 c = λ l last fields e r.
-    let v = c .before .before .before in
-    let f = v .before in
-    let a = Start f .args in
-    absurd (no-ok (told v _ (c .before .values3 .given .1) l last e) (walk (stated (a .end) 0) (now (a .doc)) (a .n) (l .attributes) (a .first) (a .end) fields r (more f l last e) .before))
+    absurd (no-ok (told v _ (c .before .values2 .given .1) l last e) (walk (Stated (a .end) 0) (now (a .doc)) (a .n) (l .attributes) (a .first) (a .end) fields r (more f l last e) .before))
 
 pub value-place-spec : {M : Type 1} → statement M
 value-place-spec =
     tie.close
     (tie.spec (λ c κs. let p = c .before .before .pre in (p .3, ap isOk (p .4 .reads))) (λ c. search needs) fields-end-requires (λ c. search needs)
-    (λ c. search needs) (λ c. search needs) returns returns-2 returns-3)
+    (λ c. search needs) returns returns-2)

@@ -89,7 +89,7 @@ returns-2 c = λ book b.
     let l = v .before in
     let n = Of l in
     let x = told (elementAt (doc n) (at n) (rows n) book) _ (sym (is-read v book b) ∙ c .before .before .one2 .given .1) in
-    c .told .ensures
+    c .step-moved .ensures
     ∙ (ap (λ (s : Step). stepMoved s (l .before .position-of .result)) (sym (x .is)) ∙ (ap (stepMoved (stepOf (x .stepped) (x .next))) (l .before .position-of .ensures book (b .numbered))
     ∙ step-moved (doc n) (at n) (rows n) book (n .number-behind .result) (n .number-behind .ensures .0) (x .stepped) (x .next) (x .reads)))
 

@@ -1,0 +1,17 @@
+-- `header_questions::namespace_refusal` meets its contract, by where the namespace stands. Assumes nothing.
+use borrow.Author.Needs.{needs}
+use denote.Ref.{now}
+use mathlib.Core.Path.{_∙_}
+use Rattle.octets.proofs.Asked.{refusal-stands}
+use Rattle.headers.specs.Header.{namespaceAt}
+use Rattle.header_questions.proofs.namespace_refusal.Statement.{statement}
+use Rattle.header_questions.proofs.namespace_refusal.Tie as tie
+
+returns : tie.Need-returns
+returns c =
+    let v = c .before in
+    let s = now (v .before .before .args .doc) in
+    c .found-refusal .ensures ∙ refusal-stands s (namespaceAt s) _ (v .item-at .result) (v .item-at .ensures)
+
+pub namespace-refusal-spec : {M : Type 1} → statement M
+namespace-refusal-spec = tie.close (tie.spec (λ c κs. search needs) (λ c κs. search needs) returns)
