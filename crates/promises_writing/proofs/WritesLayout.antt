@@ -24,7 +24,7 @@ use Rattle.elements.specs.Document.{itemImage}
 use Rattle.elements.proofs.Behind.{holding-of}
 use Rattle.writer.specs.declared.Wanted.{Wanted}
 use Rattle.writer.specs.declared.Wanted.the-variants as wants
-use Rattle.writer.specs.Writer.{Call, openLayout, typeName, attributeCount, attributeName, attributeType, rule, orderOf, fine, unless, attributes, does}
+use Rattle.writer.specs.Writer.{Call, openLayout, typeName, attributeCount, attributeName, attributeType, orderOf, fine, unless, attributes, does}
 use Rattle.promises_writing.specs.Promise.{each, attributeCalls, itemCalls, onto}
 use Rattle.promises_writing.proofs.Calls.{Passes, accepted, runs-one}
 use Rattle.promises_writing.proofs.Standing.{Spot, spot, stateAt, drop-on, behind, so-far, takes-learnt, complete-leaves}
