@@ -1,8 +1,10 @@
 -- A value as it is handed out and given: what its bits say at its basic type, and back.
 use Prim.Native.Nat.{ℕ}
+use mathlib.Core.List.{List, []}
 use mathlib.Core.Bool.{cond}
 use lib.Dec.{eqb}
 use Rattle.kinds.specs.Kinds.{signed, unsigned}
+use Rattle.kinds.specs.Forms as forms
 use Rattle.kinds.specs.declared.Basic.{Basic}
 use Rattle.kinds.specs.declared.Basic.the-variants as basic
 use Rattle.kinds.specs.declared.Value.{Value}
@@ -55,3 +57,16 @@ bitsOfValue (value.Byte x) = unsigned 1 x
 bitsOfValue (value.UnsignedByte x) = x
 bitsOfValue (value.Short x) = unsigned 2 x
 bitsOfValue (value.UnsignedShort x) = x
+
+-- A value that was read: its bits where it is a number, its octets where it has them.
+abbrev pub bitsOf : forms.Value → ℕ
+bitsOf (forms.bits n) = n
+bitsOf (forms.held xs) = 0
+
+abbrev pub octetsOf : forms.Value → List ℕ
+octetsOf (forms.bits n) = []
+octetsOf (forms.held xs) = xs
+
+-- By its basic type: the number that its bits say; octets are handed out as a part.
+abbrev pub valueOf : Basic → forms.Value → Value
+valueOf b v = numeral b (bitsOf v)

@@ -12,7 +12,8 @@ use Rattle.layouts.specs.Layout.{Layout}
 use Rattle.rows.specs.Row.{Field}
 use Rattle.elements.specs.Element.{Element, item, layout}
 use Rattle.octets.specs.Asked.{partOf}
-use Rattle.questions.specs.Answers.{valueOf, octetsOf, fieldTells}
+use Rattle.kinds.specs.Values.{valueOf, octetsOf}
+use Rattle.questions.specs.Answers.{fieldTells}
 use Rattle.kinds.specs.declared.Value.{Value}
 use Rattle.questions.specs.declared.Fielded.the-variants.{Is}
 use Rattle.printing.specs.Text.{Prints, spelt, showing}

@@ -8,7 +8,7 @@ use Rattle.kinds.specs.Kinds as kinds
 use Rattle.kinds.specs.declared.Value.{Value}
 use Rattle.rows.specs.Row.{Field, Row}
 use Rattle.elements.specs.Element.{Element, item, layout, row, finish}
-use Rattle.questions.specs.Answers.{valueOf, octetsOf}
+use Rattle.kinds.specs.Values.{valueOf, octetsOf}
 use Rattle.printing.specs.Text.{spelt, showing, decimal, signed, refusal}
 use Rattle.printing.specs.Values.{valueBy}
 use Rattle.printing.specs.declared.Show.the-variants.{Hex, Escaped}

@@ -6,11 +6,11 @@ use elements::Met;
 use elements::Step;
 use elements::Stepping;
 use kinds::Kind;
+use kinds::Kinded;
+use octets::Refusal;
 use printing::Show;
 use probe_input::Args;
 use questions::Fielded;
-use octets::Refusal;
-use kinds::Kinded;
 use reading::Checked;
 use reading::Headed;
 

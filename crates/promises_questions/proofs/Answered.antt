@@ -22,7 +22,8 @@ use Rattle.elements.specs.Reading.{Placed}
 use Rattle.reading.specs.Answers.{headTells}
 use Rattle.octets.specs.Asked.{partOf}
 use Rattle.questions.specs.Questions.{rowOf, layoutOf, rowAsked}
-use Rattle.questions.specs.Answers.{octetsOf, fieldTells, kindTells}
+use Rattle.kinds.specs.Values.{octetsOf}
+use Rattle.questions.specs.Answers.{fieldTells, kindTells}
 use Rattle.octets.proofs.Asked.{nth-none, nth-some}
 use Rattle.questions.proofs.Asked.{attribute-asked}
 use Rattle.questions.proofs.Line.{field-asked, field-unasked}

@@ -16,7 +16,8 @@ use Rattle.reading.specs.Answers.{headTells}
 use Rattle.reading.specs.declared.Headed.the-variants as headed
 use Rattle.octets.specs.Asked.{nth, partOf}
 use Rattle.questions.specs.Questions.{fieldAsked, layoutAsked, attributeAsked}
-use Rattle.questions.specs.Answers.{valueOf, octetsOf, fieldTells, kindTells}
+use Rattle.kinds.specs.Values.{valueOf, octetsOf}
+use Rattle.questions.specs.Answers.{fieldTells, kindTells}
 use Rattle.questions.specs.declared.Fielded.the-variants as fielded
 use Rattle.kinds.specs.declared.Kinded.the-variants as kinded
 use Rattle.header_questions.specs.Questions.{namespacesPlace, servicesPlace, namespaceAsked, serviceAsked}

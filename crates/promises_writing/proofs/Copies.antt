@@ -24,7 +24,7 @@ use Rattle.elements.proofs.Elements.{Came, a-layout, a-row, an-end, element-for
 use Rattle.reading.proofs.Times.{Timed, header-timed, step-timed}
 use Rattle.octets.specs.Asked.{firstOf, nth}
 use Rattle.questions.specs.Questions.{kindAsked, bookAsked, rowOf, rowAsked, fieldAsked}
-use Rattle.questions.specs.Answers.{bitsOf, octetsOf, valueOf}
+use Rattle.kinds.specs.Values.{bitsOf, octetsOf, valueOf}
 use Rattle.questions.proofs.Asked.{kind-forth}
 use Rattle.writer.specs.Writer.{startTime, value, inForm, valueCall, finish}
 use Rattle.promises_writing.specs.Copies.{Copies}

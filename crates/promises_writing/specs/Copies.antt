@@ -11,7 +11,7 @@ use Rattle.elements.specs.Element as element
 use Rattle.elements.specs.Steps.{stepAt}
 use Rattle.reading.specs.Answers.{headOf}
 use Rattle.questions.specs.Questions.{fieldAsked}
-use Rattle.questions.specs.Answers.{octetsOf, valueOf}
+use Rattle.kinds.specs.Values.{octetsOf, valueOf}
 use Rattle.writer.specs.Writer.{startTime, value, valueCall, finish}
 
 -- Of a document's octets: the header's start, the value and octets of any field, over any lent book, and the end's time.

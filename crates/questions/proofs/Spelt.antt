@@ -17,7 +17,7 @@ use Rattle.kinds.specs.declared.Form.the-variants as form
 use Rattle.kinds.specs.Kinds.{formBy}
 use Rattle.kinds.specs.Forms.{Value, bits, valueIn}
 use Rattle.kinds.specs.Values.{numeral}
-use Rattle.questions.specs.Answers.{bitsOf, octetsOf, valueOf}
+use Rattle.kinds.specs.Values.{bitsOf, octetsOf, valueOf}
 use Rattle.questions.specs.Places.{Stood, isHeld}
 
 module _ (s : List ℕ) (end at : ℕ) where

@@ -16,7 +16,8 @@ ghost use Rattle.layouts.specs.Book.{Book};
 ghost use Rattle.layouts.specs.Answers.{Image, Holds, Has};
 ghost use Rattle.rows.specs.Row.{Field, fieldsIn, rowAt};
 ghost use Rattle.questions.specs.Questions.{kindAsked, bookAsked, rowAsked, fieldAsked, layoutAsked, attributeAsked};
-ghost use Rattle.questions.specs.Answers.{octetsOf, valueOf, fieldTells, kindTells};
+ghost use Rattle.kinds.specs.Values.{octetsOf, valueOf};
+ghost use Rattle.questions.specs.Answers.{fieldTells, kindTells};
 ghost use Rattle.questions.specs.Places.{Lines, NthField, Stood, Spots, isHeld, layoutOver};
 use kinds::Basic;
 use kinds::Form;
@@ -26,8 +27,8 @@ use kinds::Value;
 use layouts::Learning;
 use layouts::Looked;
 use octets::Ended;
-use octets::Room;
 use octets::Refusal;
+use octets::Room;
 use rows::Rowed;
 
 // A field's type and value, or a refusal by number and place.

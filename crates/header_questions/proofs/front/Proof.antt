@@ -39,7 +39,7 @@ returns-3 c =
     let f = c .before in
     let h = head (f .before) in
     let s = now (f .before .before .before .before .before .before .args .doc) in
-    c .name-part2 .ensures _ _ (h .located .recorder) ∙ (sym (ap (partOf (λ (x : Header). x .recorder)) (h .reads)) ∙ ap (λ (b : Bool). partOf (frontOf b) (headerAt s)) (sym (f .if1 .left)))
+    c .led-part2 .ensures _ _ (h .located .recorder) ∙ (sym (ap (partOf (λ (x : Header). x .recorder)) (h .reads)) ∙ ap (λ (b : Bool). partOf (frontOf b) (headerAt s)) (sym (f .if1 .left)))
 
 pub front-spec : {M : Type 1} → statement M
 front-spec =

@@ -14,7 +14,8 @@ use Rattle.kinds.specs.declared.Kind.{Kind}
 use Rattle.rows.specs.Row.{Field}
 use Rattle.kinds.specs.Forms.{valueIn}
 use Rattle.questions.specs.Questions.{fieldAsked}
-use Rattle.questions.specs.Answers.{valueOf, fieldTells}
+use Rattle.kinds.specs.Values.{valueOf}
+use Rattle.questions.specs.Answers.{fieldTells}
 use Rattle.questions.specs.Places.{Spotted, Spots, Stood}
 use Rattle.questions.specs.declared.Spot.{Spot}
 use Rattle.questions.specs.declared.Fielded.the-variants as fielded

@@ -14,7 +14,7 @@ use Rattle.kinds.specs.declared.Kind.{Kind}
 use Rattle.rows.specs.Row.{Field}
 use Rattle.octets.specs.Asked.{partOf}
 use Rattle.questions.specs.Questions.{fieldAsked}
-use Rattle.questions.specs.Answers.{octetsOf}
+use Rattle.kinds.specs.Values.{octetsOf}
 use Rattle.questions.specs.Places.{Spotted, Spots, isHeld}
 use Rattle.questions.specs.declared.Spot.{Spot}
 use Rattle.questions.proofs.Line.{field-used}

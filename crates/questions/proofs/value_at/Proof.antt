@@ -13,7 +13,7 @@ use Rattle.kinds.specs.declared.Basic.{Basic}
 use Rattle.kinds.specs.declared.Basic.the-variants as basic
 use Rattle.kinds.specs.declared.Value.the-variants as value
 use Rattle.kinds.specs.Values.{numeral}
-use Rattle.questions.specs.Answers.{valueOf}
+use Rattle.kinds.specs.Values.{valueOf}
 use Rattle.questions.specs.Places.{Stood}
 use Rattle.questions.proofs.Spelt.{Wide, stood-room, stood-says}
 use Rattle.questions.proofs.value_at.Statement.{statement}
