@@ -78,9 +78,9 @@ extern "C" {
  * the one function that the archive calls. If the library is bound at its first call, without -z now, that call uses
  * some 3,400 octets more, which the loader takes; what a signal handler uses comes on top as well. */
 #define IPDR_HEADER_STACK 160
-#define IPDR_STEP_STACK 640
-#define IPDR_RUN_STACK 3856
-#define IPDR_WHOLE_STACK 3856
+#define IPDR_STEP_STACK 576
+#define IPDR_RUN_STACK 3776
+#define IPDR_WHOLE_STACK 3792
 
 /* Refusal numbers, each with the place that comes with it. The first fault in reading order is the one given. */
 enum ipdr_refusal {

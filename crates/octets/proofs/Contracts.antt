@@ -17,6 +17,7 @@ use Rattle.octets.proofs.u8_at as u8-at
 use Rattle.octets.proofs.u16_at as u16-at
 use Rattle.octets.proofs.u32_at as u32-at
 use Rattle.octets.proofs.u64_at as u64-at
+use Rattle.octets.proofs.reach as reach
 use Rattle.octets.proofs.number_end as number-end
 use Rattle.octets.proofs.led_end as led-end
 use Rattle.octets.proofs.led_skip as led-skip
@@ -35,6 +36,7 @@ pub record Contracts : Type 0 where
   pub of-u16-at : Once u16-at.Kinds.ps u16-at.Kinds.r u16-at.Reads.Pre u16-at.Reads.Post
   pub of-u32-at : Once u32-at.Kinds.ps u32-at.Kinds.r u32-at.Reads.Pre u32-at.Reads.Post
   pub of-u64-at : Once u64-at.Kinds.ps u64-at.Kinds.r u64-at.Reads.Pre u64-at.Reads.Post
+  pub of-reach : Once reach.Kinds.ps reach.Kinds.r reach.Reads.Pre reach.Reads.Post
   pub of-number-end : Once number-end.Kinds.ps number-end.Kinds.r number-end.Reads.Pre number-end.Reads.Post
   pub of-led-end : Once led-end.Kinds.ps led-end.Kinds.r led-end.Reads.Pre led-end.Reads.Post
   pub of-led-skip : Once led-skip.Kinds.ps led-skip.Kinds.r led-skip.Reads.Pre led-skip.Reads.Post
@@ -68,6 +70,7 @@ contracts =
       of-u16-at = λ κs a p x y u v e f. (e ∙ sym f, refl);
       of-u32-at = λ κs a p x y u v e f. (e ∙ sym f, refl);
       of-u64-at = λ κs a p x y u v e f. (e ∙ sym f, refl);
+      of-reach = λ κs a p x y u v e f. (e ∙ sym f, refl);
       of-number-end = λ κs a p x y u v e f. (says-once x y (e .0 ∙ sym (f .0)), refl);
       of-led-end = λ κs a p x y u v e f. (says-once x y (e .0 ∙ sym (f .0)), refl);
       of-led-skip = λ κs a p x y u v e f. (ok-place (e .0) (f .0), refl);

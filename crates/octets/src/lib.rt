@@ -114,7 +114,7 @@ pub fn u64_at(s: &[u8], at: usize) -> u64
 }
 
 // How far a room reaches.
-fn reach(room: Room, s: &[u8]) -> usize
+pub fn reach(room: Room, s: &[u8]) -> usize
     ensures { λ r. ⌜ r ≡ reach room (now (s .entry)) ⌝ }
 {
     match room {

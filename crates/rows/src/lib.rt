@@ -10,8 +10,8 @@ ghost use Rattle.octets.specs.Reading.{ok, ends, be, reach, run};
 ghost use Rattle.octets.specs.Answers.{says, Within};
 ghost use Rattle.layouts.specs.Layout.{Attribute, Layout, attributeAt, layoutAt};
 ghost use Rattle.layouts.specs.Answers.{Reads};
-ghost use Rattle.rows.specs.Row.{fieldsIn, filled, valuesAt, named};
-ghost use Rattle.rows.specs.Answers.{Attributes, shape, rowSays, RowWithin};
+ghost use Rattle.rows.specs.Row.{fieldsIn, valuesAt, named};
+ghost use Rattle.rows.specs.Answers.{Attributes, lengthRoom, fills, shape, rowSays, RowWithin};
 use octets::Ended;
 use octets::Room;
 
@@ -48,27 +48,32 @@ pub fn fields_end<'d, 'b>(
     Ended::End(pos)
 }
 
-// The place behind the values of a row, which are all that its stated length has room for.
-fn stated_end<'d, 'b>(
-    doc: &'d [u8],
-    at: usize,
-    end: usize,
-    book: &'b [u8],
-    first: usize,
-    count: u32,
-) -> Ended
-    requires { ⌜ (at + 4 ≤ end) × (end ≤ length (now doc)) × (length (now doc) ≤ longest) × (length (now book) ≤ longest) × Attributes (now book) count first ⌝ }
-    ensures { λ r. ⌜ ((xs : List Attribute) (last : ℕ) → run (attributeAt (now (book .entry))) count first ≡ ok xs last → says r ≡ ends (filled xs (now (doc .entry)) at end)) × Within at r (length (now (doc .entry))) ⌝ }
+// How far the values behind a row's length may reach: to the document's end where it is unstated, else just as far as it says.
+fn length_room(at: usize, size: u32) -> Room
+    requires { ⌜ at ≤ longest ⌝ }
+    ensures { λ r. ⌜ r ≡ lengthRoom at size ⌝ }
 {
-    let values = fields_end(doc, at + 4, Room::Stated(end, at), book, first, count);
+    if size == 0xffff_ffff {
+        return Room::Document;
+    }
+    Room::Stated(at + 4 + (size as usize), at)
+}
+
+// The place behind values that ended in a room: 13 where they are not all that a stated length has room for.
+fn fill(room: Room, values: Ended) -> Ended
+    ensures { λ r. ⌜ r ≡ fills room values ⌝ }
+{
     match values {
         Ended::Refused(n, p) => Ended::Refused(n, p),
-        Ended::End(next) => {
-            if next != end {
-                return Ended::Refused(13, at);
+        Ended::End(next) => match room {
+            Room::Document => Ended::End(next),
+            Room::Stated(end, length_at) => {
+                if next != end {
+                    return Ended::Refused(13, length_at);
+                }
+                Ended::End(next)
             }
-            Ended::End(next)
-        }
+        },
     }
 }
 
@@ -83,15 +88,11 @@ pub fn values_end<'d, 'b>(
     requires { ⌜ (at + 4 ≤ length (now doc)) × (length (now doc) ≤ longest) × (length (now book) ≤ longest) × Attributes (now book) count first ⌝ }
     ensures { λ r. ⌜ ((xs : List Attribute) (last : ℕ) → run (attributeAt (now (book .entry))) count first ≡ ok xs last → says r ≡ ends (valuesAt xs (now (doc .entry)) at (be 4 (now (doc .entry)) at))) × Within at r (length (now (doc .entry))) ⌝ }
 {
-    let size = octets::u32_at(doc, at);
-    if size == 0xffff_ffff {
-        return fields_end(doc, at + 4, Room::Document, book, first, count);
-    }
-    let end = at + 4 + (size as usize);
-    if doc.len() < end {
+    let room = length_room(at, octets::u32_at(doc, at));
+    if doc.len() < octets::reach(room, doc) {
         return Ended::Refused(1, at);
     }
-    stated_end(doc, at, end, book, first, count)
+    fill(room, fields_end(doc, at + 4, room, book, first, count))
 }
 
 // A row: whether its length is stated, how many fields it has, and the place behind it; or a refusal by number and place.
