@@ -81,7 +81,9 @@ pub extern "C" fn ipdr_step<'d, 'b, 'o>(
     used: u32,
     out: &'o mut [u64; 8],
 ) -> u64
-    ensures { λ r. ⌜ (r ≡ answered (stepAt (now (doc .entry)) at rows (now (book .entry)) used)) × (now (out .exit) ≡ stepLeaves (now (out .entry)) (stepAt (now (doc .entry)) at rows (now (book .entry)) used)) × (now (book .exit) ≡ octetsLeft (now (book .entry)) (stepAt (now (doc .entry)) at rows (now (book .entry)) used)) ⌝ }
+    ensures { λ r. ⌜ (r ≡ answered (stepAt (now (doc .entry)) at rows (now (book .entry)) used))
+        × (now (out .exit) ≡ stepLeaves (now (out .entry)) (stepAt (now (doc .entry)) at rows (now (book .entry)) used))
+        × (now (book .exit) ≡ octetsLeft (now (book .entry)) (stepAt (now (doc .entry)) at rows (now (book .entry)) used)) ⌝ }
 {
     let stepping = reading::step(doc, at as usize, rows as usize, book, used as usize);
     match stepping {
@@ -108,7 +110,10 @@ pub extern "C" fn ipdr_run<'d, 'b, 'w, 'o>(
     words: &'w mut [u64; 4096],
     out: &'o mut [u64; 8],
 ) -> u64
-    ensures { λ r. ⌜ (r ≡ answered (runAsked (now (doc .entry)) (lentAt at rows (now (book .entry)) used))) × (now (out .exit) ≡ runLeaves (now (out .entry)) (runAsked (now (doc .entry)) (lentAt at rows (now (book .entry)) used))) × (now (book .exit) ≡ bookLeft (now (book .entry)) (runAsked (now (doc .entry)) (lentAt at rows (now (book .entry)) used))) × (now (words .exit) ≡ wordsLeft (now (words .entry)) (runAsked (now (doc .entry)) (lentAt at rows (now (book .entry)) used))) ⌝ }
+    ensures { λ r. ⌜ (r ≡ answered (runAsked (now (doc .entry)) (lentAt at rows (now (book .entry)) used)))
+        × (now (out .exit) ≡ runLeaves (now (out .entry)) (runAsked (now (doc .entry)) (lentAt at rows (now (book .entry)) used)))
+        × (now (book .exit) ≡ bookLeft (now (book .entry)) (runAsked (now (doc .entry)) (lentAt at rows (now (book .entry)) used)))
+        × (now (words .exit) ≡ wordsLeft (now (words .entry)) (runAsked (now (doc .entry)) (lentAt at rows (now (book .entry)) used))) ⌝ }
 {
     let running = runs::run(doc, at as usize, rows as usize, book, used as usize, words);
     match running {

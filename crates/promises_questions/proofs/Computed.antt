@@ -18,5 +18,6 @@ use Rattle.promises.specs.Specimen.{specimen, shorts, layoutBook, shortBook, em
 use Rattle.promises_questions.specs.Cases.{cases, asks, expects}
 
 pub all-hold : asks cases ≡ expects cases
-unfolding specimen shorts layoutBook shortBook emptyBook be part numberIn ledIn count exactly run word ledImage images among basicOf signed kindAt attributeAt layoutAt attributeImage layoutImage find bookImage layoutsAt bookOf learn valueIn fieldsIn valuesAt rowAt namespaceAt idAt headerFrom headerAt finishAt elementAt lentBook walk through readingFrom reading whole kindAsked bookAsked nth rowAsked fieldAsked
+unfolding specimen shorts layoutBook shortBook emptyBook be part numberIn ledIn count exactly run word ledImage images among basicOf signed kindAt attributeAt layoutAt attributeImage layoutImage find
+    bookImage layoutsAt bookOf learn valueIn fieldsIn valuesAt rowAt namespaceAt idAt headerFrom headerAt finishAt elementAt lentBook walk through readingFrom reading whole kindAsked bookAsked nth rowAsked fieldAsked
 all-hold = refl

@@ -17,8 +17,8 @@ use Rattle.rows.specs.Row.{Field, Row, fieldsIn}
 use Rattle.kinds.specs.Forms.{Value, valueIn}
 use Rattle.questions.specs.declared.Lined.{Lined}
 use Rattle.questions.specs.declared.Lined.the-variants as lined
-use Rattle.questions.specs.declared.Spot.{Spot}
-use Rattle.questions.specs.declared.Spot.the-variants as spot
+use Rattle.questions.specs.declared.FieldSpot.{FieldSpot}
+use Rattle.questions.specs.declared.FieldSpot.the-variants as spot
 
 -- A row that was read over the used octets of a book: its layout's place there, its count of fields, and its values, which reach from one place to another.
 pub record Line (s book : List ℕ) (read : Read Row) (place count first end : ℕ) : Type 0 where
@@ -70,7 +70,7 @@ pub record Spotted (s book : List ℕ) (read : Read Field) (attribute value : �
   pub short : length s ≤ longest
   pub small : length book ≤ bookRoom
 
-abbrev pub Spots : List ℕ → List ℕ → Read Field → Spot → Type 0
+abbrev pub Spots : List ℕ → List ℕ → Read Field → FieldSpot → Type 0
 Spots s book read (spot.At attribute value) = Spotted s book read attribute value
 Spots s book read (spot.Refused n p) = read ≡ no n p
 

@@ -118,7 +118,7 @@ fn row_at<'d, 'b>(doc: &'d [u8], at: usize, rows: usize, book: &'b [u8], used: u
 }
 
 // Where a field stands: its attribute in the used octets of the book, its value in the document.
-enum Spot {
+enum FieldSpot {
     At(usize, usize),
     Refused(u32, usize),
 }
@@ -151,20 +151,20 @@ fn field_at<'d, 'b>(
     book: &'b [u8],
     used: usize,
     n: usize,
-) -> Spot
+) -> FieldSpot
     ensures { λ r. ⌜ Spots (now (doc .entry)) (take used (now (book .entry))) (fieldAsked (now (doc .entry)) at rows (now (book .entry)) used n) r ⌝ }
 {
     let row = row_at(doc, at, rows, book, used);
     match row {
-        Lined::Refused(m, p) => Spot::Refused(m, p),
+        Lined::Refused(m, p) => FieldSpot::Refused(m, p),
         Lined::At(place, count, first, end) => {
             if (count as usize) <= n {
-                return Spot::Refused(18, at);
+                return FieldSpot::Refused(18, at);
             }
             let spot = n as u32;
             let attribute = layouts::attribute_place(&book[..used], place, spot);
             let value = value_place(doc, first, end, &book[..used], place, spot);
-            Spot::At(attribute, value)
+            FieldSpot::At(attribute, value)
         }
     }
 }
@@ -216,8 +216,8 @@ pub fn row_refusal<'d, 'b>(
 {
     let spot = field_at(doc, at, rows, book, used, n);
     match spot {
-        Spot::At(attribute, value) => Refusal::None,
-        Spot::Refused(m, p) => Refusal::Refused(m, p),
+        FieldSpot::At(attribute, value) => Refusal::None,
+        FieldSpot::Refused(m, p) => Refusal::Refused(m, p),
     }
 }
 
@@ -234,8 +234,8 @@ pub fn field<'d, 'b>(
 {
     let spot = field_at(doc, at, rows, book, used, n);
     match spot {
-        Spot::Refused(m, p) => Fielded::Refused(m, p),
-        Spot::At(attribute, value) => {
+        FieldSpot::Refused(m, p) => Fielded::Refused(m, p),
+        FieldSpot::At(attribute, value) => {
             let kind = layouts::kind_behind(&book[..used], attribute);
             let basic = kind.basic;
             Fielded::Is(kind, value_at(doc, value, basic))
@@ -255,7 +255,7 @@ pub fn field_name<'d, 'b>(
     ensures { λ r. ⌜ now r ≡ partOf (λ f. f .attribute .name) (fieldAsked (now (doc .entry)) at rows (now (book .entry)) used n) ⌝ }
 {
     let spot = field_at(doc, at, rows, book, used, n);
-    let Spot::At(attribute, value) = spot else {
+    let FieldSpot::At(attribute, value) = spot else {
         return &book[..0];
     };
     octets::led_part(&book[..used], attribute)
@@ -273,7 +273,7 @@ pub fn field_octets<'d, 'b>(
     ensures { λ r. ⌜ now r ≡ partOf (λ f. octetsOf (f .value)) (fieldAsked (now (doc .entry)) at rows (now (book .entry)) used n) ⌝ }
 {
     let spot = field_at(doc, at, rows, book, used, n);
-    let Spot::At(attribute, value) = spot else {
+    let FieldSpot::At(attribute, value) = spot else {
         return &doc[..0];
     };
     let kind = layouts::kind_behind(&book[..used], attribute);

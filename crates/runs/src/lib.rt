@@ -189,7 +189,9 @@ pub fn run<'d, 'b, 'w>(
     used: usize,
     words: &'w mut [u64; 4096],
 ) -> Running
-    ensures { λ r. ⌜ (r ≡ runTells (runAsked (now (doc .entry)) (lentAt at rows (now (book .entry)) used))) × (now (book .exit) ≡ bookLeft (now (book .entry)) (runAsked (now (doc .entry)) (lentAt at rows (now (book .entry)) used))) × (now (words .exit) ≡ wordsLeft (now (words .entry)) (runAsked (now (doc .entry)) (lentAt at rows (now (book .entry)) used))) ⌝ }
+    ensures { λ r. ⌜ (r ≡ runTells (runAsked (now (doc .entry)) (lentAt at rows (now (book .entry)) used)))
+        × (now (book .exit) ≡ bookLeft (now (book .entry)) (runAsked (now (doc .entry)) (lentAt at rows (now (book .entry)) used)))
+        × (now (words .exit) ≡ wordsLeft (now (words .entry)) (runAsked (now (doc .entry)) (lentAt at rows (now (book .entry)) used))) ⌝ }
 {
     let lent = book.len();
     let guard = elements::lent_refusal(doc, rows, &book[..lent], used);

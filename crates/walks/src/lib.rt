@@ -119,7 +119,11 @@ pub fn rows_on<'d, 'n, 'p, 'k, 'w>(
     to: usize,
 ) -> Stretch
     requires { ⌜ (at ≤ length (now doc)) × (length (now doc) ≤ longest) × (from ≤ to) × Plans (now numbers) (now steps) known ⌝ }
-    ensures { λ r. ⌜ (r .next ≤ length (now (doc .entry))) × (r .count ≤ to) × ((rows : ℕ) (book : Book) → Planned (now (numbers .entry)) (now (steps .entry)) known book → Passage (now (doc .entry)) (spotAt at rows book) (now (numbers .entry)) (now (labels .entry)) from (now (words .entry)) (now (words .exit)) r × (r .count < to → Refuses (now (doc .entry)) (r .next) book (now (numbers .entry)) known)) ⌝ }
+    ensures { λ r. ⌜ (r .next ≤ length (now (doc .entry)))
+        × (r .count ≤ to)
+        × ((rows : ℕ) (book : Book) → Planned (now (numbers .entry)) (now (steps .entry)) known book
+        → Passage (now (doc .entry)) (spotAt at rows book) (now (numbers .entry)) (now (labels .entry)) from (now (words .entry)) (now (words .exit)) r
+        × (r .count < to → Refuses (now (doc .entry)) (r .next) book (now (numbers .entry)) known)) ⌝ }
 {
     let mut pos = at;
     let mut n = from;

@@ -17,7 +17,20 @@ returns-13 : tie.Need-returns-13
 returns-13 c =
     let x = c .before .args .code in
     let r = c .match .rest in
-    last x (past 0x2c x (past 0x2b x (past 0x2a x (past 0x29 x (past 0x28 x (past 0x27 x (past 0x26 x (past 0x25 x (past 0x24 x (past 0x23 x (past 0x22 x (past 0x21 x (c .before .pre .0) (r .0 .0 .0 .0 .0 .0 .0 .0 .0 .0 .0 .1)) (r .0 .0 .0 .0 .0 .0 .0 .0 .0 .0 .1)) (r .0 .0 .0 .0 .0 .0 .0 .0 .0 .1)) (r .0 .0 .0 .0 .0 .0 .0 .0 .1)) (r .0 .0 .0 .0 .0 .0 .0 .1)) (r .0 .0 .0 .0 .0 .0 .1)) (r .0 .0 .0 .0 .0 .1)) (r .0 .0 .0 .0 .1)) (r .0 .0 .0 .1)) (r .0 .0 .1)) (r .0 .1)) (r .1)) (c .before .pre .1)
+    let h21 = c .before .pre .0 in
+    let h22 = past 0x21 x h21 (r .0 .0 .0 .0 .0 .0 .0 .0 .0 .0 .0 .1) in
+    let h23 = past 0x22 x h22 (r .0 .0 .0 .0 .0 .0 .0 .0 .0 .0 .1) in
+    let h24 = past 0x23 x h23 (r .0 .0 .0 .0 .0 .0 .0 .0 .0 .1) in
+    let h25 = past 0x24 x h24 (r .0 .0 .0 .0 .0 .0 .0 .0 .1) in
+    let h26 = past 0x25 x h25 (r .0 .0 .0 .0 .0 .0 .0 .1) in
+    let h27 = past 0x26 x h26 (r .0 .0 .0 .0 .0 .0 .1) in
+    let h28 = past 0x27 x h27 (r .0 .0 .0 .0 .0 .1) in
+    let h29 = past 0x28 x h28 (r .0 .0 .0 .0 .1) in
+    let h2a = past 0x29 x h29 (r .0 .0 .0 .1) in
+    let h2b = past 0x2a x h2a (r .0 .0 .1) in
+    let h2c = past 0x2b x h2b (r .0 .1) in
+    let h2d = past 0x2c x h2c (r .1) in
+    last x h2d (c .before .pre .1)
 
 pub basic-of-spec : {M : Type 1} → statement M
 basic-of-spec =

@@ -17,7 +17,7 @@ use Rattle.questions.specs.Questions.{fieldAsked}
 use Rattle.kinds.specs.Values.{valueOf}
 use Rattle.questions.specs.Answers.{fieldTells}
 use Rattle.questions.specs.Places.{Spotted, Spots, Stood}
-use Rattle.questions.specs.declared.Spot.{Spot}
+use Rattle.questions.specs.declared.FieldSpot.{FieldSpot}
 use Rattle.questions.specs.declared.Fielded.the-variants as fielded
 use Rattle.questions.proofs.Line.{field-used}
 use Rattle.questions.proofs.field.Statement.{statement}
@@ -40,7 +40,7 @@ module _ (v : Found) where
   abbrev read : Read Field
   read = let a = v .before .before .before .args in fieldAsked doc (a .at) (a .rows) lent used (a .n)
 
-  found : (x : Spot) → v .field-at .result ≡ x → Spots doc (take used lent) read x
+  found : (x : FieldSpot) → v .field-at .result ≡ x → Spots doc (take used lent) read x
   found x q = subst (Spots doc (take used lent) read) q (v .field-at .ensures)
 
 returns : tie.Need-returns

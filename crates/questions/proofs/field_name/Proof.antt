@@ -13,7 +13,7 @@ use Rattle.rows.specs.Row.{Field}
 use Rattle.octets.specs.Asked.{partOf}
 use Rattle.questions.specs.Questions.{fieldAsked}
 use Rattle.questions.specs.Places.{Spotted, Spots}
-use Rattle.questions.specs.declared.Spot.{Spot}
+use Rattle.questions.specs.declared.FieldSpot.{FieldSpot}
 use Rattle.questions.proofs.Line.{field-used}
 use Rattle.questions.proofs.field_name.Statement.{statement}
 use Rattle.questions.proofs.field_name.Tie as tie
@@ -29,7 +29,7 @@ module _ (v : Found) where
   abbrev read : Read Field
   read = let a = v .before .before .before .args in fieldAsked (now (a .doc)) (a .at) (a .rows) (now (a .book)) (a .used) (a .n)
 
-  found : (x : Spot) → v .field-at .result ≡ x → Spots (now (v .before .before .before .args .doc)) book read x
+  found : (x : FieldSpot) → v .field-at .result ≡ x → Spots (now (v .before .before .before .args .doc)) book read x
   found x q = subst (Spots (now (v .before .before .before .args .doc)) book read) q (v .field-at .ensures)
 
 -- Where the field stands.

@@ -16,7 +16,7 @@ use Rattle.octets.specs.Asked.{partOf}
 use Rattle.questions.specs.Questions.{fieldAsked}
 use Rattle.kinds.specs.Values.{octetsOf}
 use Rattle.questions.specs.Places.{Spotted, Spots, isHeld}
-use Rattle.questions.specs.declared.Spot.{Spot}
+use Rattle.questions.specs.declared.FieldSpot.{FieldSpot}
 use Rattle.questions.proofs.Line.{field-used}
 use Rattle.questions.proofs.Spelt.{held-stood, number-held}
 use Rattle.questions.proofs.field_octets.Statement.{statement}
@@ -36,7 +36,7 @@ module _ (v : Found) where
   abbrev read : Read Field
   read = let a = v .before .before .before .args in fieldAsked doc (a .at) (a .rows) (now (a .book)) (a .used) (a .n)
 
-  found : (x : Spot) → v .field-at .result ≡ x → Spots doc book read x
+  found : (x : FieldSpot) → v .field-at .result ≡ x → Spots doc book read x
   found x q = subst (Spots doc book read) q (v .field-at .ensures)
 
 -- Where the field stands.

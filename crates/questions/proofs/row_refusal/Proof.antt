@@ -6,12 +6,12 @@ use lib.ListN.{take}
 use Rattle.octets.specs.Asked.{refusalOf}
 use Rattle.questions.specs.Questions.{fieldAsked}
 use Rattle.questions.specs.Places.{Spots}
-use Rattle.questions.specs.declared.Spot.{Spot}
+use Rattle.questions.specs.declared.FieldSpot.{FieldSpot}
 use Rattle.questions.proofs.row_refusal.Statement.{statement}
 use Rattle.questions.proofs.row_refusal.Tie as tie
 
 -- What was found of the field.
-found : (v : tie.After-field-at) (x : Spot) → v .field-at .result ≡ x
+found : (v : tie.After-field-at) (x : FieldSpot) → v .field-at .result ≡ x
     → let a = v .before .before .before .args in Spots (now (a .doc)) (take (a .used) (now (a .book))) (fieldAsked (now (a .doc)) (a .at) (a .rows) (now (a .book)) (a .used) (a .n)) x
 found v x q =
     let a = v .before .before .before .args in
