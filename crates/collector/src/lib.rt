@@ -1,4 +1,5 @@
 // Reading for C callers: the header check, one step, a run of steps and the whole check, on numbers and octet slices. Each takes every input.
+// How answers are packed for C stands in specs/Calls.antt; what they are is defined where reading and runs say.
 
 ghost use mathlib.Core.Path.{_≡_};
 ghost use Prim.Native.Nat.{_<_};

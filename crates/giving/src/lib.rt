@@ -1,4 +1,5 @@
 // What every call of the writer goes through: the bounds and the turn of a state, the own faults of a call, and its octets given.
+// What a call does is defined in writer Writer; the calls themselves are in writing.
 
 ghost use mathlib.Core.Path.{_≡_};
 ghost use mathlib.Core.Bool.{true};

@@ -1,4 +1,5 @@
-// The thirteen basic types: their numbers, and what a type number stands for.
+// The thirteen basic types and their values: what a type number stands for, and where a value of a form ends.
+// The table of types stands in specs/Kinds.antt, a value by its form with its image in Forms.antt, a value as it is handed out in Values.antt.
 
 ghost use mathlib.Core.Path.{_≡_};
 ghost use mathlib.Core.Bool.{true};

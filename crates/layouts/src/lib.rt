@@ -1,4 +1,5 @@
 // Layouts and the book: a layout's end and parts at a place, a lent book checked and searched, and what it makes of a layout.
+// A layout is defined in specs/Layout.antt; the book, and the rule of 10 and 11 for reading and writing, in Book.antt.
 
 ghost use mathlib.Core.Path.{_≡_};
 ghost use mathlib.Core.Bool.{true};

@@ -1,4 +1,4 @@
-// The lines of a listing, each put behind what waits in a lent buffer.
+// The lines of a listing, each put behind what waits in a lent buffer. What a line is stands in specs/Lines.antt.
 
 ghost use Prim.Native.Nat.{ℕ};
 ghost use mathlib.Core.Path.{_≡_};

@@ -1,4 +1,5 @@
-// Numbers and length-led octets: read at a place, compared where they stand, put into the rest of a lent buffer.
+// Numbers and octets behind a length: read at a place, compared where they stand, put into the rest of a lent buffer.
+// What octets mean stands in specs/Reading.antt, their image in Writing.antt, the limits in Limits.antt; what is asked of a reading in Asked.antt, and of a contract in Contracts.antt.
 
 ghost use mathlib.Core.Path.{_≡_};
 ghost use mathlib.Core.Bool.{true};
@@ -133,7 +134,7 @@ fn overrun(room: Room, at: usize) -> Ended
     }
 }
 
-// The place behind a number of so many octets.
+// The place behind a number of so many octets. A field may be asked for at any place up to 2^32, past the end too; no sum wraps there.
 pub fn number_end(s: &[u8], at: usize, room: Room, w: usize) -> Ended
     requires { ⌜ (at ≤ 4294967296) × (reach room (now s) ≤ length (now s)) × (length (now s) ≤ longest) × (w ≤ 8) ⌝ }
     ensures { λ r. ⌜ (says r ≡ ends (numberIn room w (now (s .entry)) at)) × Within at r (reach room (now (s .entry))) ⌝ }

@@ -1,4 +1,5 @@
 // Text for programs: put behind what waits in a lent buffer, which is written out when it is full.
+// What it is to print stands in specs/Text.antt, the text of a value in Values.antt.
 
 ghost use mathlib.Core.Path.{_≡_};
 ghost use mathlib.Core.List.{[], _∷_, _++_};

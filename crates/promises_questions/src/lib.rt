@@ -1,1 +1,1 @@
-// No code: what is promised of the answers of reading, questions and strings stands in specs and is proved in proofs.
+// No code: what is promised of the answers of reading, questions and header_questions stands in specs and is proved in proofs.

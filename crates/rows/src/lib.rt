@@ -1,4 +1,5 @@
 // A row's values over a layout: the end of a row, or its refusal.
+// A row is defined in specs/Row.antt, over a value by its form (kinds Forms); rows that are passed fast are in plans and walks.
 
 ghost use mathlib.Core.Path.{_≡_};
 ghost use mathlib.Core.List.{List};

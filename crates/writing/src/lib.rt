@@ -1,4 +1,5 @@
 // The writer: a document given one field at a time, in image order, into a lent buffer.
+// What each call does is defined in writer Writer; the code that they share is in giving and writing_parts.
 
 ghost use mathlib.Core.Path.{_≡_};
 ghost use Rattle.kinds.specs.Kinds.{unsigned};

@@ -1,4 +1,5 @@
 // The parts of a writer's call: numbers as octets, octets laid over the rest of a lent buffer, a row's next field, a layout completed.
+// They know nothing of the writer's state: that is writer's. What their answers say stands in specs/Answers.antt.
 
 ghost use mathlib.Core.Path.{_≡_};
 ghost use mathlib.Core.List.{_++_};
