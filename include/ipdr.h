@@ -79,8 +79,8 @@ extern "C" {
  * some 3,400 octets more, which the loader takes; what a signal handler uses comes on top as well. */
 #define IPDR_HEADER_STACK 160
 #define IPDR_STEP_STACK 576
-#define IPDR_RUN_STACK 3776
-#define IPDR_WHOLE_STACK 3792
+#define IPDR_RUN_STACK 3856
+#define IPDR_WHOLE_STACK 3856
 
 /* Refusal numbers, each with the place that comes with it. The first fault in reading order is the one given. */
 enum ipdr_refusal {

@@ -85,7 +85,7 @@ module _ {s : List ℕ} {at : ℕ} {before : List ℕ} {n : ℕ} {octets numbers
   pub passed-lent : Lent octets used (bookIn octets used)
   passed-lent = carried-lent octets used numbers places steps t (g .carried)
 
-  pub passed-bears : Bears (take used octets) used numbers places (t .known) (bookIn octets used)
+  pub passed-bears : Bears (take used octets) used numbers places steps (t .known) (bookIn octets used)
   passed-bears = carried-bears octets used numbers places steps t (g .carried)
 
   module _ (o : Each Octet s) (short : length s ≤ longest) where

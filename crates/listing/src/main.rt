@@ -25,8 +25,9 @@ fn element_lines<'d, 'o>(doc: &'d [u8], at: usize, out: &'o mut [u8], n: usize) 
     let mut rows: usize = 0;
     let mut used: usize = 0;
     let mut to = n;
+    let mut words = [0u64; 1];
     loop {
-        let moved = walks::turn(
+        let moved = walks::go_on(
             doc,
             pos,
             rows,
@@ -34,9 +35,17 @@ fn element_lines<'d, 'o>(doc: &'d [u8], at: usize, out: &'o mut [u8], n: usize) 
             used,
             &numbers,
             &places,
+            &steps,
             tally.known,
+            &numbers,
+            &mut words,
+            0,
         );
         match moved {
+            // At most no row: each is an item.
+            Moved::Rows(next, count) => {
+                return to;
+            }
             Moved::Refused(number, place) => {
                 return lines::refused_line(out, to, number, place);
             }

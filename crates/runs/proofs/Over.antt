@@ -2,14 +2,11 @@
 use Prim.Native.Nat.{ℕ, _+_, _%_, _≤_, _<_}
 use mathlib.Core.Path.{_≡_, refl, sym, ap, _∙_, subst}
 use mathlib.Core.List.{List, [], _∷_}
-use mathlib.Core.Bool.{Bool, true, false}
 use native.Mathlib.Omega.{arith}
 use native.Mathlib.Nat.{add-zero}
 use lib.ListN.{length, getD}
-use lib.Dec.{leb}
-use borrow.Author.Tests.{leb-true, leb-false}
 use Rattle.octets.specs.Limits.{longest, mostRows}
-use Rattle.octets.specs.Reading.{Read, ok, no, choose}
+use Rattle.octets.specs.Reading.{Read, ok, no}
 use Rattle.octets.specs.Writing.{Each, Octet}
 use Rattle.layouts.specs.Book.{Book, bookImage, bookIn, IsBook}
 use Rattle.layouts.proofs.Walks.{lent-book}
@@ -26,7 +23,6 @@ use Rattle.elements.proofs.Turns.{Took, took-at, took-row, turn-item}
 use Rattle.elements.proofs.Through.{rows-few}
 use Rattle.walks.specs.Rows.{wordsBy, HasPlan}
 use Rattle.runs.specs.Runs.{wordsOf}
-use Rattle.runs.specs.Answers.{boundTurn}
 
 -- The lent octets behind an item.
 abbrev pub leftBy : List ℕ → Seen → Spot → Lent
@@ -46,26 +42,16 @@ module _ (s : List ℕ) (short : length s ≤ longest) (octets : List ℕ) (used
         same-turn few (ok (t .stepped) (p .next)) (t .reads)
         ∙ (turn-item (lentOf octets) at (ok (t .stepped) (p .next)) (t .stepped) (p .next) (p .which) refl (t .is) ∙ ap (λ (q : Seen). goes q (lentOf octets (t .stepped) (p .next))) (sym (t .seen)))
 
-    many : mostRows < rows → turnOver s (lentAt at rows octets used) ≡ stops (refused 17 0)
-    many h = rw (step-refused s rows octets used at 17 0 (lent-many s rows octets used short is h)) refl
+    pub over-many : mostRows < rows → turnOver s (lentAt at rows octets used) ≡ stops (refused 17 0)
+    over-many h = rw (step-refused s rows octets used at 17 0 (lent-many s rows octets used short is h)) refl
 
-    pub record Goes (p : Seen) (y : Spot) : Type 0 where
-      pub few : rows ≤ mostRows
-      pub at-book : turnAt s (spotAt at rows held) ≡ goes p y
-      pub over : turnOver s (lentAt at rows octets used) ≡ goes p (leftBy octets p y)
+    pub over-goes : rows ≤ mostRows → (p : Seen) (y : Spot) → turnAt s (spotAt at rows held) ≡ goes p y → turnOver s (lentAt at rows octets used) ≡ goes p (leftBy octets p y)
+    over-goes few p y e =
+        let t = took-at s (spotAt at rows held) p y e in
+        item-turn few p y t ∙ ap (λ (z : Spot). goes p (leftBy octets p z)) (sym (t .spot))
 
-    pub over-goes : (p : Seen) (y : Spot) → boundTurn rows (turnAt s (spotAt at rows held)) ≡ goes p y → Goes p y
-    over-goes p y e = go (leb rows mostRows) refl e
-      where
-        go : (b : Bool) → leb rows mostRows ≡ b → choose b (λ _. turnAt s (spotAt at rows held)) (λ _. stops (refused 17 0)) ≡ goes p y → Goes p y
-        go false h e = absurd (let z : _≡_ {A = ℕ} 0 1 = cc in omega arith)
-        go true h e =
-            let few = leb-true rows mostRows h in
-            let t = took-at s (spotAt at rows held) p y e in
-            record { few = few; at-book = e; over = item-turn few p y t ∙ ap (λ (z : Spot). goes p (leftBy octets p z)) (sym (t .spot)) }
-
-    pub over-stops : (e : Stop) → boundTurn rows (turnAt s (spotAt at rows held)) ≡ stops e → turnOver s (lentAt at rows octets used) ≡ stops e
-    over-stops e h = go (leb rows mostRows) refl h
+    pub over-stops : rows ≤ mostRows → (e : Stop) → turnAt s (spotAt at rows held) ≡ stops e → turnOver s (lentAt at rows octets used) ≡ stops e
+    over-stops few e h = same-turn few (elementAt s at rows held) refl ∙ stopped (elementAt s at rows held) h
       where
         stopped : (r : Read Stepped) → turnOf spotOf at r ≡ stops e → turnOf (lentOf octets) at r ≡ stops e
         stopped (no n p) h = let same : refused n p ≡ e = cc in ap (λ (x : Stop). stops x) same
@@ -77,10 +63,6 @@ module _ (s : List ℕ) (short : length s ≤ longest) (octets : List ℕ) (used
               where
                 ends : (n t : ℕ) {x : Stop} → x ≡ e → _≡_ {A = Turn Lent} (stops x) (stops e)
                 ends n t q = ap (λ (x : Stop). stops x) q
-
-        go : (b : Bool) → leb rows mostRows ≡ b → choose b (λ _. turnAt s (spotAt at rows held)) (λ _. stops (refused 17 0)) ≡ stops e → turnOver s (lentAt at rows octets used) ≡ stops e
-        go false h e = many (leb-false rows mostRows h) ∙ (let same : refused 17 0 ≡ _ = cc in ap (λ (x : Stop). stops x) same)
-        go true h e = same-turn (leb-true rows mostRows h) (elementAt s at rows held) refl ∙ stopped (elementAt s at rows held) e
 
   module _ (o : Each Octet octets) where
     -- A row leaves the lent octets as they are.

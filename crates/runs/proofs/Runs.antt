@@ -4,7 +4,9 @@ use mathlib.Core.Path.{_≡_, refl, sym, ap, _∙_, subst}
 use mathlib.Core.List.{List, [], _∷_, _++_, append-nil}
 use mathlib.Core.Option.{Option, some, none}
 use native.Mathlib.Omega.{arith}
-use lib.ListN.{length, set, length-append}
+use lib.ListN.{length, set, take, drop, length-append, length-drop, drop-of-length-le}
+use lib.Seq.{take-all}
+use borrow.Rule.Slice.PartMut.{midOf, putMid}
 use Rattle.octets.specs.Reading.{ok, no}
 use Rattle.elements.specs.Element.{Stepped}
 use Rattle.elements.specs.Steps.{stepAt}
@@ -12,7 +14,7 @@ use Rattle.elements.specs.Walk.{Stop, ended, refused, Seen, goes, stops, behind
 use Rattle.elements.proofs.Walks.{walk-none, walk-stops, path-walk, path-join, path-one}
 use Rattle.elements.proofs.Turns.{took-over, refuses, ends}
 use Rattle.walks.specs.Rows.{laid}
-use Rattle.walks.proofs.Rows.{laid-both}
+use Rattle.walks.proofs.Rows.{laid-both, laid-from}
 use Rattle.runs.specs.Runs.{itemWord, wordsOf, runAsked}
 use Rattle.runs.specs.Answers.{Ran}
 use Rattle.runs.specs.declared.Went.{Went}
@@ -25,6 +27,14 @@ words-append (p ∷ ps) qs = ap (λ (ws : List ℕ). itemWord (p .which) (p .nex
 words-length : (ps : List Seen) → length (wordsOf ps) ≡ length ps
 words-length [] = refl
 words-length (p ∷ ps) = ap (λ (n : ℕ). suc n) (words-length ps)
+
+-- Words put in the part from an index on, when the part is back.
+pub laid-part : (n : ℕ) (ws xs : List ℕ) → n ≤ length xs → putMid n (length xs - n) xs (laid 0 ws (midOf n (length xs - n) xs)) ≡ laid n ws xs
+laid-part n ws xs h =
+    let rest : length (drop n xs) ≤ length xs - n = omega (arith, length-drop n xs) in
+    ap (λ (ys : List ℕ). take n xs ++ (laid 0 ws (midOf n (length xs - n) xs) ++ ys)) (drop-of-length-le (drop n xs) rest)
+    ∙ (ap (λ (ys : List ℕ). take n xs ++ ys) (append-nil (laid 0 ws (midOf n (length xs - n) xs)))
+    ∙ (ap (λ (ys : List ℕ). take n xs ++ laid 0 ws ys) (take-all (length xs - n) (drop n xs) rest) ∙ laid-from n ws xs h))
 
 -- A run that began over some octets and words and is now at a place, n items further on.
 pub record OnRun (s : List ℕ) (x : Lent) (lent words : List ℕ) (n : ℕ) (here : Lent) : Type 0 where
@@ -78,7 +88,7 @@ module _ (s : List ℕ) (x : Lent) (lent : List ℕ) where
         go [] q h = absurd (omega arith)
         go (p ∷ ps) q h = let t = took-over s x p (q .0) (q .1) in (t .stepped, p .next, t .reads)
 
-    none-passed : n ≡ 0 → x ≡ here
+    pub none-passed : n ≡ 0 → x ≡ here
     none-passed h = go (w .passed) (w .path) (w .count ∙ h)
       where
         go : (ps : List Seen) → Path (turnOver s) x ps here → length ps ≡ 0 → x ≡ here

@@ -3,12 +3,10 @@ use Prim.Native.Nat.{ℕ}
 use mathlib.Core.Path.{_≡_}
 use mathlib.Core.List.{List}
 use lib.ListN.{length}
-use lib.Dec.{leb}
-use Rattle.octets.specs.Limits.{mostRows}
-use Rattle.octets.specs.Reading.{Read, ok, no, choose}
+use Rattle.octets.specs.Reading.{Read, ok, no}
 use Rattle.elements.specs.declared.Met.{Met}
 use Rattle.elements.specs.declared.Met.the-variants as met
-use Rattle.elements.specs.Walk.{refused, Turn, stops, Walk, Spot, Lent}
+use Rattle.elements.specs.Walk.{Walk, Lent}
 use Rattle.walks.specs.Rows.{rowWord, laid}
 use Rattle.runs.specs.Runs.{layoutWord, wordsOf}
 use Rattle.runs.specs.declared.Went.{Went}
@@ -20,10 +18,6 @@ abbrev pub metWord : Met → ℕ → ℕ
 metWord (met.Layout number count) next = layoutWord number next
 metWord (met.Row number stated count) next = rowWord number stated next
 metWord (met.End count time) next = 0
-
--- A turn of a step that is told so many rows: over the limit it is refused by 17.
-abbrev pub boundTurn : ℕ → Turn Spot → Turn Spot
-boundTurn rows t = choose (leb rows mostRows) (λ _. t) (λ _. stops (refused 17 0))
 
 -- How many items were passed, and where the run stands then.
 abbrev pub wentOf : Walk Lent → Went

@@ -25,6 +25,6 @@ unfoldable pub runAsked : List ℕ → Lent → Read (Walk Lent)
 runAsked s x =
     stepAt s (x .at) (x .rows) (x .octets) (x .used) then λ _ _. ok (walk (turnOver s) 4096 x) (walk (turnOver s) 4096 x .spot .at)
 
--- The index up to which rows may follow one another behind n items and so many rows: no step is told more than 1,048,576 rows.
+-- How many rows may follow one another behind n items and so many rows: no step is told more than 1,048,576 rows.
 abbrev pub reachOf : ℕ → ℕ → ℕ
-reachOf n rows = min 4096 (n + (mostRows + 1 - rows))
+reachOf n rows = min (4096 - n) (mostRows + 1 - rows)

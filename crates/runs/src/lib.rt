@@ -4,11 +4,10 @@
 ghost use mathlib.Core.Path.{_≡_};
 ghost use Prim.Native.Nat.{_≤_, _<_};
 ghost use lib.ListN.{length};
-ghost use Rattle.layouts.specs.Book.{Book, IsBook};
-ghost use Rattle.elements.specs.Walk.{spotAt, turnAt, lentAt};
-ghost use Rattle.walks.specs.Answers.{movedOf, Bears, Borne};
+ghost use Rattle.layouts.specs.Book.{IsBook};
+ghost use Rattle.elements.specs.Walk.{lentAt};
 ghost use Rattle.runs.specs.Runs.{layoutWord, runAsked, reachOf};
-ghost use Rattle.runs.specs.Answers.{metWord, boundTurn, Ran, runTells, bookLeft, wordsLeft};
+ghost use Rattle.runs.specs.Answers.{metWord, Ran, runTells, bookLeft, wordsLeft};
 ghost use Rattle.octets.specs.Limits.{longest, mostRows};
 use elements::Met;
 use octets::Refusal;
@@ -47,39 +46,16 @@ fn item_word(met: Met, next: usize) -> u64
     }
 }
 
-// One turn of a run, unless the rows passed are too many for a step.
-fn next_turn<'d, 's, 'n, 'l>(
-    doc: &'d [u8],
-    at: usize,
-    rows: usize,
-    shelf: &'s [u8],
-    used: usize,
-    numbers: &'n [u64; 64],
-    places: &'l [u32; 64],
-    known: usize,
-) -> Moved
-    requires { ⌜ (length (now doc) ≤ longest) × (length (now shelf) ≤ longest) × Borne (now shelf) used (now numbers) (now places) known ⌝ }
-    ensures { λ r. ⌜ ((book : Book) → Bears (now (shelf .entry)) used (now (numbers .entry)) (now (places .entry)) known book → r ≡ movedOf (boundTurn rows (turnAt (now (doc .entry)) (spotAt at rows book)))) ⌝ }
-{
-    if octets::MOST_ROWS < rows {
-        return Moved::Refused(17, 0);
-    }
-    walks::turn(doc, at, rows, shelf, used, numbers, places, known)
-}
-
-// The index up to which rows may follow one another behind so many items and so many rows: no step is told more than 1,048,576 rows.
+// How many rows may follow one another behind so many items and so many rows: no step is told more than 1,048,576 rows.
 fn reach(n: usize, rows: usize) -> usize
-    requires { ⌜ n ≤ 4096 ⌝ }
+    requires { ⌜ (n ≤ 4096) × (rows ≤ mostRows) ⌝ }
     ensures { λ r. ⌜ r ≡ reachOf n rows ⌝ }
 {
-    if octets::MOST_ROWS < rows {
-        return n;
-    }
     let left = octets::MOST_ROWS - rows + 1;
     if left < 4096 - n {
-        return n + left;
+        return left;
     }
-    4096
+    4096 - n
 }
 
 // The run from a place on, at most 4,096 items, over a book that is known to be good: rows by plans as far as they go, else one item by the exact reader. A refusal of the first step is the run's.
@@ -89,9 +65,9 @@ fn items<'d, 'b, 'w>(
     rows: usize,
     book: &'b mut [u8],
     used: usize,
-    words: &'w mut [u64; 4096],
+    words: &'w mut [u64],
 ) -> Running
-    requires { ⌜ (at ≤ length (now doc)) × (length (now doc) ≤ longest) × (rows ≤ mostRows) × IsBook (now book) used ⌝ }
+    requires { ⌜ (at ≤ length (now doc)) × (length (now doc) ≤ longest) × (rows ≤ mostRows) × IsBook (now book) used × (length (now words) ≡ 4096) ⌝ }
     ensures { λ r. ⌜ Ran (now (book .entry)) (now (words .entry)) (runAsked (now (doc .entry)) (lentAt at rows (now (book .entry)) used)) (now (book .exit)) (now (words .exit)) r ⌝ }
 {
     let mut numbers = [0u64; 64];
@@ -103,72 +79,73 @@ fn items<'d, 'b, 'w>(
     let mut filled = used;
     let mut n: usize = 0;
     while n < 4096 {
-        let to = reach(n, passed);
-        let stretch = walks::rows_on(
+        if octets::MOST_ROWS < passed {
+            return Running::Went(Went {
+                count: n,
+                next: pos,
+                rows: passed,
+                used: filled,
+            });
+        }
+        let most = reach(n, passed);
+        let moved = walks::go_on(
             doc,
             pos,
+            passed,
+            &book[..filled],
+            filled,
             &numbers,
+            &places,
             &steps,
             tally.known,
             &numbers,
-            words,
-            n,
-            to,
+            &mut words[n..],
+            most,
         );
-        pos = stretch.next;
-        passed += stretch.count - n;
-        n = stretch.count;
-        if n < 4096 {
-            let moved = next_turn(
-                doc,
-                pos,
-                passed,
-                &book[..filled],
-                filled,
-                &numbers,
-                &places,
-                tally.known,
-            );
-            match moved {
-                Moved::Refused(number, place) => {
-                    if n == 0 {
-                        return Running::Refused(number, place);
-                    }
-                    return Running::Went(Went {
-                        count: n,
-                        next: pos,
-                        rows: passed,
-                        used: filled,
-                    });
+        match moved {
+            Moved::Rows(next, count) => {
+                pos = next;
+                passed += count;
+                n += count;
+            }
+            Moved::Refused(number, place) => {
+                if n == 0 {
+                    return Running::Refused(number, place);
                 }
-                Moved::End(count, time, next) => {
-                    return Running::Went(Went {
-                        count: n,
-                        next: pos,
-                        rows: passed,
-                        used: filled,
-                    });
+                return Running::Went(Went {
+                    count: n,
+                    next: pos,
+                    rows: passed,
+                    used: filled,
+                });
+            }
+            Moved::End(count, time, next) => {
+                return Running::Went(Went {
+                    count: n,
+                    next: pos,
+                    rows: passed,
+                    used: filled,
+                });
+            }
+            Moved::Item(gone) => {
+                let met = gone.met;
+                words[n] = item_word(met, gone.next);
+                n += 1;
+                if filled < gone.used {
+                    elements::grow(doc, pos, gone.next, book, filled);
+                    tally = shelves::keep(
+                        doc,
+                        pos + 4,
+                        filled,
+                        &mut numbers,
+                        &mut places,
+                        &mut steps,
+                        tally,
+                    );
                 }
-                Moved::Item(gone) => {
-                    let met = gone.met;
-                    words[n] = item_word(met, gone.next);
-                    n += 1;
-                    if filled < gone.used {
-                        elements::grow(doc, pos, gone.next, book, filled);
-                        tally = shelves::keep(
-                            doc,
-                            pos + 4,
-                            filled,
-                            &mut numbers,
-                            &mut places,
-                            &mut steps,
-                            tally,
-                        );
-                    }
-                    pos = gone.next;
-                    passed = gone.rows;
-                    filled = gone.used;
-                }
+                pos = gone.next;
+                passed = gone.rows;
+                filled = gone.used;
             }
         }
     }

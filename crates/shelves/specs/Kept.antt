@@ -11,6 +11,8 @@ use Rattle.layouts.specs.Layout.{Layout, layoutAt}
 use Rattle.layouts.specs.Book.{Book, bookImage, GoodBook}
 use Rattle.plans.specs.Plan.{planFor, Begins}
 use Rattle.shelves.specs.declared.Tally.{Tally}
+use Rattle.shelves.specs.declared.PlanAt.{PlanAt}
+use Rattle.shelves.specs.declared.PlanAt.the-variants as plan-at
 
 -- Before any layout: the first 64 steps say where plans stand, and plans are put behind them.
 abbrev pub nothing : Tally
@@ -86,6 +88,11 @@ pub record Kept (shelf numbers places steps : List ℕ) (t : Tally) (book : Book
 -- None of the numbers known is this one.
 abbrev pub Lacks : List ℕ → ℕ → ℕ → Type 0
 Lacks numbers known n = (i : ℕ) → i < known → getD numbers i 0 ≡ n → ⊥
+
+-- The index of a number among those known, by a layout of that number which has a plan; or that there is none in any book of theirs.
+abbrev pub Indexes : List ℕ → ℕ → ℕ → PlanAt → Type 0
+Indexes numbers known n (plan-at.Index i) = (i < known) × (getD numbers i 0 ≡ n)
+Indexes numbers known n plan-at.None = (book : Book) → Numbered numbers known book → Lacks numbers known n
 
 -- A layout at a place is kept behind those known: its number and its place are put behind theirs, it is counted, and its plan, if it has one, is put behind theirs, which stay.
 pub record Keeps (l : Layout) (place : ℕ) (numbers places steps : List ℕ) (t : Tally) (numbers₁ places₁ steps₁ : List ℕ) (r : Tally) : Type 0 where

@@ -5,13 +5,13 @@ ghost use mathlib.Core.Path.{_≡_};
 ghost use mathlib.Core.List.{List};
 ghost use mathlib.Core.Bool.{true};
 ghost use Prim.Native.Nat.{ℕ, _+_, _*_, _≤_, _<_};
-ghost use lib.ListN.{length, getD};
+ghost use lib.ListN.{length};
 ghost use Rattle.octets.specs.Limits.{longest, mostLayouts};
 ghost use Rattle.octets.specs.Reading.{ok, isOk};
 ghost use Rattle.layouts.specs.Layout.{Layout, layoutAt};
 ghost use Rattle.layouts.specs.Book.{Book, position};
 ghost use Rattle.layouts.specs.Answers.{Looks};
-ghost use Rattle.shelves.specs.Kept.{nothing, Numbered, Shelved, Kept, Lacks, Keeps, Image, Images};
+ghost use Rattle.shelves.specs.Kept.{nothing, Numbered, Shelved, Kept, Indexes, Keeps, Image, Images};
 use layouts::Looked;
 use plans::Put;
 
@@ -19,6 +19,12 @@ use plans::Put;
 pub struct Tally {
     pub known: usize,
     pub filled: usize,
+}
+
+// The index of a layout that has a plan, if the number asked for is that of one.
+pub enum PlanAt {
+    Index(usize),
+    None,
 }
 
 fn place_of(x: u32) -> usize
@@ -52,29 +58,27 @@ pub fn position_of(numbers: &[u64; 64], known: usize, number: u32) -> usize
     known
 }
 
-// The index of a number that has a plan: the index that was last, or the one behind it, or the number's position; all known where it has none.
-pub fn index_of(numbers: &[u64; 64], known: usize, last: usize, number: u32) -> usize
-    requires { ⌜ known ≤ mostLayouts ⌝ }
-    ensures { λ r. ⌜ (r < known → getD (now (numbers .entry)) r 0 ≡ number) × (known ≤ r → (book : Book) → Numbered (now (numbers .entry)) known book → Lacks (now (numbers .entry)) known number) ⌝ }
+// The index of a number that has a plan: the index that was last, or the one behind it, or the number's position.
+pub fn index_of(numbers: &[u64; 64], known: usize, last: usize, number: u32) -> PlanAt
+    requires { ⌜ (known ≤ mostLayouts) × (last < known) ⌝ }
+    ensures { λ r. ⌜ Indexes (now (numbers .entry)) known number r ⌝ }
 {
     let title = number as u64;
-    if last < known {
-        if numbers[last] == title {
-            return last;
-        }
-        if last + 1 < known {
-            if numbers[last + 1] == title {
-                return last + 1;
-            }
+    if numbers[last] == title {
+        return PlanAt::Index(last);
+    }
+    if last + 1 < known {
+        if numbers[last + 1] == title {
+            return PlanAt::Index(last + 1);
         }
     }
     let i = position_of(numbers, known, number);
     if i < known {
         if numbers[i] == title {
-            return i;
+            return PlanAt::Index(i);
         }
     }
-    known
+    PlanAt::None
 }
 
 // Keeps a layout that stands at a place of the document behind those known: its number, a place at which it is found, and its plan if there is room for it that leaves eight steps to each layout that may follow.

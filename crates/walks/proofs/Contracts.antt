@@ -1,20 +1,18 @@
--- The contracts of walks themselves that settle the answer: one turn, a stretch of rows, the rows counted, and a row in one number. Assumes nothing.
+-- The contracts of walks themselves that settle the answer: how a walk goes on, the rows counted, and a row in one number. Assumes nothing.
 use mathlib.Core.Path.{_≡_, refl, sym, _∙_}
 use Rattle.octets.specs.Contracts.{Once}
 use Rattle.octets.proofs.Alike.{_also_}
 use Rattle.walks.specs.Answers.{countSays}
 use Rattle.walks.specs.declared.RowCount.{RowCount}
 use Rattle.walks.specs.declared.RowCount.the-variants.{Rows, Refused}
-use Rattle.walks.proofs.Stretches.{stretch-once}
+use Rattle.walks.proofs.Stretches.{goes-on-once}
 use Rattle.walks.proofs.row_word as row-word
-use Rattle.walks.proofs.turn as turn
-use Rattle.walks.proofs.rows_on as rows-on
+use Rattle.walks.proofs.go_on as go-on
 use Rattle.walks.proofs.rows_from as rows-from
 
 pub record Contracts : Type 0 where
   pub of-row-word : Once row-word.Kinds.ps row-word.Kinds.r row-word.Reads.Pre row-word.Reads.Post
-  pub of-turn : Once turn.Kinds.ps turn.Kinds.r turn.Reads.Pre turn.Reads.Post
-  pub of-rows-on : Once rows-on.Kinds.ps rows-on.Kinds.r rows-on.Reads.Pre rows-on.Reads.Post
+  pub of-go-on : Once go-on.Kinds.ps go-on.Kinds.r go-on.Reads.Pre go-on.Reads.Post
   pub of-rows-from : Once rows-from.Kinds.ps rows-from.Kinds.r rows-from.Reads.Pre rows-from.Reads.Post
 
 count-says-once : (x y : RowCount) → countSays x ≡ countSays y → x ≡ y
@@ -27,10 +25,9 @@ pub contracts : Contracts
 contracts =
     record {
       of-row-word = λ κs a p x y u v e f. (e ∙ sym f, refl);
-      of-turn = λ κs a p x y u v e f. let b = p .3 in (e (b .book) (b .bears) ∙ sym (f (b .book) (b .bears)), refl);
-      of-rows-on = λ κs a p x y u v e f.
-          let b = p .3 in
-          let q = stretch-once _ _ _ _ (b .planned .numbered) _ _ _ _ 0 _ x y _ _ (e .1, e .2 0 (b .book) (b .planned)) (f .1, f .2 0 (b .book) (b .planned)) in
-          (q .0, refl also refl also refl also refl also refl also refl also q .1 also refl);
+      of-go-on = λ κs a p x y u v e f.
+          let b = p .4 in
+          let q = goes-on-once _ _ _ _ (b .bears .planned .numbered) _ _ _ _ _ (p .0) x y (e (b .book) (b .bears)) (f (b .book) (b .bears)) in
+          (q .0, refl also refl also refl also refl also refl also refl also refl also refl also refl also refl also q .1 also refl);
       of-rows-from = λ κs a p x y u v e f. (count-says-once x y (e ∙ sym f), refl);
     }

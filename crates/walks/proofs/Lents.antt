@@ -69,8 +69,8 @@ module _ (octets : List ℕ) (used : ℕ) (numbers places steps : List ℕ) (t :
   pub carried-lent : Lent octets used held
   carried-lent = lent-book octets used (c .octets-are) (c .is)
 
-  pub carried-bears : Bears (take used octets) used numbers places (t .known) held
-  carried-bears = record { numbered = c .kept .planned .numbered; shelved = c .kept .shelved; size = carried-lent .size }
+  pub carried-bears : Bears (take used octets) used numbers places steps (t .known) held
+  carried-bears = record { planned = c .kept .planned; shelved = c .kept .shelved; size = carried-lent .size }
 
   -- Behind an item: what was carried, or the octets with the new layout put behind the used ones.
   module _ (s : List ℕ) (o : Each Octet s) (short : length s ≤ longest) (at rows : ℕ) (p : Seen) (y : Spot) (e : turnAt s (spotAt at rows held) ≡ goes p y) where

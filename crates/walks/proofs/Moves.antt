@@ -18,11 +18,11 @@ use Rattle.rows.proofs.Named.{row-says}
 use Rattle.elements.specs.Element.{Item, layout, row, Element, item, finish, Stepped, elementAt}
 use Rattle.elements.specs.Steps.{holding}
 use Rattle.elements.specs.Answers.{stepOf, Grows}
-use Rattle.elements.specs.Walk.{Seen, goes, numberOf, turnBy, Spot, spotAt, spotOf, turnAt}
+use Rattle.elements.specs.Walk.{ended, refused, Seen, Turn, goes, stops, numberOf, turnBy, Spot, spotAt, spotOf, turnAt}
 use Rattle.elements.proofs.Behind.{element-book, element-new, element-old}
 use Rattle.elements.proofs.Turns.{Took, took-at, turn-moves}
 use Rattle.elements.proofs.Went.{Went, at-layout, at-row, at-finish, went}
-use Rattle.walks.specs.Answers.{movedOf, stepMoved}
+use Rattle.walks.specs.Answers.{movedOf, stepMoved, ByTurn, GoesOn}
 
 -- The position of the number behind an item's kind, in the book before it, is that of its layout in the book behind it.
 same-position : (s : List ℕ) (at rows : ℕ) (b : Book) (st : Stepped) (next : ℕ) (i : Item) → elementAt s at rows b ≡ ok st next → st .element ≡ item i
@@ -105,3 +105,10 @@ module _ (s : List ℕ) (o : Each Octet s) (short : length s ≤ longest) (at ro
     -- What is left in lent octets, where the layout was put behind their book.
     pub item-left : (octets exit : List ℕ) → ((rows : ℕ) (st : Stepped) → elementAt s at rows b ≡ ok st (p .next) → exit ≡ holding (st .book) octets) → exit ≡ holding (y .book) octets
     item-left octets exit left = left rows (took .stepped) (took .reads) ∙ ap (λ (z : Book). holding z octets) (sym book-is)
+
+-- A turn, whatever it met, is how a walk goes on where no row is passed by a plan.
+pub turned-on : {s : List ℕ} {x : Spot} {numbers : List ℕ} {known most : ℕ} {entry exit : List ℕ} (labels : List ℕ) (t : Turn Spot)
+    → ByTurn s x numbers known most entry exit (movedOf t) → GoesOn s x numbers known labels most entry exit (movedOf t)
+turned-on labels (goes p y) b = b
+turned-on labels (stops (ended n t next)) b = b
+turned-on labels (stops (refused n p)) b = b

@@ -1,7 +1,8 @@
--- A stretch of rows is settled by where it begins: every item is a row, and one that stops before its last index stops where no row stands that its layout's plan passes.
-use Prim.Native.Nat.{ℕ, _+_, _≤_, _<_}
+-- How a walk goes on is settled by where it is: every item of a stretch is a row, and one that stops before its last stops where no row stands that its layout's plan passes.
+use Prim.Native.Nat.{ℕ, _+_, _-_, _≤_, _<_}
 use mathlib.Core.Path.{_≡_, refl, sym, ap, _∙_, subst}
 use mathlib.Core.List.{List, [], _∷_}
+use mathlib.Core.Logic.{_⊎_, inl, inr}
 use native.Mathlib.Omega.{arith}
 use lib.ListN.{length}
 use Rattle.octets.specs.Reading.{isOk}
@@ -16,25 +17,28 @@ use Rattle.elements.proofs.Turns.{TookRow, took-row}
 use Rattle.elements.proofs.Through.{rows-few, path-rows}
 use Rattle.elements.proofs.Growth.{turn-in-book}
 use Rattle.shelves.specs.Kept.{Numbered}
-use Rattle.walks.specs.Rows.{wordsBy, laid, Refuses, HasPlan, Passage}
-use Rattle.walks.specs.declared.Stretch.{Stretch}
+use Rattle.walks.specs.Rows.{wordsBy, laid, Refuses, HasPlan, Strides}
+use Rattle.walks.specs.Answers.{ByTurn, GoesOn}
+use Rattle.walks.specs.declared.Moved.{Moved}
+use Rattle.walks.specs.declared.Moved.the-variants as moved
+use Rattle.walks.proofs.Rows.{passage-none}
 
-module _ (s numbers : List ℕ) (known : ℕ) (book : Book) (k : Numbered numbers known book) (to : ℕ) where
-  -- Rows with plans one behind another, up to an index or to where no such row stands.
-  record Goes (at rows n : ℕ) (ps : List Seen) (next : ℕ) : Type 0 where
+module _ (s numbers : List ℕ) (known : ℕ) (book : Book) (k : Numbered numbers known book) where
+  -- Rows with plans one behind another, so many at most or to where no such row stands.
+  record Goes (at rows most : ℕ) (ps : List Seen) (next : ℕ) : Type 0 where
     path : Path (turnAt s) (spotAt at rows book) ps (spotAt next (rows + length ps) book)
     plans : Each (HasPlan numbers) ps
-    few : n + length ps ≤ to
-    stops : n + length ps < to → Refuses s next book numbers known
+    few : length ps ≤ most
+    stops : length ps < most → Refuses s next book numbers known
 
-  module _ {at rows n next : ℕ} {p : Seen} {ps : List Seen} (g : Goes at rows n (p ∷ ps) next) where
+  module _ {at rows most next : ℕ} {p : Seen} {ps : List Seen} (g : Goes at rows most (p ∷ ps) next) where
     first : TookRow s at rows book p (g .path .0)
     first =
         let one = few-rows (item (p .which)) in
         let all = path-rows s (p ∷ ps) (spotAt at rows book) (spotAt next (rows + length (p ∷ ps)) book) (g .path) in
         took-row s at rows book p (g .path .0) (omega (arith, rows-few ps)) (g .path .1)
 
-    rest : Goes (p .next) (rows + 1) (n + 1) ps next
+    rest : Goes (p .next) (rows + 1) (most - 1) ps next
     rest =
         let sum : rows + length (p ∷ ps) ≡ rows + 1 + length ps = omega arith in
         record {
@@ -47,7 +51,7 @@ module _ (s numbers : List ℕ) (known : ℕ) (book : Book) (k : Numbered number
         }
 
     -- No stretch stops before it.
-    goes-on : {end : ℕ} → Goes at rows n [] end → ⊥
+    goes-on : {end : ℕ} → Goes at rows most [] end → ⊥
     goes-on {end} h =
         let r = first in
         let here : end ≡ at = ap (λ (y : Spot). y .at) (sym (h .path)) in
@@ -61,28 +65,63 @@ module _ (s numbers : List ℕ) (known : ℕ) (book : Book) (k : Numbered number
         let z : _≡_ {A = ℕ} 0 1 = cc in
         omega arith
 
-  once : (ps qs : List Seen) (at rows n next end : ℕ) → Goes at rows n ps next → Goes at rows n qs end → (ps ≡ qs) × (next ≡ end)
-  once [] [] at rows n next end g h = (refl, ap (λ (y : Spot). y .at) (sym (g .path) ∙ h .path))
-  once [] (q ∷ qs) at rows n next end g h = absurd (goes-on h g)
-  once (p ∷ ps) [] at rows n next end g h = absurd (goes-on g h)
-  once (p ∷ ps) (q ∷ qs) at rows n next end g h =
+  once : (ps qs : List Seen) (at rows most next end : ℕ) → Goes at rows most ps next → Goes at rows most qs end → (ps ≡ qs) × (next ≡ end)
+  once [] [] at rows most next end g h = (refl, ap (λ (y : Spot). y .at) (sym (g .path) ∙ h .path))
+  once [] (q ∷ qs) at rows most next end g h = absurd (goes-on h g)
+  once (p ∷ ps) [] at rows most next end g h = absurd (goes-on g h)
+  once (p ∷ ps) (q ∷ qs) at rows most next end g h =
       let turn = sym (g .path .1) ∙ h .path .1 in
       let same : p ≡ q = cc in
-      let (seen, place) = once ps qs (p .next) (rows + 1) (n + 1) next end (rest g) (subst (λ (x : Seen). Goes (x .next) (rows + 1) (n + 1) qs end) (sym same) (rest h)) in
+      let (seen, place) = once ps qs (p .next) (rows + 1) (most - 1) next end (rest g) (subst (λ (x : Seen). Goes (x .next) (rows + 1) (most - 1) qs end) (sym same) (rest h)) in
       (rw (same, seen) refl, place)
 
   -- So two answers are one, and so are the words that they put.
-  module _ (labels entry : List ℕ) (at rows from : ℕ) where
-    abbrev Says : Stretch → List ℕ → Type 0
-    Says r exit = (r .count ≤ to) × (Passage s (spotAt at rows book) numbers labels from entry exit r × (r .count < to → Refuses s (r .next) book numbers known))
+  module _ (labels : List ℕ) (most : ℕ) (entry : List ℕ) (at rows : ℕ) where
+    abbrev Says : List ℕ → ℕ → ℕ → Type 0
+    Says exit next count = Strides s (spotAt at rows book) numbers known labels most entry exit next count
 
-    goes-by : (r : Stretch) (exit : List ℕ) (e : Says r exit) → Goes at rows from (e .1 .0 .seen) (r .next)
-    goes-by r exit (few, (p, stops)) = record { path = p .path; plans = p .planned; few = omega (arith, p .count); stops = λ h. stops (omega (arith, p .count)) }
+    goes-by : {exit : List ℕ} {next count : ℕ} (e : Says exit next count) → Goes at rows most (e .passage .seen) next
+    goes-by e = let p = e .passage in record { path = p .path; plans = p .planned; few = omega (arith, p .is-count, e .few); stops = λ h. e .stops (omega (arith, p .is-count)) }
 
-    pub stretch-once : (r t : Stretch) (u v : List ℕ) → Says r u → Says t v → (r ≡ t) × (u ≡ v)
-    stretch-once r t u v e f =
-        let p = e .1 .0 in
-        let q = f .1 .0 in
-        let (seen, next) = once (p .seen) (q .seen) at rows from (r .next) (t .next) (goes-by r u e) (goes-by t v f) in
-        let count : r .count ≡ t .count = p .count ∙ (ap (λ (ps : List Seen). from + length ps) seen ∙ sym (q .count)) in
-        (λ i. record { next = next i; count = count i }, p .put ∙ (ap (λ (ps : List Seen). laid from (wordsBy labels ps) entry) seen ∙ sym (q .put)))
+    pub strides-once : {u v : List ℕ} {next end count more : ℕ} → Says u next count → Says v end more → (next ≡ end) × (count ≡ more) × (u ≡ v)
+    strides-once e f =
+        let p = e .passage in
+        let q = f .passage in
+        let (seen, place) = once (p .seen) (q .seen) at rows most _ _ (goes-by e) (goes-by f) in (
+          place,
+          sym (p .is-count) ∙ (ap (λ (ps : List Seen). length ps) seen ∙ q .is-count),
+          p .put ∙ (ap (λ (ps : List Seen). laid 0 (wordsBy labels ps) entry) seen ∙ sym (q .put)),
+        )
+
+    -- How it went on: over rows, or by a turn, and then over none.
+    abbrev Over : List ℕ → Moved → Type 0
+    Over exit r = (next : ℕ) × (count : ℕ) × (r ≡ moved.Rows next count) × (0 < count) × Says exit next count
+
+    abbrev Turned : List ℕ → Moved → Type 0
+    Turned exit r = ByTurn s (spotAt at rows book) numbers known most entry exit r
+
+    abbrev On : List ℕ → Moved → Type 0
+    On exit r = GoesOn s (spotAt at rows book) numbers known labels most entry exit r
+
+    either : {exit : List ℕ} (r : Moved) → On exit r → Over exit r ⊎ Turned exit r
+    either (moved.Rows next count) (some, e) = inl (next, count, refl, some, e)
+    either (moved.Item g) e = inr e
+    either (moved.End n t next) e = inr e
+    either (moved.Refused n p) e = inr e
+
+    not-both : {u v : List ℕ} {r t : Moved} → at ≤ length s → Over u r → Turned v t → ⊥
+    not-both inside (next, count, _, some, e) t =
+        let none : Says entry at 0 = record { passage = passage-none s at rows book numbers labels entry; inside = inside; few = omega arith; stops = t .stops } in
+        let same = strides-once e none .1 in
+        omega arith
+
+    pub goes-on-once : at ≤ length s → (r t : Moved) {u v : List ℕ} → On u r → On v t → (r ≡ t) × (u ≡ v)
+    goes-on-once inside r t {u} {v} e f = go (either r e) (either t f)
+      where
+        go : Over u r ⊎ Turned u r → Over v t ⊎ Turned v t → (r ≡ t) × (u ≡ v)
+        go (inl (next, count, is, _, d)) (inl (end, more, is₁, _, g)) =
+            let (place, number, words) = strides-once d g in
+            (is ∙ ((λ i. moved.Rows (place i) (number i)) ∙ sym is₁), words)
+        go (inl d) (inr g) = absurd (not-both inside d g)
+        go (inr d) (inl g) = absurd (not-both inside g d)
+        go (inr d) (inr g) = (d .is ∙ sym (g .is), d .kept ∙ sym (g .kept))

@@ -1,4 +1,4 @@
--- The one invariant of a loop of turns: a way from where it began, and all that is kept of the book behind it. It goes on by a stretch of rows, by an item, and with an item whose layout is new and is kept.
+-- The one invariant of a loop of turns: a way from where it began, and all that is kept of the book behind it. It goes on over rows, by an item, and with an item whose layout is new and is kept.
 use Prim.Native.Nat.{ℕ, _+_, _≤_, _<_}
 use mathlib.Core.Path.{_≡_, refl, sym, subst}
 use mathlib.Core.List.{List, [], _∷_, _++_}
@@ -15,10 +15,9 @@ use Rattle.elements.specs.Walk.{ended, refused, Seen, Turn, goes, stops, Path, 
 use Rattle.elements.proofs.Walks.{path-join, path-one}
 use Rattle.elements.proofs.Through.{rows-few, path-rows, path-moves}
 use Rattle.shelves.specs.Kept.{Kept, Keeps}
-use Rattle.walks.specs.Rows.{Passage}
+use Rattle.walks.specs.Rows.{Strides}
 use Rattle.walks.specs.Answers.{goneOf, movedOf, Bears}
 use Rattle.shelves.specs.declared.Tally.{Tally}
-use Rattle.walks.specs.declared.Stretch.{Stretch}
 use Rattle.walks.specs.declared.Gone.{Gone}
 use Rattle.walks.specs.declared.Moved.the-variants as moved
 use Rattle.shelves.proofs.Keeping.{kept-more}
@@ -61,21 +60,23 @@ module _ (s : List ℕ) (o : Each Octet s) (short : length s ≤ longest) (x : S
   here = spotAt at rows (w .book)
 
   -- What a turn from here bears.
-  pub way-bears : Bears shelf used numbers places (t .known) (w .book)
-  way-bears = record { numbered = w .kept .planned .numbered; shelved = w .kept .shelved; size = w .size }
+  pub way-bears : Bears shelf used numbers places steps (t .known) (w .book)
+  way-bears = record { planned = w .kept .planned; shelved = w .kept .shelved; size = w .size }
 
   -- The rows passed are not more than the octets.
   pub way-few : x .at + rows ≤ x .rows + at
   way-few = omega (arith, path-rows s passed x here (w .path), path-moves s o short passed x here (w .path), rows-few passed)
 
-  -- A stretch of rows on.
-  pub way-rows : {labels entry exit : List ℕ} {from : ℕ} {r : Stretch} (h : Passage s here numbers labels from entry exit r) → r .next ≤ length s
-      → OnWay s x (passed ++ h .seen) shelf numbers places steps t (r .next) (rows + length (h .seen)) used
-  way-rows h inside =
-      record { book = w .book; kept = w .kept; size = w .size; path = path-join (turnAt s) passed (h .seen) x here _ (w .path) (h .path); inside = inside }
-
-  pub rows-further : {labels entry exit : List ℕ} {from : ℕ} {r : Stretch} (h : Passage s here numbers labels from entry exit r) → at + length (h .seen) ≤ r .next
-  rows-further h = path-moves s o short (h .seen) here _ (h .path)
+  -- Over rows.
+  pub way-rows : {labels entry exit : List ℕ} {most next count : ℕ} → Strides s here numbers (t .known) labels most entry exit next count
+      → (more : List Seen) × OnWay s x (passed ++ more) shelf numbers places steps t next (rows + count) used × (at + count ≤ next)
+  way-rows {labels} {entry} {exit} {most} {next} {count} h =
+      let p = h .passage in (
+        p .seen,
+        subst (λ (n : ℕ). OnWay s x (passed ++ p .seen) shelf numbers places steps t next (rows + n) used) (p .is-count)
+            (record { book = w .book; kept = w .kept; size = w .size; path = path-join (turnAt s) passed (p .seen) x here _ (w .path) (p .path); inside = h .inside }),
+        subst (λ (n : ℕ). at + n ≤ next) (p .is-count) (path-moves s o short (p .seen) here _ (p .path)),
+      )
 
   -- One item on.
   module _ (p : Seen) (y : Spot) (e : turnAt s here ≡ goes p y) where

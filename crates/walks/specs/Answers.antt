@@ -1,5 +1,5 @@
 -- What is told of a turn and of the rows counted.
-use Prim.Native.Nat.{ℕ}
+use Prim.Native.Nat.{ℕ, _<_}
 use mathlib.Core.Path.{_≡_}
 use mathlib.Core.List.{List}
 use lib.ListN.{length}
@@ -11,8 +11,9 @@ use Rattle.elements.specs.Answers.{metOf}
 use Rattle.elements.specs.declared.Met.{Met}
 use Rattle.elements.specs.declared.Met.the-variants as met
 use Rattle.elements.specs.declared.Step.{Step}
-use Rattle.elements.specs.Walk.{ended, refused, Seen, Turn, goes, stops, Spot}
-use Rattle.shelves.specs.Kept.{Numbered, Shelved}
+use Rattle.elements.specs.Walk.{ended, refused, Seen, Turn, goes, stops, Spot, turnAt}
+use Rattle.shelves.specs.Kept.{Shelved, Planned}
+use Rattle.walks.specs.Rows.{Refuses, Strides}
 use Rattle.walks.specs.declared.Gone.{Gone}
 use Rattle.walks.specs.declared.Moved.{Moved}
 use Rattle.walks.specs.declared.Moved.the-variants as moved
@@ -38,15 +39,28 @@ metMoved (met.Row n stated k) step i = moved.Item (record { met = step .met; pos
 abbrev pub stepMoved : Step → ℕ → Moved
 stepMoved step i = metMoved (step .met) step i
 
--- A book that uses so many octets, whose layouts are kept by their numbers and by their places in a shelf.
-pub record Bears (shelf : List ℕ) (used : ℕ) (numbers places : List ℕ) (known : ℕ) (book : Book) : Type 0 where
-  pub numbered : Numbered numbers known book
+-- A book that uses so many octets, whose layouts are kept by their numbers and plans and by their places in a shelf.
+pub record Bears (shelf : List ℕ) (used : ℕ) (numbers places steps : List ℕ) (known : ℕ) (book : Book) : Type 0 where
+  pub planned : Planned numbers steps known book
   pub shelved : Shelved shelf places known book
   pub size : length (bookImage book) ≡ used
 
-pub record Borne (shelf : List ℕ) (used : ℕ) (numbers places : List ℕ) (known : ℕ) : Type 0 where
+pub record Borne (shelf : List ℕ) (used : ℕ) (numbers places steps : List ℕ) (known : ℕ) : Type 0 where
   pub book : Book
-  pub bears : Bears shelf used numbers places known book
+  pub bears : Bears shelf used numbers places steps known book
+
+-- By one turn, where no row is passed by a plan: no word is put.
+pub record ByTurn (s : List ℕ) (x : Spot) (numbers : List ℕ) (known most : ℕ) (entry exit : List ℕ) (r : Moved) : Type 0 where
+  pub is : r ≡ movedOf (turnAt s x)
+  pub kept : exit ≡ entry
+  pub stops : 0 < most → Refuses s (x .at) (x .book) numbers known
+
+-- How a walk goes on from a spot: over rows as far as they go, if there is one, else by one turn.
+abbrev pub GoesOn : List ℕ → Spot → List ℕ → ℕ → List ℕ → ℕ → List ℕ → List ℕ → Moved → Type 0
+GoesOn s x numbers known labels most entry exit (moved.Rows next count) = (0 < count) × Strides s x numbers known labels most entry exit next count
+GoesOn s x numbers known labels most entry exit (moved.Item g) = ByTurn s x numbers known most entry exit (moved.Item g)
+GoesOn s x numbers known labels most entry exit (moved.End n t next) = ByTurn s x numbers known most entry exit (moved.End n t next)
+GoesOn s x numbers known labels most entry exit (moved.Refused n p) = ByTurn s x numbers known most entry exit (moved.Refused n p)
 
 abbrev pub countSays : RowCount → Read ℕ
 countSays (row-count.Rows n end) = ok n end

@@ -1,5 +1,5 @@
 -- A stretch of rows, each passed by the plan of its layout, and the numbers that say them.
-use Prim.Native.Nat.{ℕ, _+_, _*_, _%_, _^_, _<_}
+use Prim.Native.Nat.{ℕ, _+_, _*_, _%_, _^_, _≤_, _<_}
 use mathlib.Core.Path.{_≡_}
 use mathlib.Core.List.{List, [], _∷_}
 use mathlib.Core.Bool.{Bool, true, false}
@@ -12,7 +12,6 @@ use Rattle.elements.specs.Element.{Item, layout, row}
 use Rattle.elements.specs.Walk.{Seen, Path, numberOf, Spot, spotAt, turnAt}
 use Rattle.walks.specs.declared.Quick.{Quick}
 use Rattle.walks.specs.declared.Quick.the-variants as quick
-use Rattle.walks.specs.declared.Stretch.{Stretch}
 
 -- An item in one number: a label of its layout in the high 32 bits, a bit that says whether it is a row, a bit that says whether its length is stated, and the next place in the low 30.
 abbrev pub packed : ℕ → ℕ → ℕ → ℕ → ℕ
@@ -58,10 +57,17 @@ Tried s at book numbers known quick.Unsure = Refuses s at book numbers known
 abbrev pub HasPlan : List ℕ → Seen → Type 0
 HasPlan numbers p = getD numbers (p .position) 0 ≡ numberOf (p .which)
 
--- The way over the rows that were passed, and their words.
-pub record Passage (s : List ℕ) (x : Spot) (numbers labels : List ℕ) (from : ℕ) (entry exit : List ℕ) (r : Stretch) : Type 0 where
+-- The way over so many rows that were passed, to a place, and their words.
+pub record Passage (s : List ℕ) (x : Spot) (numbers labels entry exit : List ℕ) (next count : ℕ) : Type 0 where
   pub seen : List Seen
-  pub path : Path (turnAt s) x seen (spotAt (r .next) (x .rows + length seen) (x .book))
+  pub path : Path (turnAt s) x seen (spotAt next (x .rows + length seen) (x .book))
   pub planned : Each (HasPlan numbers) seen
-  pub count : r .count ≡ from + length seen
-  pub put : exit ≡ laid from (wordsBy labels seen) entry
+  pub is-count : length seen ≡ count
+  pub put : exit ≡ laid 0 (wordsBy labels seen) entry
+
+-- As far as rows go: so many at most, or to where no row stands that its layout's plan passes.
+pub record Strides (s : List ℕ) (x : Spot) (numbers : List ℕ) (known : ℕ) (labels : List ℕ) (most : ℕ) (entry exit : List ℕ) (next count : ℕ) : Type 0 where
+  pub passage : Passage s x numbers labels entry exit next count
+  pub inside : next ≤ length s
+  pub few : count ≤ most
+  pub stops : count < most → Refuses s next (x .book) numbers known

@@ -6,15 +6,16 @@ ghost use Prim.Native.Nat.{ℕ, _≤_, _<_};
 ghost use lib.ListN.{length, set};
 ghost use Rattle.octets.specs.Limits.{longest, mostRows};
 ghost use Rattle.layouts.specs.Book.{Book};
-ghost use Rattle.elements.specs.Walk.{spotAt, turnAt, through};
+ghost use Rattle.elements.specs.Walk.{spotAt, through};
 ghost use Rattle.elements.specs.Reading.{rowsRead};
 ghost use Rattle.shelves.specs.Kept.{Planned, Plans};
-ghost use Rattle.walks.specs.Rows.{rowWord, Refuses, Tried, Passage};
-ghost use Rattle.walks.specs.Answers.{movedOf, stepMoved, Bears, Borne, countSays};
+ghost use Rattle.walks.specs.Rows.{rowWord, Tried, Strides};
+ghost use Rattle.walks.specs.Answers.{stepMoved, Bears, Borne, GoesOn, countSays};
 use elements::Met;
 use elements::Step;
 use elements::Stepping;
 use plans::Passed;
+use shelves::PlanAt;
 
 // The place behind a row and its layout's position, or that the exact reader is to be asked.
 pub enum Quick {
@@ -22,7 +23,7 @@ pub enum Quick {
     Unsure,
 }
 
-// The place behind rows one behind another, and the index behind their words.
+// The place behind rows one behind another, and how many they are.
 pub struct Stretch {
     pub next: usize,
     pub count: usize,
@@ -37,8 +38,9 @@ pub struct Gone {
     pub used: usize,
 }
 
-// What a turn met: an item, the end with its count, its time and the place behind it, or a refusal.
+// How a walk went on: over rows, by the place behind them and how many; by an item; to the end, by its count, its time and the place behind it; or to a refusal.
 pub enum Moved {
+    Rows(usize, usize),
     Item(Gone),
     End(u32, i64, usize),
     Refused(u32, usize),
@@ -59,7 +61,7 @@ fn quick_row<'d, 'n, 'p>(
     known: usize,
     last: usize,
 ) -> Quick
-    requires { ⌜ (at ≤ length (now doc)) × (length (now doc) ≤ longest) × Plans (now numbers) (now steps) known ⌝ }
+    requires { ⌜ (at ≤ length (now doc)) × (length (now doc) ≤ longest) × (last < known) × Plans (now numbers) (now steps) known ⌝ }
     ensures { λ r. ⌜ ((book : Book) → Planned (now (numbers .entry)) (now (steps .entry)) known book → Tried (now (doc .entry)) at book (now (numbers .entry)) known r) ⌝ }
 {
     if doc.len() < at + 12 {
@@ -68,14 +70,16 @@ fn quick_row<'d, 'n, 'p>(
     if octets::u32_at(doc, at) != 2 {
         return Quick::Unsure;
     }
-    let i = shelves::index_of(numbers, known, last, octets::u32_at(doc, at + 4));
-    if known <= i {
-        return Quick::Unsure;
-    }
-    let passed = plans::values_to(doc, at + 8, steps, plans::wide(steps[i]));
-    match passed {
-        Passed::Unsure => Quick::Unsure,
-        Passed::To(next) => Quick::Row(next, i),
+    let plan = shelves::index_of(numbers, known, last, octets::u32_at(doc, at + 4));
+    match plan {
+        PlanAt::None => Quick::Unsure,
+        PlanAt::Index(i) => {
+            let passed = plans::values_to(doc, at + 8, steps, plans::wide(steps[i]));
+            match passed {
+                Passed::Unsure => Quick::Unsure,
+                Passed::To(next) => Quick::Row(next, i),
+            }
+        }
     }
 }
 
@@ -106,8 +110,8 @@ fn put_word(words: &mut [u64], n: usize, word: u64)
     }
 }
 
-// Rows one behind another, each passed by the plan of its layout, from one index to another at most. The words of those that have a place are put there, each with the low 32 bits of the label of its layout's position.
-pub fn rows_on<'d, 'n, 'p, 'k, 'w>(
+// Rows one behind another, each passed by the plan of its layout, so many at most. The words of those that have a place are put there, each with the low 32 bits of the label of its layout's position.
+fn rows_on<'d, 'n, 'p, 'k, 'w>(
     doc: &'d [u8],
     at: usize,
     numbers: &'n [u64; 64],
@@ -115,20 +119,22 @@ pub fn rows_on<'d, 'n, 'p, 'k, 'w>(
     known: usize,
     labels: &'k [u64; 64],
     words: &'w mut [u64],
-    from: usize,
-    to: usize,
+    most: usize,
 ) -> Stretch
-    requires { ⌜ (at ≤ length (now doc)) × (length (now doc) ≤ longest) × (from ≤ to) × Plans (now numbers) (now steps) known ⌝ }
-    ensures { λ r. ⌜ (r .next ≤ length (now (doc .entry)))
-        × (r .count ≤ to)
-        × ((rows : ℕ) (book : Book) → Planned (now (numbers .entry)) (now (steps .entry)) known book
-        → Passage (now (doc .entry)) (spotAt at rows book) (now (numbers .entry)) (now (labels .entry)) from (now (words .entry)) (now (words .exit)) r
-        × (r .count < to → Refuses (now (doc .entry)) (r .next) book (now (numbers .entry)) known)) ⌝ }
+    requires { ⌜ (at ≤ length (now doc)) × (length (now doc) ≤ longest) × Plans (now numbers) (now steps) known ⌝ }
+    ensures { λ r. ⌜ ((rows : ℕ) (book : Book) → Planned (now (numbers .entry)) (now (steps .entry)) known book
+        → Strides (now (doc .entry)) (spotAt at rows book) (now (numbers .entry)) known (now (labels .entry)) most (now (words .entry)) (now (words .exit)) (r .next) (r .count)) ⌝ }
 {
     let mut pos = at;
-    let mut n = from;
+    let mut n: usize = 0;
     let mut last: usize = 0;
-    while n < to {
+    if known == 0 {
+        return Stretch {
+            next: pos,
+            count: n,
+        };
+    }
+    while n < most {
         let quick = quick_row(doc, pos, numbers, steps, known, last);
         match quick {
             Quick::Unsure => {
@@ -177,8 +183,8 @@ fn step_moved(step: Step, position: usize) -> Moved
     }
 }
 
-// One turn from a place: the element there, over the layouts kept, which stand in the octets of a shelf; a new layout is kept by whoever goes on.
-pub fn turn<'d, 's, 'n, 'l>(
+// Goes on from a place: over so many rows at most as stand one behind another and are passed by plans, or, where there is none, by the element there. The layouts kept stand in the octets of a shelf; a new one is kept by whoever goes on.
+pub fn go_on<'d, 's, 'n, 'l, 'p, 'k, 'w>(
     doc: &'d [u8],
     at: usize,
     rows: usize,
@@ -186,14 +192,24 @@ pub fn turn<'d, 's, 'n, 'l>(
     used: usize,
     numbers: &'n [u64; 64],
     places: &'l [u32; 64],
+    steps: &'p [u16; 1216],
     known: usize,
+    labels: &'k [u64; 64],
+    words: &'w mut [u64],
+    most: usize,
 ) -> Moved
-    requires { ⌜ (length (now doc) ≤ longest) × (rows ≤ mostRows) × (length (now shelf) ≤ longest) × Borne (now shelf) used (now numbers) (now places) known ⌝ }
-    ensures { λ r. ⌜ ((book : Book) → Bears (now (shelf .entry)) used (now (numbers .entry)) (now (places .entry)) known book → r ≡ movedOf (turnAt (now (doc .entry)) (spotAt at rows book))) ⌝ }
+    requires { ⌜ (at ≤ length (now doc)) × (length (now doc) ≤ longest) × (rows ≤ mostRows) × (length (now shelf) ≤ longest) × Borne (now shelf) used (now numbers) (now places) (now steps) known ⌝ }
+    ensures { λ r. ⌜ ((book : Book) → Bears (now (shelf .entry)) used (now (numbers .entry)) (now (places .entry)) (now (steps .entry)) known book
+        → GoesOn (now (doc .entry)) (spotAt at rows book) (now (numbers .entry)) known (now (labels .entry)) most (now (words .entry)) (now (words .exit)) r) ⌝ }
 {
-    let position = shelves::position_of(numbers, known, elements::number_behind(doc, at));
+    let stretch = rows_on(doc, at, numbers, steps, known, labels, words, most);
+    if 0 < stretch.count {
+        return Moved::Rows(stretch.next, stretch.count);
+    }
+    let here = stretch.next;
+    let position = shelves::position_of(numbers, known, elements::number_behind(doc, here));
     let looked = shelves::looked_at(places, known, position);
-    let one = elements::element_over(doc, at, rows, shelf, looked, used);
+    let one = elements::element_over(doc, here, rows, shelf, looked, used);
     match one {
         Stepping::Refused(n, p) => Moved::Refused(n, p),
         Stepping::Done(step) => step_moved(step, position),
@@ -214,21 +230,25 @@ pub fn rows_from(doc: &[u8], at: usize) -> RowCount
     let mut used: usize = 0;
     let mut words = [0u64; 1];
     loop {
-        let stretch = rows_on(
+        let moved = go_on(
             doc,
             pos,
+            rows,
+            doc,
+            used,
             &numbers,
+            &places,
             &steps,
             tally.known,
             &numbers,
             &mut words,
-            0,
             octets::MOST_ROWS,
         );
-        pos = stretch.next;
-        rows += stretch.count;
-        let moved = turn(doc, pos, rows, doc, used, &numbers, &places, tally.known);
         match moved {
+            Moved::Rows(next, count) => {
+                pos = next;
+                rows += count;
+            }
             Moved::Refused(n, p) => {
                 return RowCount::Refused(n, p);
             }

@@ -4,19 +4,19 @@ use borrow.Author.Needs.{needs}
 use native.Mathlib.Omega.{arith}
 use Prim.Native.Nat.{ℕ, _-_, _≤_}
 use denote.Ref.{now}
-use mathlib.Core.Path.{_≡_, refl, sym, ap, _∙_}
+use mathlib.Core.Path.{_≡_, refl, sym, ap, _∙_, subst}
 use mathlib.Core.List.{List}
 use mir.Syntax.{w64}
 use mir.Facts.{toZ-ofZ}
-use lib.ListN.{length, take}
+use lib.ListN.{length, take, length-replicate}
 use lib.Seq.{length-take-le}
 use Rattle.octets.specs.Limits.{longest}
 use Rattle.octets.specs.Reading.{isOk}
 use Rattle.octets.specs.Writing.{Each, Octet}
 use Rattle.octets.proofs.Spans.{each-octet}
 use Rattle.layouts.specs.Book.{Book, bookIn}
-use Rattle.elements.specs.Walk.{spotAt, turnAt}
-use Rattle.walks.specs.Answers.{movedOf}
+use Rattle.elements.specs.Walk.{spotAt}
+use Rattle.walks.specs.Answers.{GoesOn}
 use Rattle.walks.specs.declared.Gone.{Gone}
 use Rattle.walks.specs.declared.Moved.{Moved}
 use Rattle.shelves.proofs.Marks.{tally-bounds}
@@ -28,16 +28,16 @@ use Rattle.listing.proofs.element_lines.Statement.{statement}
 use Rattle.listing.proofs.element_lines.Tie as tie
 
 abbrev Inv-loop : tie.InvT-loop
-Inv-loop doc at out₀ n book₀ numbers₀ places₀ steps₀ tally₀ pos₀ rows₀ used₀ to₀ out book numbers places steps tally pos rows used to =
-    (length out ≡ length out₀) × Passed doc at out₀ n book numbers places steps tally pos rows used out to
+Inv-loop doc at out₀ n book₀ numbers₀ places₀ steps₀ tally₀ pos₀ rows₀ used₀ to₀ words₀ out book numbers places steps tally pos rows used to words =
+    (length out ≡ length out₀) × Passed doc at out₀ n book numbers places steps tally pos rows used out to × (length words ≡ 1)
 
 abbrev μ-loop : tie.MeasureT-loop
-μ-loop doc at out₀ n book₀ numbers₀ places₀ steps₀ tally₀ pos₀ rows₀ used₀ to₀ out book numbers places steps tally pos rows used to = length doc - pos
+μ-loop doc at out₀ n book₀ numbers₀ places₀ steps₀ tally₀ pos₀ rows₀ used₀ to₀ words₀ out book numbers places steps tally pos rows used to words = length doc - pos
 
 loop-holds : tie.Need-loop-holds Inv-loop μ-loop
 loop-holds c =
     let s = c .before .before .before in
-    (refl, rw (c .nothing .ensures) (passed-start (now (s .args .doc)) (s .args .at) (now (s .args .out)) (s .args .n) (s .pre .0)))
+    (refl, rw (c .nothing .ensures) (passed-start (now (s .args .doc)) (s .args .at) (now (s .args .out)) (s .args .n) (s .pre .0)), length-replicate {A = ℕ} 1 0)
 
 -- A turn by names: the document, and what holds.
 abbrev Turn : Type 0
@@ -67,50 +67,71 @@ module _ (t : Turn) where
   shelf : length (take (t .loop .used) (t .loop .book)) ≡ t .loop .used
   shelf = length-take-le (t .loop .used) (t .loop .book) fits
 
-turn-requires : tie.Need-turn-requires Inv-loop μ-loop
-turn-requires c κs =
-    let t = c .before .before .before in
-    (short t, omega (arith, short t, passed t .few, passed t .inside), omega (arith, shelf t, passed-lent (passed t) .most), record { book = held t; bears = passed-bears (passed t) })
+go-on-requires : tie.Need-go-on-requires Inv-loop μ-loop
+go-on-requires c κs =
+    let t = c .before .before .before .before .before .before in
+    (passed t .inside, short t, omega (arith, short t, passed t .few, passed t .inside), omega (arith, shelf t, passed-lent (passed t) .most), record { book = held t; bears = passed-bears (passed t) })
 
--- What the turn told.
+-- How it went on.
 abbrev Answered : Type 0
-Answered = tie.After-turn Inv-loop μ-loop
+Answered = tie.After-go-on Inv-loop μ-loop
 
 abbrev Of : Answered → Turn
-Of v = v .before .before .before .before
+Of v = v .before .before .before .before .before .before .before
 
-tells : (v : Answered) (x : Moved) → v .turn .result ≡ x → movedOf (turnAt (doc (Of v)) (spotAt (Of v .loop .pos) (Of v .loop .rows) (held (Of v)))) ≡ x
-tells v x e = sym (v .turn .ensures (held (Of v)) (passed-bears (passed (Of v)))) ∙ e
+module _ (v : Answered) where
+  abbrev words : List ℕ
+  words = v .go-on .last .1 .1 .1 .1 .1 .1 .1 .1 .1 .1 .0
+
+  words-long : length words ≡ 1
+  words-long = v .go-on .kept .1 .1 .1 .1 .1 .1 .1 .1 .1 .1 .0 ∙ Of v .loop .inv .2
+
+  abbrev On : Moved → Type 0
+  On x = let t = Of v in GoesOn (doc t) (spotAt (t .loop .pos) (t .loop .rows) (held t)) (t .loop .numbers) (t .loop .tally .known) (t .loop .numbers) 0 (t .loop .words) words x
+
+  went : (x : Moved) → v .go-on .result ≡ x → On x
+  went x e = subst On e (v .go-on .ensures (held (Of v)) (passed-bears (passed (Of v))))
+
+-- Not over a row.
+never : (k : tie.After-known-told Inv-loop μ-loop) → ⊥
+never k = let (some, none) = went (k .before .before .before .before) _ (k .before .moved .given .1) in omega (arith, none .few)
 
 returns : tie.Need-returns Inv-loop μ-loop
-returns c =
-    let line = c .before .before in
-    let v = line .before .before .before .before .before in
-    let t = Of v in
-    passed-refused (passed t) (octets t) (short t) _ _ (tells v _ (line .before .before .before .moved .given .1)) (line .refused-line .ensures)
+returns c = absurd (never c)
 
 returns-2 : tie.Need-returns-2 Inv-loop μ-loop
 returns-2 c =
     let line = c .before .before in
     let told = line .before .before in
-    let v = told .before .before .before in
+    let v = told .before .before .before .before in
     let t = Of v in
-    let exact = toZ-ofZ {w = w64} (record { sfits = told .known-told2 .given .1 .0 .1 }) in
-    passed-end (passed t) (octets t) (short t) _ _ _ (tells v _ (told .before .moved2 .given .1)) (says (ap (endText (t .loop .pos) _) exact) (line .end-line .ensures))
+    passed-refused (passed t) (octets t) (short t) _ _ (sym (went v _ (told .before .moved2 .given .1) .is)) (line .refused-line .ensures)
+
+returns-3 : tie.Need-returns-3 Inv-loop μ-loop
+returns-3 c =
+    let line = c .before .before in
+    let told = line .before .before in
+    let v = told .before .before .before .before in
+    let t = Of v in
+    let exact = toZ-ofZ {w = w64} (record { sfits = told .known-told3 .given .1 .0 .1 }) in
+    passed-end (passed t) (octets t) (short t) _ _ _ (sym (went v _ (told .before .moved3 .given .1) .is)) (says (ap (endText (t .loop .pos) _) exact) (line .end-line .ensures))
 
 -- An item, by names.
 abbrev Item : Type 0
-Item = tie.After-known-told3 Inv-loop μ-loop
+Item = tie.After-known-told4 Inv-loop μ-loop
 
 module _ (m : Item) where
+  abbrev told : Answered
+  told = m .before .before .before .before
+
   abbrev by : Turn
-  by = Of (m .before .before .before)
+  by = Of told
 
   abbrev gone : Gone
-  gone = m .before .moved3 .given .0 .0
+  gone = m .before .moved4 .given .0 .0
 
   goes : Goes (passed by) (octets by) (short by) gone
-  goes = passed-item (passed by) (octets by) (short by) gone (tells (m .before .before .before) _ (m .before .moved3 .given .1))
+  goes = passed-item (passed by) (octets by) (short by) gone (sym (went told _ (m .before .moved4 .given .1) .is))
 
 -- Its line.
 abbrev Lined : Type 0
@@ -152,16 +173,17 @@ loop-again c =
     let put-behind = c .before .before .before .before .before in
     let g = put-behind .before .before in
     let new = grown g in
-    (out-long (lined g), new .on (put (lined g)) (put-behind .grow .kept .1 .1 .1 .0) (put-behind .grow .ensures) (c .keep .ensures (new .layout) _ (new .reads)))
+    (out-long (lined g), new .on (put (lined g)) (put-behind .grow .kept .1 .1 .1 .0) (put-behind .grow .ensures) (c .keep .ensures (new .layout) _ (new .reads)), words-long (told (at (lined g))))
 
 loop-again-2 : tie.Need-loop-again-2 Inv-loop μ-loop
-loop-again-2 c = let line = c .before .before .before .before in (out-long line, goes (at line) .old (c .if1 .left) (put line))
+loop-again-2 c = let line = c .before .before .before .before in (out-long line, goes (at line) .old (c .if1 .left) (put line), words-long (told (at line)))
 
 pub element-lines-spec : {M : Type 1} → statement M
 element-lines-spec =
     tie.close
-    (tie.spec Inv-loop μ-loop (λ c κs. search needs) loop-holds fits (λ c. sym (shelf (c .before))) turn-requires (λ c. search needs) (λ c κs. search needs) (λ c. search needs)
-    returns (λ c. search needs) (λ c κs. search needs) (λ c. search needs) returns-2 (λ c. search needs) (λ c. sym (passed (by (c .before)) .size)) (λ c κs. search needs)
+    (tie.spec Inv-loop μ-loop (λ c κs. search needs) loop-holds fits (λ c. sym (shelf (c .before))) (λ c. sym (c .before .before .before .before .before .before .loop .inv .2)) go-on-requires (λ c. search needs)
+    (λ c. absurd (never c)) returns (λ c. search needs) (λ c κs. search needs) (λ c. search needs) returns-2 (λ c. search needs) (λ c κs. search needs) (λ c. search needs) returns-3 (λ c. search needs)
+    (λ c. sym (passed (by (c .before)) .size)) (λ c κs. search needs)
     (λ c. sym (passed (turn (c .before)) .size)) (λ c κs. let t = turn (c .before) in (short t, passed t .carried .is, grown (c .before) .grows))
     (λ c. let g = c .before .before .before in omega (arith, goes (at (lined g)) .further, short (turn g))) keep-requires
     (λ c. omega (arith, goes (at (lined (c .before .before .before .before .before .before .before))) .further)) loop-again

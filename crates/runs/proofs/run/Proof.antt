@@ -76,7 +76,7 @@ returns c =
     refused k 1 (at k) (step-is (doc k) (rows k) (lent k) (used k) (at k) short is few ∙ element-cut (doc k) (at k) (rows k) (bookIn (lent k) (used k)) (omega (arith, c .if1 .taken)))
 
 items-requires : tie.Need-items-requires
-items-requires c κs = let f = c .before .before in let (short, few, is) = good (f .before) in (f .if1 .left, short, few, is)
+items-requires c κs = let f = c .before .before in let (short, few, is) = good (f .before) in (f .if1 .left, short, few, is, c .items-arg2 .given .0 .1)
 
 returns-2 : tie.Need-returns-2
 returns-2 c =

@@ -2,11 +2,11 @@
 -- Where it is unsure, no row stands there, its number has no plan, or it is refused. Assumes nothing.
 use borrow.Author.Needs.{needs}
 use native.Mathlib.Omega.{arith}
-use Prim.Native.Nat.{ℕ, _+_, _^_, _<_}
+use Prim.Native.Nat.{ℕ, _+_, _^_, _≤_, _<_}
 use denote.Ref.{now}
 use mathlib.Core.Path.{_≡_, sym, ap, _∙_, subst}
 use mathlib.Core.List.{List}
-use lib.ListN.{getD}
+use lib.ListN.{length, getD}
 use Rattle.octets.specs.Reading.{ok, be}
 use Rattle.octets.proofs.Inverse.{ok-value}
 use Rattle.octets.proofs.Ends.{number-ok}
@@ -16,7 +16,8 @@ use Rattle.plans.specs.Plan.{planFor, Begins}
 use Rattle.plans.specs.Answers.{Lasts}
 use Rattle.plans.specs.declared.Passed.{Passed}
 use Rattle.rows.proofs.Named.{row-passed, row-short, row-refused}
-use Rattle.shelves.specs.Kept.{Planned}
+use Rattle.shelves.specs.Kept.{Planned, Indexes}
+use Rattle.shelves.specs.declared.PlanAt.{PlanAt}
 use Rattle.shelves.proofs.Marks.{Marked}
 use Rattle.shelves.proofs.Shelves.{plan-at}
 use Rattle.walks.proofs.quick_row.Statement.{statement}
@@ -33,15 +34,27 @@ returns-2 c = λ book p i h n k.
     let e = number-ok (now (a .doc)) (a .at) 4 (omega (arith, c .before .before .if1 .left)) in
     absurd (c .if2 .taken (c .before .u32-at .ensures ∙ ok-value e k))
 
+-- What is told of the number's index.
+indexes : (v : tie.After-index-of) (y : PlanAt) → v .index-of .result ≡ y
+    → Indexes (now (v .before .before .before .before .before .before .args .numbers)) (v .before .before .before .before .before .before .args .known) (v .before .u32-at2 .result) y
+indexes v y e =
+    let a = v .before .before .before .before .before .before .args in
+    subst (Indexes (now (a .numbers)) (a .known) (v .before .u32-at2 .result)) e (v .index-of .ensures)
+
 returns-3 : tie.Need-returns-3
-returns-3 c = λ book p i h n k. absurd (c .before .index-of .ensures .1 (c .if3 .taken) book (p .numbered) i h (n ∙ sym (c .before .before .u32-at2 .ensures)))
+returns-3 c = λ book p i h n k.
+    let v = c .before .before in
+    absurd (indexes v _ (c .enum-told .given .1) book (p .numbered) i h (n ∙ sym (v .before .u32-at2 .ensures)))
 
 -- The index that was found, by names, and the layout that a book has there.
 abbrev Indexed : Type 0
-Indexed = tie.Else3
+Indexed = tie.After-known-told
+
+abbrev Found : Indexed → tie.After-index-of
+Found x = x .before .before .before
 
 abbrev Start : Indexed → tie.Start
-Start x = x .before .before .before .before .before .before .before
+Start x = Found x .before .before .before .before .before .before
 
 module _ (x : Indexed) where
   abbrev doc : List ℕ
@@ -57,21 +70,24 @@ module _ (x : Indexed) where
   steps = now (Start x .args .steps)
 
   abbrev I : ℕ
-  I = x .before .index-of .result
+  I = x .before .plan .given .0 .0
 
-  below : I < Start x .args .known
-  below = omega (arith, x .if3 .left)
+  found : (I < Start x .args .known) × (getD numbers I 0 ≡ be 4 doc (at + 4))
+  found = let (below, is) = indexes (Found x) _ (x .before .plan .given .1) in (below, is ∙ Found x .before .u32-at2 .ensures)
 
-  is-number : getD numbers I 0 ≡ be 4 doc (at + 4)
-  is-number = x .before .index-of .ensures .0 below ∙ x .before .before .u32-at2 .ensures
+  room : at + 12 ≤ length doc
+  room = omega (arith, Found x .before .before .before .before .if1 .left)
 
   small : be 4 doc (at + 4) < 2 ^ 32
   small =
-      let slice = x .before .before .before .before .before .before in
-      omega (arith, word-be 4 doc (at + 4) (each-octet doc (slice .shared-slice-known .given)) (omega (arith, x .before .before .before .before .before .if1 .left)) .0)
+      let slice = Found x .before .before .before .before .before in
+      omega (arith, word-be 4 doc (at + 4) (each-octet doc (slice .shared-slice-known .given)) (omega (arith, room)) .0)
 
   has-plan : (book : Book) → Planned numbers steps (Start x .args .known) book → Marked steps 0 book (be 4 doc (at + 4)) I
-  has-plan book p = plan-at numbers steps (Start x .args .known) book p I (be 4 doc (at + 4)) below small is-number
+  has-plan book p = plan-at numbers steps (Start x .args .known) book p I (be 4 doc (at + 4)) (found .0) small (found .1)
+
+  few : I < 64
+  few = let k = Start x .pre .3 .planned .numbered in omega (arith, found .0, k .count, k .good .few)
 
 -- Where its plan stands.
 abbrev Stepped : Type 0
@@ -88,9 +104,9 @@ stands-here w m =
 values-to-requires : tie.Need-values-to-requires
 values-to-requires c κs =
     let x = Of c in
-    let p = Start x .pre .2 in
+    let p = Start x .pre .3 in
     let m = has-plan x (p .book) (p .planned) in
-    (omega (arith, x .before .before .before .before .before .if1 .left), Start x .pre .1, record { long = p .planned .long; attributes = m .layout .attributes; stands = stands-here c m })
+    (omega (arith, room x), Start x .pre .1, record { long = p .planned .long; attributes = m .layout .attributes; stands = stands-here c m })
 
 -- The values that were passed.
 lasts : (v : tie.After-values-to) (y : Passed) → v .values-to .result ≡ y → Lasts (doc (Of (v .before))) (at (Of (v .before)) + 8) (steps (Of (v .before))) (v .before .wide .result) y
@@ -101,23 +117,22 @@ returns-4 c = λ book p i h n k.
     let v = c .before .before in
     let x = Of (v .before) in
     let m = has-plan x book p in
-    row-refused (doc x) (at x + 4) (at x + 8) book (omega arith) (m .layout) (omega (arith, x .before .before .before .before .before .if1 .left)) (m .found)
-    (lasts v _ (c .enum-told .given .1) (m .layout .attributes) (stands-here (v .before) m))
+    row-refused (doc x) (at x + 4) (at x + 8) book (omega arith) (m .layout) (omega (arith, room x)) (m .found)
+    (lasts v _ (c .enum-told2 .given .1) (m .layout .attributes) (stands-here (v .before) m))
 
 returns-5 : tie.Need-returns-5
 returns-5 c = λ book p.
     let v = c .before .before .before in
     let x = Of (v .before) in
     let m = has-plan x book p in
-    let u = x .before .before .before .before in
-    let room = u .before .if1 .left in
+    let u = Found x .before .before .before in
     let values = lasts v _ (c .before .passed .given .1) (m .layout .attributes) (stands-here (v .before) m) in
-    let r = row-passed (doc x) (at x + 4) (at x + 8) _ book (m .layout) (omega arith) (omega arith) (m .found) values in
+    let r = row-passed (doc x) (at x + 4) (at x + 8) _ book (m .layout) (omega arith) (omega (arith, room x)) (m .found) values in
     record {
-      below = below x;
-      plan = is-number x;
+      below = found x .0;
+      plan = found x .1;
       index = m .index;
-      kind = number-ok (doc x) (at x) 4 (omega arith) ∙ ap (λ (n : ℕ). ok n (at x + 4)) (sym (u .u32-at .ensures) ∙ x .before .before .before .if2 .left);
+      kind = number-ok (doc x) (at x) 4 (omega (arith, room x)) ∙ ap (λ (n : ℕ). ok n (at x + 4)) (sym (u .u32-at .ensures) ∙ Found x .before .before .if2 .left);
       row = r .0;
       reads = r .1;
     }
@@ -125,6 +140,5 @@ returns-5 c = λ book p.
 pub quick-row-spec : {M : Type 1} → statement M
 quick-row-spec =
     tie.close
-    (tie.spec (λ c. search needs) returns (λ c κs. search needs) returns-2 (λ c. search needs) (λ c κs. search needs)
-    (λ c κs. search needs) returns-3 (λ c. search needs) (λ c. search needs) (λ c. search needs) (λ c κs. search needs) values-to-requires (λ c. search needs) (λ c. search needs)
-    returns-4 returns-5)
+    (tie.spec (λ c. search needs) returns (λ c κs. search needs) returns-2 (λ c. search needs) (λ c κs. search needs) (λ c κs. search needs) (λ c. search needs) (λ c. search needs)
+    (λ c. search needs) (λ c. omega (arith, few c)) (λ c. omega (arith, few c)) (λ c κs. search needs) values-to-requires (λ c. search needs) (λ c. search needs) returns-3 returns-4 returns-5)
