@@ -175,7 +175,7 @@ fn are_layouts(s: &[u8]) -> bool
     requires { ⌜ length (now s) ≤ longest ⌝ }
     ensures { λ r. ⌜ r ≡ isOk (layoutsAt mostLayouts [] (now (s .entry)) 0) ⌝ }
 {
-    let mut met = [0u32; 64];
+    let mut met = [0u32; octets::MOST_LAYOUTS];
     let mut pos = 0;
     let mut k: usize = 0;
     while pos < s.len() {

@@ -26,12 +26,12 @@ use Rattle.elements.proofs.Turns.{Took, took-at, turn-rows}
 use Rattle.elements.proofs.Walks.{path-join, path-one}
 use Rattle.elements.proofs.Through.{through-path, through-stops}
 use Rattle.elements.proofs.Readings.{placed-append, elements-behind}
-use Rattle.shelves.specs.Kept.{nothing, Keeps}
+use Rattle.walks.specs.Kept.{nothing, Keeps}
 use Rattle.walks.specs.Answers.{goneOf, movedOf, Bears}
-use Rattle.shelves.specs.declared.Tally.{Tally}
+use Rattle.walks.specs.declared.Tally.{Tally}
 use Rattle.walks.specs.declared.Gone.{Gone}
 use Rattle.walks.specs.declared.Moved.the-variants as moved
-use Rattle.shelves.proofs.Keeping.{kept-none}
+use Rattle.walks.proofs.Keeping.{kept-none}
 use Rattle.walks.proofs.Moves.{item-spot, item-moves, item-left}
 use Rattle.walks.proofs.Ways.{moved-item, moved-end, moved-refused}
 use Rattle.walks.proofs.Lents.{Carried, carried-lent, carried-bears, carried-old, carried-grows, carried-newly, carried-new}

@@ -16,11 +16,11 @@ fn element_lines<'d, 'o>(doc: &'d [u8], at: usize, out: &'o mut [u8], n: usize) 
     requires { ⌜ (at ≤ length (now doc)) × (length (now doc) ≤ longest) ⌝ }
     ensures { λ r. ⌜ Prints (now (out .entry)) n (linesOf (through (now (doc .entry)) (spotAt at 0 []))) (now (out .exit)) r ⌝ }
 {
-    let mut book = [0u8; 32768];
-    let mut numbers = [0u64; 64];
-    let mut places = [0u32; 64];
+    let mut book = [0u8; octets::BOOK_ROOM];
+    let mut numbers = [0u64; octets::MOST_LAYOUTS];
+    let mut places = [0u32; octets::MOST_LAYOUTS];
     let mut steps = [0u16; 1216];
-    let mut tally = shelves::nothing();
+    let mut tally = walks::nothing();
     let mut pos = at;
     let mut rows: usize = 0;
     let mut used: usize = 0;
@@ -57,7 +57,7 @@ fn element_lines<'d, 'o>(doc: &'d [u8], at: usize, out: &'o mut [u8], n: usize) 
                 to = lines::element_line(doc, pos, rows, &book, used, met, out, to);
                 if used < gone.used {
                     elements::grow(doc, pos, gone.next, &mut book, used);
-                    tally = shelves::keep(
+                    tally = walks::keep(
                         doc,
                         pos + 4,
                         used,

@@ -1,6 +1,6 @@
 // Plans: a layout's values as steps made once, so that a row's values are passed without its layout's octets.
 // A step is four times the octets of numbers that stand side by side; one or two more where octets behind a length or a boolean close it. The last step of a plan is a multiple of four.
-// A plan is defined in specs/Plan.antt; what it must agree with is rows Row, and where plans are kept is shelves.
+// A plan is defined in specs/Plan.antt; what it must agree with is rows Row, and where plans are kept is walks.
 
 ghost use mathlib.Core.Path.{_≡_};
 ghost use mathlib.Core.List.{List};

@@ -70,10 +70,10 @@ fn items<'d, 'b, 'w>(
     requires { ⌜ (at ≤ length (now doc)) × (length (now doc) ≤ longest) × (rows ≤ mostRows) × IsBook (now book) used × (length (now words) ≡ 4096) ⌝ }
     ensures { λ r. ⌜ Ran (now (book .entry)) (now (words .entry)) (runAsked (now (doc .entry)) (lentAt at rows (now (book .entry)) used)) (now (book .exit)) (now (words .exit)) r ⌝ }
 {
-    let mut numbers = [0u64; 64];
-    let mut places = [0u32; 64];
+    let mut numbers = [0u64; octets::MOST_LAYOUTS];
+    let mut places = [0u32; octets::MOST_LAYOUTS];
     let mut steps = [0u16; 1216];
-    let mut tally = shelves::index(&book[..used], &mut numbers, &mut places, &mut steps);
+    let mut tally = walks::index(&book[..used], &mut numbers, &mut places, &mut steps);
     let mut pos = at;
     let mut passed = rows;
     let mut filled = used;
@@ -133,7 +133,7 @@ fn items<'d, 'b, 'w>(
                 n += 1;
                 if filled < gone.used {
                     elements::grow(doc, pos, gone.next, book, filled);
-                    tally = shelves::keep(
+                    tally = walks::keep(
                         doc,
                         pos + 4,
                         filled,

@@ -19,10 +19,10 @@ use Rattle.elements.specs.Answers.{Grows}
 use Rattle.elements.specs.Walk.{Seen, goes, Spot, spotAt, turnAt}
 use Rattle.elements.proofs.Behind.{holding-octets, holding-book}
 use Rattle.elements.proofs.Told.{holding-same}
-use Rattle.shelves.specs.Kept.{Kept, Keeps, Image}
-use Rattle.shelves.specs.declared.Tally.{Tally}
+use Rattle.walks.specs.Kept.{Kept, Keeps, Image}
+use Rattle.walks.specs.declared.Tally.{Tally}
 use Rattle.walks.specs.Answers.{Bears}
-use Rattle.shelves.proofs.Keeping.{kept-more, kept-extends}
+use Rattle.walks.proofs.Keeping.{kept-more, kept-extends}
 use Rattle.walks.proofs.Moves.{Newly, item-old, item-grows, item-newly}
 
 -- The used octets are the image of the book.

@@ -1,3 +1,7 @@
+pub mod Marks
+pub mod Keeping
+pub mod Indexing
+pub mod Shelves
 pub mod Rows
 pub mod Moves
 pub mod Ways

@@ -16,7 +16,7 @@ use Rattle.elements.proofs.Behind.{few-rows}
 use Rattle.elements.proofs.Turns.{TookRow, took-row}
 use Rattle.elements.proofs.Through.{rows-few, path-rows}
 use Rattle.elements.proofs.Growth.{turn-in-book}
-use Rattle.shelves.specs.Kept.{Numbered}
+use Rattle.walks.specs.Kept.{Numbered}
 use Rattle.walks.specs.Rows.{wordsBy, laid, Refuses, HasPlan, Strides}
 use Rattle.walks.specs.Answers.{ByTurn, GoesOn}
 use Rattle.walks.specs.declared.Moved.{Moved}

@@ -14,13 +14,13 @@ use Rattle.layouts.specs.Book.{Book, bookImage, GoodBook}
 use Rattle.elements.specs.Walk.{ended, refused, Seen, Turn, goes, stops, Path, Spot, spotAt, turnAt}
 use Rattle.elements.proofs.Walks.{path-join, path-one}
 use Rattle.elements.proofs.Through.{rows-few, path-rows, path-moves}
-use Rattle.shelves.specs.Kept.{Kept, Keeps}
+use Rattle.walks.specs.Kept.{Kept, Keeps}
 use Rattle.walks.specs.Rows.{Strides}
 use Rattle.walks.specs.Answers.{goneOf, movedOf, Bears}
-use Rattle.shelves.specs.declared.Tally.{Tally}
+use Rattle.walks.specs.declared.Tally.{Tally}
 use Rattle.walks.specs.declared.Gone.{Gone}
 use Rattle.walks.specs.declared.Moved.the-variants as moved
-use Rattle.shelves.proofs.Keeping.{kept-more}
+use Rattle.walks.proofs.Keeping.{kept-more}
 use Rattle.walks.proofs.Moves.{Newly, item-spot, item-moves, item-old, item-newly}
 
 -- The turn that an answer tells of.

@@ -12,7 +12,7 @@ use Rattle.elements.specs.declared.Met.{Met}
 use Rattle.elements.specs.declared.Met.the-variants as met
 use Rattle.elements.specs.declared.Step.{Step}
 use Rattle.elements.specs.Walk.{ended, refused, Seen, Turn, goes, stops, Spot, turnAt}
-use Rattle.shelves.specs.Kept.{Shelved, Planned}
+use Rattle.walks.specs.Kept.{Shelved, Planned}
 use Rattle.walks.specs.Rows.{Refuses, Strides}
 use Rattle.walks.specs.declared.Gone.{Gone}
 use Rattle.walks.specs.declared.Moved.{Moved}

@@ -1,21 +1,167 @@
-// Walking through elements: how a walk goes on, by a stretch of rows or by one element, over the layouts that crate shelves keeps. The definition is Walk, in crate elements.
+// Walking through elements: what is kept of a book's layouts while rows are read, and how a walk goes on, by a stretch of rows or by one element.
+// The definition of going through elements is Walk, in crate elements; of what is kept, Kept, here. Of the i-th layout of the book its number is in numbers[i], with 2^32 added where it has no plan; its place in places[i]; and where its plan stands in steps[i]. Plans stand behind the first 64 steps, one behind another.
 
 ghost use mathlib.Core.Path.{_≡_};
-ghost use mathlib.Core.List.{[]};
-ghost use Prim.Native.Nat.{ℕ, _≤_, _<_};
+ghost use mathlib.Core.List.{[], List};
+ghost use Prim.Native.Nat.{ℕ, _≤_, _<_, _+_, _*_};
 ghost use lib.ListN.{length, set};
-ghost use Rattle.octets.specs.Limits.{longest, mostRows};
-ghost use Rattle.layouts.specs.Book.{Book};
+ghost use Rattle.octets.specs.Limits.{longest, mostRows, mostLayouts};
+ghost use Rattle.layouts.specs.Book.{Book, position};
 ghost use Rattle.elements.specs.Walk.{spotAt, through};
 ghost use Rattle.elements.specs.Reading.{rowsRead};
-ghost use Rattle.shelves.specs.Kept.{Planned, Plans};
+ghost use Rattle.walks.specs.Kept.{Planned, Plans, nothing, Numbered, Shelved, Kept, Indexes, Keeps, Image, Images};
 ghost use Rattle.walks.specs.Rows.{rowWord, Tried, Strides};
 ghost use Rattle.walks.specs.Answers.{stepMoved, Bears, Borne, GoesOn, countSays};
+ghost use mathlib.Core.Bool.{true};
+ghost use Rattle.octets.specs.Reading.{ok, isOk};
+ghost use Rattle.layouts.specs.Layout.{Layout, layoutAt};
+ghost use Rattle.layouts.specs.Answers.{Looks};
 use elements::Met;
 use elements::Step;
 use elements::Stepping;
+use layouts::Looked;
 use plans::Passed;
-use shelves::PlanAt;
+use plans::Put;
+
+// How many layouts are kept, and the index behind the last plan.
+pub struct Tally {
+    pub known: usize,
+    pub filled: usize,
+}
+
+// The index of a layout that has a plan, if the number asked for is that of one.
+pub enum PlanAt {
+    Index(usize),
+    None,
+}
+
+fn place_of(x: u32) -> usize
+    ensures { λ r. ⌜ r ≡ x ⌝ }
+{
+    x as usize
+}
+
+// Before any layout is kept: plans are put behind the steps that say where they stand.
+pub fn nothing() -> Tally
+    ensures { λ r. ⌜ r ≡ nothing ⌝ }
+{
+    Tally {
+        known: 0,
+        filled: 64,
+    }
+}
+
+// The position of a number in the book whose layouts are known by their numbers, with a plan or without.
+pub fn position_of(numbers: &[u64; octets::MOST_LAYOUTS], known: usize, number: u32) -> usize
+    requires { ⌜ known ≤ mostLayouts ⌝ }
+    ensures { λ r. ⌜ ((book : Book) → Numbered (now (numbers .entry)) known book → r ≡ position number book) ⌝ }
+{
+    let mut i = 0;
+    while i < known {
+        if numbers[i] % 4294967296 == number as u64 {
+            return i;
+        }
+        i += 1;
+    }
+    known
+}
+
+// The index of a number that has a plan: the index that was last, or the one behind it, or the number's position.
+pub fn index_of(
+    numbers: &[u64; octets::MOST_LAYOUTS],
+    known: usize,
+    last: usize,
+    number: u32,
+) -> PlanAt
+    requires { ⌜ (known ≤ mostLayouts) × (last < known) ⌝ }
+    ensures { λ r. ⌜ Indexes (now (numbers .entry)) known number r ⌝ }
+{
+    let title = number as u64;
+    if numbers[last] == title {
+        return PlanAt::Index(last);
+    }
+    if last + 1 < known {
+        if numbers[last + 1] == title {
+            return PlanAt::Index(last + 1);
+        }
+    }
+    let i = position_of(numbers, known, number);
+    if i < known {
+        if numbers[i] == title {
+            return PlanAt::Index(i);
+        }
+    }
+    PlanAt::None
+}
+
+// Keeps a layout that stands at a place of the document behind those known: its number, a place at which it is found, and its plan if there is room for it that leaves eight steps to each layout that may follow.
+pub fn keep<'d, 'n, 'l, 'p>(
+    doc: &'d [u8],
+    at: usize,
+    place: usize,
+    numbers: &'n mut [u64; octets::MOST_LAYOUTS],
+    places: &'l mut [u32; octets::MOST_LAYOUTS],
+    steps: &'p mut [u16; 1216],
+    tally: Tally,
+) -> Tally
+    requires { ⌜ (length (now doc) ≤ longest) × (isOk (layoutAt (now doc) at) ≡ true) × (length (now steps) ≡ 1216) × (tally .known < mostLayouts) × (64 ≤ tally .filled) × (tally .filled ≤ 704 + tally .known * 8) × (place < 4294967296) ⌝ }
+    ensures { λ r. ⌜ ((l : Layout) (end : ℕ) → layoutAt (now (doc .entry)) at ≡ ok l end → Keeps l place (now (numbers .entry)) (now (places .entry)) (now (steps .entry)) tally (now (numbers .exit)) (now (places .exit)) (now (steps .exit)) r) ⌝ }
+{
+    let known = tally.known;
+    let filled = tally.filled;
+    let number = layouts::layout_number(doc, at) as u64;
+    let counted = layouts::attributes_at(doc, at);
+    let count = octets::u32_at(doc, counted);
+    places[known] = place as u32;
+    let put = plans::put_plan(doc, counted + 4, count, steps, filled, 712 + known * 8);
+    match put {
+        Put::Full => {
+            numbers[known] = number + 4294967296;
+            Tally {
+                known: known + 1,
+                filled,
+            }
+        }
+        Put::To(end) => {
+            numbers[known] = number;
+            steps[known] = filled as u16;
+            Tally {
+                known: known + 1,
+                filled: end,
+            }
+        }
+    }
+}
+
+// Keeps all layouts of a book by their places in its octets.
+pub fn index<'s, 'n, 'l, 'p>(
+    s: &'s [u8],
+    numbers: &'n mut [u64; octets::MOST_LAYOUTS],
+    places: &'l mut [u32; octets::MOST_LAYOUTS],
+    steps: &'p mut [u16; 1216],
+) -> Tally
+    requires { ⌜ (length (now s) ≤ longest) × (length (now numbers) ≡ 64) × (length (now places) ≡ 64) × (length (now steps) ≡ 1216) × Images (now s) ⌝ }
+    ensures { λ r. ⌜ ((book : Book) → Image (now (s .entry)) book → Kept (now (s .entry)) (now (numbers .exit)) (now (places .exit)) (now (steps .exit)) r book) ⌝ }
+{
+    let mut pos = 0;
+    let mut tally = nothing();
+    while pos < s.len() {
+        tally = keep(s, pos, pos, numbers, places, steps, tally);
+        pos = layouts::layout_skip(s, pos);
+    }
+    tally
+}
+
+// Where a layout stands by its position.
+pub fn looked_at(places: &[u32; octets::MOST_LAYOUTS], known: usize, i: usize) -> Looked
+    requires { ⌜ known ≤ mostLayouts ⌝ }
+    ensures { λ r. ⌜ ((shelf numbers : List ℕ) (number : ℕ) (book : Book) → Numbered numbers known book → Shelved shelf (now (places .entry)) known book → i ≡ position number book → Looks shelf number book r) ⌝ }
+{
+    if known <= i {
+        return Looked::Missing(known);
+    }
+    Looked::There(place_of(places[i]))
+}
 
 // The place behind a row and its layout's position, or that the exact reader is to be asked.
 pub enum Quick {
@@ -56,7 +202,7 @@ pub enum RowCount {
 fn quick_row<'d, 'n, 'p>(
     doc: &'d [u8],
     at: usize,
-    numbers: &'n [u64; 64],
+    numbers: &'n [u64; octets::MOST_LAYOUTS],
     steps: &'p [u16; 1216],
     known: usize,
     last: usize,
@@ -70,7 +216,7 @@ fn quick_row<'d, 'n, 'p>(
     if octets::u32_at(doc, at) != 2 {
         return Quick::Unsure;
     }
-    let plan = shelves::index_of(numbers, known, last, octets::u32_at(doc, at + 4));
+    let plan = index_of(numbers, known, last, octets::u32_at(doc, at + 4));
     match plan {
         PlanAt::None => Quick::Unsure,
         PlanAt::Index(i) => {
@@ -114,10 +260,10 @@ fn put_word(words: &mut [u64], n: usize, word: u64)
 fn rows_on<'d, 'n, 'p, 'k, 'w>(
     doc: &'d [u8],
     at: usize,
-    numbers: &'n [u64; 64],
+    numbers: &'n [u64; octets::MOST_LAYOUTS],
     steps: &'p [u16; 1216],
     known: usize,
-    labels: &'k [u64; 64],
+    labels: &'k [u64; octets::MOST_LAYOUTS],
     words: &'w mut [u64],
     most: usize,
 ) -> Stretch
@@ -190,11 +336,11 @@ pub fn go_on<'d, 's, 'n, 'l, 'p, 'k, 'w>(
     rows: usize,
     shelf: &'s [u8],
     used: usize,
-    numbers: &'n [u64; 64],
-    places: &'l [u32; 64],
+    numbers: &'n [u64; octets::MOST_LAYOUTS],
+    places: &'l [u32; octets::MOST_LAYOUTS],
     steps: &'p [u16; 1216],
     known: usize,
-    labels: &'k [u64; 64],
+    labels: &'k [u64; octets::MOST_LAYOUTS],
     words: &'w mut [u64],
     most: usize,
 ) -> Moved
@@ -207,8 +353,8 @@ pub fn go_on<'d, 's, 'n, 'l, 'p, 'k, 'w>(
         return Moved::Rows(stretch.next, stretch.count);
     }
     let here = stretch.next;
-    let position = shelves::position_of(numbers, known, elements::number_behind(doc, here));
-    let looked = shelves::looked_at(places, known, position);
+    let position = position_of(numbers, known, elements::number_behind(doc, here));
+    let looked = looked_at(places, known, position);
     let one = elements::element_over(doc, here, rows, shelf, looked, used);
     match one {
         Stepping::Refused(n, p) => Moved::Refused(n, p),
@@ -221,10 +367,10 @@ pub fn rows_from(doc: &[u8], at: usize) -> RowCount
     requires { ⌜ (at ≤ length (now doc)) × (length (now doc) ≤ longest) ⌝ }
     ensures { λ r. ⌜ countSays r ≡ rowsRead (through (now (doc .entry)) (spotAt at 0 [])) ⌝ }
 {
-    let mut numbers = [0u64; 64];
-    let mut places = [0u32; 64];
+    let mut numbers = [0u64; octets::MOST_LAYOUTS];
+    let mut places = [0u32; octets::MOST_LAYOUTS];
     let mut steps = [0u16; 1216];
-    let mut tally = shelves::nothing();
+    let mut tally = nothing();
     let mut pos = at;
     let mut rows: usize = 0;
     let mut used: usize = 0;
@@ -258,7 +404,7 @@ pub fn rows_from(doc: &[u8], at: usize) -> RowCount
             Moved::Item(gone) => {
                 if used < gone.used {
                     let here = pos + 4;
-                    tally = shelves::keep(
+                    tally = keep(
                         doc,
                         here,
                         here,

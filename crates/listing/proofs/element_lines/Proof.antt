@@ -19,7 +19,7 @@ use Rattle.elements.specs.Walk.{spotAt}
 use Rattle.walks.specs.Answers.{GoesOn}
 use Rattle.walks.specs.declared.Gone.{Gone}
 use Rattle.walks.specs.declared.Moved.{Moved}
-use Rattle.shelves.proofs.Marks.{tally-bounds}
+use Rattle.walks.proofs.Marks.{tally-bounds}
 use Rattle.printing.specs.Text.{Prints}
 use Rattle.printing.proofs.Puts.{says}
 use Rattle.lines.specs.Lines.{endText, elementText}

@@ -29,11 +29,11 @@ use Rattle.elements.proofs.Turns.{turn-rows}
 use Rattle.elements.proofs.Through.{path-rows}
 use Rattle.walks.specs.Rows.{laid}
 use Rattle.walks.specs.Answers.{goneOf, Bears, GoesOn}
-use Rattle.shelves.specs.declared.Tally.{Tally}
+use Rattle.walks.specs.declared.Tally.{Tally}
 use Rattle.walks.specs.declared.Gone.{Gone}
 use Rattle.walks.specs.declared.Moved.{Moved}
 use Rattle.walks.specs.declared.Moved.the-variants as moved
-use Rattle.shelves.proofs.Marks.{tally-bounds}
+use Rattle.walks.proofs.Marks.{tally-bounds}
 use Rattle.walks.proofs.Moves.{Newly, item-moves, item-left}
 use Rattle.walks.proofs.Ways.{moved-item, moved-end, moved-refused}
 use Rattle.walks.proofs.Lents.{lent-image, Carried, carried-bears, carried-old, carried-grows, carried-newly, carried-new}

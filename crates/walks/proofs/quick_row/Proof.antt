@@ -16,10 +16,10 @@ use Rattle.plans.specs.Plan.{planFor, Begins}
 use Rattle.plans.specs.Answers.{Lasts}
 use Rattle.plans.specs.declared.Passed.{Passed}
 use Rattle.rows.proofs.Named.{row-passed, row-short, row-refused}
-use Rattle.shelves.specs.Kept.{Planned, Indexes}
-use Rattle.shelves.specs.declared.PlanAt.{PlanAt}
-use Rattle.shelves.proofs.Marks.{Marked}
-use Rattle.shelves.proofs.Shelves.{plan-at}
+use Rattle.walks.specs.Kept.{Planned, Indexes}
+use Rattle.walks.specs.declared.PlanAt.{PlanAt}
+use Rattle.walks.proofs.Marks.{Marked}
+use Rattle.walks.proofs.Shelves.{plan-at}
 use Rattle.walks.proofs.quick_row.Statement.{statement}
 use Rattle.walks.proofs.quick_row.Tie as tie
 

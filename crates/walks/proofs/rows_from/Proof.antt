@@ -17,14 +17,14 @@ use Rattle.layouts.proofs.Books.{image-nil}
 use Rattle.elements.specs.Reading.{rowsRead}
 use Rattle.elements.specs.Walk.{Stop, Seen, goes, stops, standing, behind, Spot, spotAt, turnAt, through}
 use Rattle.elements.proofs.Through.{through-stops, through-path}
-use Rattle.shelves.specs.Kept.{nothing}
+use Rattle.walks.specs.Kept.{nothing}
 use Rattle.walks.specs.Rows.{Strides}
 use Rattle.walks.specs.Answers.{goneOf, GoesOn}
-use Rattle.shelves.specs.declared.Tally.{Tally}
+use Rattle.walks.specs.declared.Tally.{Tally}
 use Rattle.walks.specs.declared.Gone.{Gone}
 use Rattle.walks.specs.declared.Moved.{Moved}
-use Rattle.shelves.proofs.Marks.{tally-bounds}
-use Rattle.shelves.proofs.Keeping.{kept-none}
+use Rattle.walks.proofs.Marks.{tally-bounds}
+use Rattle.walks.proofs.Keeping.{kept-none}
 use Rattle.walks.proofs.Moves.{Newly, item-moves}
 use Rattle.walks.proofs.Ways.{OnWay, way-start, way-bears, way-few, way-rows, way-old, way-newly, way-new, moved-item, moved-end, moved-refused}
 use Rattle.walks.proofs.rows_from.Statement.{statement}

@@ -13,7 +13,7 @@ use Rattle.octets.proofs.Spans.{each-octet}
 use Rattle.layouts.specs.Book.{Book}
 use Rattle.rows.proofs.Named.{row-says, row-inside}
 use Rattle.elements.specs.Walk.{spotAt}
-use Rattle.shelves.specs.Kept.{Planned}
+use Rattle.walks.specs.Kept.{Planned}
 use Rattle.walks.specs.Rows.{rowWord, Passes, Tried, Passage}
 use Rattle.walks.specs.declared.Quick.{Quick}
 use Rattle.walks.specs.declared.Quick.the-variants as quick

@@ -16,10 +16,10 @@ use Rattle.layouts.proofs.Books.{image-nil, image-cons, image-append}
 use Rattle.layouts.proofs.Finding.{distinct-mid}
 use Rattle.layouts.proofs.Growing.{good-snoc}
 use Rattle.octets.proofs.Ends.{one-end}
-use Rattle.shelves.specs.Kept.{nothing, Kept, Keeps, Image}
-use Rattle.shelves.specs.declared.Tally.{Tally}
-use Rattle.shelves.proofs.Marks.{tally-bounds}
-use Rattle.shelves.proofs.Keeping.{kept-none, kept-more}
+use Rattle.walks.specs.Kept.{nothing, Kept, Keeps, Image}
+use Rattle.walks.specs.declared.Tally.{Tally}
+use Rattle.walks.proofs.Marks.{tally-bounds}
+use Rattle.walks.proofs.Keeping.{kept-none, kept-more}
 
 pub record Met (s numbers places steps : List ℕ) (pos : ℕ) (t : Tally) (book : Book) : Type 0 where
   pub met : Book

@@ -1,13 +1,13 @@
--- `shelves::looked_at` meets its contract: the layout of a position stands at its place, and behind all there is none. Assumes nothing.
+-- `walks::looked_at` meets its contract: the layout of a position stands at its place, and behind all there is none. Assumes nothing.
 use borrow.Author.Needs.{needs}
 use native.Mathlib.Omega.{arith}
 use Prim.Native.Nat.{ℕ}
 use denote.Ref.{now}
 use mathlib.Core.Path.{sym, subst}
 use Rattle.layouts.specs.Answers.{StandsFor}
-use Rattle.shelves.proofs.Shelves.{shelf-at, shelf-none}
-use Rattle.shelves.proofs.looked_at.Statement.{statement}
-use Rattle.shelves.proofs.looked_at.Tie as tie
+use Rattle.walks.proofs.Shelves.{shelf-at, shelf-none}
+use Rattle.walks.proofs.looked_at.Statement.{statement}
+use Rattle.walks.proofs.looked_at.Tie as tie
 
 returns : tie.Need-returns
 returns c = λ shelf numbers number book k h is. (shelf-none number book (omega (arith, k .count, c .if1 .taken)), k .count)

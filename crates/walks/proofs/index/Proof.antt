@@ -1,4 +1,4 @@
--- `shelves::index` meets its contract. The invariant: of every such book the layouts met are kept, and those left stand from here on.
+-- `walks::index` meets its contract. The invariant: of every such book the layouts met are kept, and those left stand from here on.
 -- The measure is what is left of the octets. Assumes nothing.
 use borrow.Author.Needs.{needs}
 use native.Mathlib.Omega.{arith}
@@ -8,11 +8,11 @@ use mathlib.Core.Path.{sym, subst}
 use mathlib.Core.List.{List}
 use lib.ListN.{length}
 use Rattle.layouts.specs.Book.{Book}
-use Rattle.shelves.specs.Kept.{Image}
-use Rattle.shelves.specs.declared.Tally.{Tally}
-use Rattle.shelves.proofs.Indexing.{Met, Here, met-none, met-here, met-all}
-use Rattle.shelves.proofs.index.Statement.{statement}
-use Rattle.shelves.proofs.index.Tie as tie
+use Rattle.walks.specs.Kept.{Image}
+use Rattle.walks.specs.declared.Tally.{Tally}
+use Rattle.walks.proofs.Indexing.{Met, Here, met-none, met-here, met-all}
+use Rattle.walks.proofs.index.Statement.{statement}
+use Rattle.walks.proofs.index.Tie as tie
 
 abbrev Inv-loop : tie.InvT-loop
 Inv-loop s numbers₀ places₀ steps₀ pos₀ tally₀ numbers places steps pos tally = (book : Book) → Image s book → Met s numbers places steps pos tally book

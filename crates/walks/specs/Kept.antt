@@ -10,9 +10,9 @@ use Rattle.octets.specs.Reading.{Read, ok, no, choose}
 use Rattle.layouts.specs.Layout.{Layout, layoutAt}
 use Rattle.layouts.specs.Book.{Book, bookImage, GoodBook}
 use Rattle.plans.specs.Plan.{planFor, Begins}
-use Rattle.shelves.specs.declared.Tally.{Tally}
-use Rattle.shelves.specs.declared.PlanAt.{PlanAt}
-use Rattle.shelves.specs.declared.PlanAt.the-variants as plan-at
+use Rattle.walks.specs.declared.Tally.{Tally}
+use Rattle.walks.specs.declared.PlanAt.{PlanAt}
+use Rattle.walks.specs.declared.PlanAt.the-variants as plan-at
 
 -- Before any layout: the first 64 steps say where plans stand, and plans are put behind them.
 abbrev pub nothing : Tally

@@ -1,4 +1,4 @@
--- `shelves::keep` meets its contract: the plan of the layout's attributes is put behind the others, which stay, where there is room for it. Assumes nothing.
+-- `walks::keep` meets its contract: the plan of the layout's attributes is put behind the others, which stay, where there is room for it. Assumes nothing.
 use borrow.Author.Needs.{needs}
 use native.Mathlib.Omega.{arith}
 use Prim.Native.Nat.{ℕ, _+_, _*_}
@@ -15,10 +15,10 @@ use Rattle.layouts.proofs.Parts.{layout-fields}
 use Rattle.plans.specs.Plan.{planFor}
 use Rattle.plans.specs.Answers.{Puts}
 use Rattle.plans.specs.declared.Put.{Put}
-use Rattle.shelves.specs.Kept.{holds}
-use Rattle.shelves.proofs.Keeping.{plans-full, plans-put}
-use Rattle.shelves.proofs.keep.Statement.{statement}
-use Rattle.shelves.proofs.keep.Tie as tie
+use Rattle.walks.specs.Kept.{holds}
+use Rattle.walks.proofs.Keeping.{plans-full, plans-put}
+use Rattle.walks.proofs.keep.Statement.{statement}
+use Rattle.walks.proofs.keep.Tie as tie
 
 -- The count that was read is that of the attributes behind it.
 abbrev Counted : Type 0

@@ -1,12 +1,12 @@
--- `shelves::position_of` meets its contract. The invariant: none of the numbers passed is this one. Assumes nothing.
+-- `walks::position_of` meets its contract. The invariant: none of the numbers passed is this one. Assumes nothing.
 use native.Mathlib.Omega.{arith}
 use Prim.Native.Nat.{ℕ, _-_, _%_, _≤_, _<_}
 use denote.Ref.{now}
 use mathlib.Core.Path.{_≡_}
 use lib.ListN.{getD}
-use Rattle.shelves.proofs.Shelves.{none-more, at-position, no-position}
-use Rattle.shelves.proofs.position_of.Statement.{statement}
-use Rattle.shelves.proofs.position_of.Tie as tie
+use Rattle.walks.proofs.Shelves.{none-more, at-position, no-position}
+use Rattle.walks.proofs.position_of.Statement.{statement}
+use Rattle.walks.proofs.position_of.Tie as tie
 
 abbrev Inv-loop : tie.InvT-loop
 Inv-loop numbers known number i₀ i = (i ≤ known) × ((j : ℕ) → j < i → getD numbers j 0 % 4294967296 ≡ number → ⊥)

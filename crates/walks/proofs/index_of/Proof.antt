@@ -1,10 +1,10 @@
--- `shelves::index_of` meets its contract: each return is of an index whose number was compared, and the number's position is the only other. Assumes nothing.
+-- `walks::index_of` meets its contract: each return is of an index whose number was compared, and the number's position is the only other. Assumes nothing.
 use borrow.Author.Needs.{needs}
 use native.Mathlib.Omega.{arith}
 use denote.Ref.{now}
-use Rattle.shelves.proofs.Shelves.{position-lacks}
-use Rattle.shelves.proofs.index_of.Statement.{statement}
-use Rattle.shelves.proofs.index_of.Tie as tie
+use Rattle.walks.proofs.Shelves.{position-lacks}
+use Rattle.walks.proofs.index_of.Statement.{statement}
+use Rattle.walks.proofs.index_of.Tie as tie
 
 -- At its position the number has no plan, or there is none.
 returns-4 : tie.Need-returns-4

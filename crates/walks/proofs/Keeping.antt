@@ -17,9 +17,9 @@ use Rattle.layouts.proofs.Parts.{layout-extends}
 use Rattle.layouts.proofs.Growing.{good-nil}
 use Rattle.plans.specs.Plan.{planFor, Begins}
 use Rattle.plans.proofs.Making.{begins-kept, begins-behind}
-use Rattle.shelves.specs.Kept.{nothing, holds, grown, tallied, markOf, marks, PlansFrom, asOption, standing, all, Numbered, Shelved, Kept, Keeps}
-use Rattle.shelves.specs.declared.Tally.{Tally}
-use Rattle.shelves.proofs.Marks.{tallied-more, marks-more, plans-stay, plans-more}
+use Rattle.walks.specs.Kept.{nothing, holds, grown, tallied, markOf, marks, PlansFrom, asOption, standing, all, Numbered, Shelved, Kept, Keeps}
+use Rattle.walks.specs.declared.Tally.{Tally}
+use Rattle.walks.proofs.Marks.{tallied-more, marks-more, plans-stay, plans-more}
 
 -- Nothing kept of the empty book.
 pub kept-none : (shelf numbers places steps : List ℕ) → length numbers ≡ 64 → length places ≡ 64 → length steps ≡ 1216 → Kept shelf numbers places steps nothing []

@@ -14,8 +14,8 @@ use Rattle.layouts.specs.Layout.{Layout, GoodLayout}
 use Rattle.layouts.specs.Book.{Book, find, numbersOf, position, Distinct}
 use Rattle.layouts.proofs.Finding.{none-some}
 use Rattle.plans.specs.Plan.{planFor, Begins}
-use Rattle.shelves.specs.Kept.{nothing, holds, grown, tallied, markOf, marks, PlansFrom}
-use Rattle.shelves.specs.declared.Tally.{Tally}
+use Rattle.walks.specs.Kept.{nothing, holds, grown, tallied, markOf, marks, PlansFrom}
+use Rattle.walks.specs.declared.Tally.{Tally}
 
 -- One layout more behind a book.
 pub tallied-more : (t : Tally) (b : Book) (l : Layout) → tallied t (b ++ l ∷ []) ≡ grown (tallied t b) l

@@ -14,8 +14,8 @@ use Rattle.layouts.specs.Layout.{Layout, layoutAt}
 use Rattle.layouts.specs.Book.{Book, find, numbersOf, position}
 use Rattle.layouts.specs.Answers.{StandsFor}
 use Rattle.layouts.proofs.Positions.{position-found, position-none, lacks-none, at-index}
-use Rattle.shelves.specs.Kept.{nothing, marks, asOption, standing, all, Numbered, Shelved, Planned, Lacks}
-use Rattle.shelves.proofs.Marks.{marks-low, Marked, marked-at}
+use Rattle.walks.specs.Kept.{nothing, marks, asOption, standing, all, Numbered, Shelved, Planned, Lacks}
+use Rattle.walks.proofs.Marks.{marks-low, Marked, marked-at}
 
 -- What holds of no index below another, nor of that one, holds of none up to it.
 pub none-more : (P : ℕ → Type 0) (k : ℕ) → ((i : ℕ) → i < k → P i → ⊥) → (P k → ⊥) → (i : ℕ) → i < k + 1 → P i → ⊥

@@ -1,5 +1,0 @@
-pub mod Marks
-pub mod Keeping
-pub mod Indexing
-pub mod Shelves
-pub mod Contracts
