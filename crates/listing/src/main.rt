@@ -19,7 +19,7 @@ fn element_lines<'d, 'o>(doc: &'d [u8], at: usize, out: &'o mut [u8], n: usize) 
     let mut book = [0u8; octets::BOOK_ROOM];
     let mut numbers = [0u64; octets::MOST_LAYOUTS];
     let mut places = [0u32; octets::MOST_LAYOUTS];
-    let mut steps = [0u16; 1216];
+    let mut steps = [0u16; plans::MOST_STEPS];
     let mut tally = walks::nothing();
     let mut pos = at;
     let mut rows: usize = 0;

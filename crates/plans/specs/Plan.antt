@@ -32,8 +32,12 @@ pub record Begins (s : List ℕ) (at : ℕ) (xs : List ℕ) : Type 0 where
   pub inside : at + length xs ≤ length s
   pub is : part s at (length xs) ≡ xs
 
+-- How many steps there are in all: 64 that say where plans stand, and those of plans.
+abbrev pub mostSteps : ℕ
+mostSteps = 1216
+
 -- Some attributes' plan stands at a place.
 pub record Plan (steps : List ℕ) (from : ℕ) : Type 0 where
-  pub long : length steps ≡ 1216
+  pub long : length steps ≡ mostSteps
   pub attributes : List Attribute
   pub stands : Begins steps from (planOf 0 attributes)

@@ -11,11 +11,14 @@ ghost use Rattle.octets.specs.Reading.{ok, run};
 ghost use Rattle.layouts.specs.Layout.{Attribute, attributeAt};
 ghost use Rattle.rows.specs.Answers.{Attributes};
 ghost use Rattle.kinds.specs.Forms.{Slim};
-ghost use Rattle.plans.specs.Plan.{mark, planOf, Plan};
+ghost use Rattle.plans.specs.Plan.{mark, planOf, mostSteps, Plan};
 ghost use Rattle.plans.specs.Answers.{Puts, passedOf, Closes, Follows, Lasts};
 use kinds::Form;
 use octets::Ended;
 use octets::Room;
+
+// How many steps there are in all, with those that say where plans stand.
+pub const MOST_STEPS: usize = 1216;
 
 // The place behind values, or that the exact readers are to be asked.
 pub enum Passed {
@@ -53,12 +56,12 @@ pub fn put_plan<'d, 'p>(
     doc: &'d [u8],
     first: usize,
     count: u32,
-    steps: &'p mut [u16; 1216],
+    steps: &'p mut [u16; MOST_STEPS],
     from: usize,
     to: usize,
 ) -> Put
-    requires { ⌜ (length (now doc) ≤ longest) × (count ≤ mostAttributes) × (from ≤ to) × (to ≤ 1216) × (length (now steps) ≡ 1216) × Attributes (now doc) count first ⌝ }
-    ensures { λ r. ⌜ ((xs : List Attribute) (last : ℕ) → run (attributeAt (now (doc .entry))) count first ≡ ok xs last → Puts (now (steps .exit)) from to (planOf 0 xs) r) × (take from (now (steps .exit)) ≡ take from (now (steps .entry))) × (length (now (steps .exit)) ≡ 1216) ⌝ }
+    requires { ⌜ (length (now doc) ≤ longest) × (count ≤ mostAttributes) × (from ≤ to) × (to ≤ mostSteps) × (length (now steps) ≡ mostSteps) × Attributes (now doc) count first ⌝ }
+    ensures { λ r. ⌜ ((xs : List Attribute) (last : ℕ) → run (attributeAt (now (doc .entry))) count first ≡ ok xs last → Puts (now (steps .exit)) from to (planOf 0 xs) r) × (take from (now (steps .exit)) ≡ take from (now (steps .entry))) × (length (now (steps .exit)) ≡ mostSteps) ⌝ }
 {
     let mut place = first;
     let mut j = from;
@@ -120,7 +123,7 @@ fn follow<'d, 'p>(
     doc: &'d [u8],
     at: usize,
     end: usize,
-    steps: &'p [u16; 1216],
+    steps: &'p [u16; MOST_STEPS],
     from: usize,
 ) -> Passed
     requires { ⌜ (at ≤ end) × (end ≤ length (now doc)) × (length (now doc) ≤ longest) × Plan (now steps) from ⌝ }
@@ -152,7 +155,12 @@ fn follow<'d, 'p>(
 }
 
 // The place behind a row's values, from its length on.
-pub fn values_to<'d, 'p>(doc: &'d [u8], at: usize, steps: &'p [u16; 1216], from: usize) -> Passed
+pub fn values_to<'d, 'p>(
+    doc: &'d [u8],
+    at: usize,
+    steps: &'p [u16; MOST_STEPS],
+    from: usize,
+) -> Passed
     requires { ⌜ (at + 4 ≤ length (now doc)) × (length (now doc) ≤ longest) × Plan (now steps) from ⌝ }
     ensures { λ r. ⌜ Lasts (now (doc .entry)) at (now (steps .entry)) from r ⌝ }
 {

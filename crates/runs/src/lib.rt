@@ -72,7 +72,7 @@ fn items<'d, 'b, 'w>(
 {
     let mut numbers = [0u64; octets::MOST_LAYOUTS];
     let mut places = [0u32; octets::MOST_LAYOUTS];
-    let mut steps = [0u16; 1216];
+    let mut steps = [0u16; plans::MOST_STEPS];
     let mut tally = walks::index(&book[..used], &mut numbers, &mut places, &mut steps);
     let mut pos = at;
     let mut passed = rows;

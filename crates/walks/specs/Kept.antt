@@ -9,16 +9,17 @@ use lib.Dec.{leb}
 use Rattle.octets.specs.Reading.{Read, ok, no, choose}
 use Rattle.layouts.specs.Layout.{Layout, layoutAt}
 use Rattle.layouts.specs.Book.{Book, bookImage, GoodBook}
-use Rattle.plans.specs.Plan.{planFor, Begins}
+use Rattle.plans.specs.Plan.{planFor, Begins, mostSteps}
+use Rattle.octets.specs.Limits.{mostLayouts}
 use Rattle.walks.specs.declared.Tally.{Tally}
 use Rattle.walks.specs.declared.PlanAt.{PlanAt}
 use Rattle.walks.specs.declared.PlanAt.the-variants as plan-at
 
 -- Before any layout: the first 64 steps say where plans stand, and plans are put behind them.
 abbrev pub nothing : Tally
-nothing = record { known = 0; filled = 64 }
+nothing = record { known = 0; filled = mostLayouts }
 
--- Whether a layout's plan leaves eight steps to each layout that may follow, of 64 in all. Then it has one.
+-- Whether a layout's plan leaves eight steps to each layout that may follow, of 64 in all: the first ends before step 712, each other eight further on. Then it has one.
 abbrev pub holds : Tally → Layout → Bool
 holds t l = leb (t .filled + length (planFor l)) (712 + t .known * 8)
 
@@ -61,18 +62,18 @@ all (l ∷ rest) = some l ∷ all rest
 pub record Numbered (numbers : List ℕ) (known : ℕ) (book : Book) : Type 0 where
   pub good : GoodBook book
   pub count : length book ≡ known
-  pub long : length numbers ≡ 64
+  pub long : length numbers ≡ mostLayouts
   pub marked : take known numbers ≡ marks nothing book
 
 -- Index i of the places known is where the i-th layout of the book stands.
 pub record Shelved (shelf places : List ℕ) (known : ℕ) (book : Book) : Type 0 where
-  pub long : length places ≡ 64
+  pub long : length places ≡ mostLayouts
   pub stands : standing shelf (take known places) ≡ all book
 
 -- The plans that there is room for stand in the steps.
 pub record Planned (numbers steps : List ℕ) (known : ℕ) (book : Book) : Type 0 where
   pub numbered : Numbered numbers known book
-  pub long : length steps ≡ 1216
+  pub long : length steps ≡ mostSteps
   pub plans : PlansFrom steps nothing book
 
 pub record Plans (numbers steps : List ℕ) (known : ℕ) : Type 0 where
@@ -99,7 +100,7 @@ pub record Keeps (l : Layout) (place : ℕ) (numbers places steps : List ℕ) (t
   pub number : numbers₁ ≡ set numbers (t .known) (markOf t l)
   pub place-is : places₁ ≡ set places (t .known) place
   pub tally : r ≡ grown t l
-  pub long : length steps₁ ≡ 1216
+  pub long : length steps₁ ≡ mostSteps
   pub plans : (book : Book) → t ≡ tallied nothing book → PlansFrom steps nothing book → PlansFrom steps₁ nothing (book ++ l ∷ [])
 
 -- Octets that are the image of a good book.

@@ -7,6 +7,7 @@ ghost use Prim.Native.Nat.{ℕ, _≤_, _<_, _+_, _*_};
 ghost use lib.ListN.{length, set};
 ghost use Rattle.octets.specs.Limits.{longest, mostRows, mostLayouts};
 ghost use Rattle.layouts.specs.Book.{Book, position};
+ghost use Rattle.plans.specs.Plan.{mostSteps};
 ghost use Rattle.elements.specs.Walk.{spotAt, through};
 ghost use Rattle.elements.specs.Reading.{rowsRead};
 ghost use Rattle.walks.specs.Kept.{Planned, Plans, nothing, Numbered, Shelved, Kept, Indexes, Keeps, Image, Images};
@@ -47,7 +48,7 @@ pub fn nothing() -> Tally
 {
     Tally {
         known: 0,
-        filled: 64,
+        filled: octets::MOST_LAYOUTS,
     }
 }
 
@@ -101,10 +102,10 @@ pub fn keep<'d, 'n, 'l, 'p>(
     place: usize,
     numbers: &'n mut [u64; octets::MOST_LAYOUTS],
     places: &'l mut [u32; octets::MOST_LAYOUTS],
-    steps: &'p mut [u16; 1216],
+    steps: &'p mut [u16; plans::MOST_STEPS],
     tally: Tally,
 ) -> Tally
-    requires { ⌜ (length (now doc) ≤ longest) × (isOk (layoutAt (now doc) at) ≡ true) × (length (now steps) ≡ 1216) × (tally .known < mostLayouts) × (64 ≤ tally .filled) × (tally .filled ≤ 704 + tally .known * 8) × (place < 4294967296) ⌝ }
+    requires { ⌜ (length (now doc) ≤ longest) × (isOk (layoutAt (now doc) at) ≡ true) × (length (now steps) ≡ mostSteps) × (tally .known < mostLayouts) × (mostLayouts ≤ tally .filled) × (tally .filled ≤ 704 + tally .known * 8) × (place < 4294967296) ⌝ }
     ensures { λ r. ⌜ ((l : Layout) (end : ℕ) → layoutAt (now (doc .entry)) at ≡ ok l end → Keeps l place (now (numbers .entry)) (now (places .entry)) (now (steps .entry)) tally (now (numbers .exit)) (now (places .exit)) (now (steps .exit)) r) ⌝ }
 {
     let known = tally.known;
@@ -138,9 +139,9 @@ pub fn index<'s, 'n, 'l, 'p>(
     s: &'s [u8],
     numbers: &'n mut [u64; octets::MOST_LAYOUTS],
     places: &'l mut [u32; octets::MOST_LAYOUTS],
-    steps: &'p mut [u16; 1216],
+    steps: &'p mut [u16; plans::MOST_STEPS],
 ) -> Tally
-    requires { ⌜ (length (now s) ≤ longest) × (length (now numbers) ≡ 64) × (length (now places) ≡ 64) × (length (now steps) ≡ 1216) × Images (now s) ⌝ }
+    requires { ⌜ (length (now s) ≤ longest) × (length (now numbers) ≡ mostLayouts) × (length (now places) ≡ mostLayouts) × (length (now steps) ≡ mostSteps) × Images (now s) ⌝ }
     ensures { λ r. ⌜ ((book : Book) → Image (now (s .entry)) book → Kept (now (s .entry)) (now (numbers .exit)) (now (places .exit)) (now (steps .exit)) r book) ⌝ }
 {
     let mut pos = 0;
@@ -203,7 +204,7 @@ fn quick_row<'d, 'n, 'p>(
     doc: &'d [u8],
     at: usize,
     numbers: &'n [u64; octets::MOST_LAYOUTS],
-    steps: &'p [u16; 1216],
+    steps: &'p [u16; plans::MOST_STEPS],
     known: usize,
     last: usize,
 ) -> Quick
@@ -261,7 +262,7 @@ fn rows_on<'d, 'n, 'p, 'k, 'w>(
     doc: &'d [u8],
     at: usize,
     numbers: &'n [u64; octets::MOST_LAYOUTS],
-    steps: &'p [u16; 1216],
+    steps: &'p [u16; plans::MOST_STEPS],
     known: usize,
     labels: &'k [u64; octets::MOST_LAYOUTS],
     words: &'w mut [u64],
@@ -338,7 +339,7 @@ pub fn go_on<'d, 's, 'n, 'l, 'p, 'k, 'w>(
     used: usize,
     numbers: &'n [u64; octets::MOST_LAYOUTS],
     places: &'l [u32; octets::MOST_LAYOUTS],
-    steps: &'p [u16; 1216],
+    steps: &'p [u16; plans::MOST_STEPS],
     known: usize,
     labels: &'k [u64; octets::MOST_LAYOUTS],
     words: &'w mut [u64],
@@ -369,7 +370,7 @@ pub fn rows_from(doc: &[u8], at: usize) -> RowCount
 {
     let mut numbers = [0u64; octets::MOST_LAYOUTS];
     let mut places = [0u32; octets::MOST_LAYOUTS];
-    let mut steps = [0u16; 1216];
+    let mut steps = [0u16; plans::MOST_STEPS];
     let mut tally = nothing();
     let mut pos = at;
     let mut rows: usize = 0;
