@@ -5,7 +5,6 @@ use mathlib.Core.List.{List}
 use mathlib.Core.Bool.{Bool, true, false, _&&_}
 use native.Mathlib.Omega.{arith}
 use lib.ListN.{length, take}
-use lib.Seq.{length-take-le}
 use lib.Dec.{leb, eqb}
 use borrow.Author.Tests.{le-leb, lt-leb, eq-eqb, ne-eqb, eqb-true}
 use Rattle.octets.specs.Limits.{longest, mostRows}
@@ -20,7 +19,7 @@ use Rattle.octets.proofs.Ends.{refused, number-ok, number-no, number-room}
 use Rattle.layouts.specs.Layout.{Layout, attributeAt, layoutAt}
 use Rattle.layouts.specs.Book.{Book, bookIn, IsBook, learn}
 use Rattle.layouts.specs.Answers.{Nth}
-use Rattle.layouts.proofs.Walks.{lent-book, book-image}
+use Rattle.layouts.proofs.Walks.{lent-book, book-image, lent-length}
 use Rattle.rows.specs.Row.{Row, rowAt}
 use Rattle.elements.specs.Element.{item, layout, row, Stepped}
 use Rattle.elements.specs.Steps.{lentBook}
@@ -85,7 +84,7 @@ module _ (wanted : ℕ) (s : List ℕ) (at rows : ℕ) (octets : List ℕ) (used
       let (room, kind, place) = kind-forth wanted s at f in
       let held = lent-book octets used o is in
       let image = book-image octets used (bookIn octets used) held in
-      let whole = length-take-le used octets (omega (arith, held .room, held .most)) in
+      let whole = lent-length octets used held in
       record {
         is = rw (lent-is s rows octets used short is few, kind-right wanted s at room kind) refl;
         kind = kind;

@@ -1,10 +1,8 @@
 -- `questions::field` meets its contract: the type of the attribute where it stands in the book, and the value of that type where it stands in the document. Assumes nothing.
 use borrow.Author.Needs.{needs}
 use native.Mathlib.Omega.{arith}
-use Prim.Native.Nat.{ℕ}
 use denote.Ref.{now}
 use mathlib.Core.Path.{_≡_, sym, ap, _∙_}
-use mathlib.Core.List.{List}
 use Rattle.octets.specs.Reading.{isOk}
 use Rattle.kinds.specs.Values.{valueOf}
 use Rattle.kinds.specs.declared.Kind.{Kind}

@@ -12,8 +12,7 @@ use Rattle.kinds.specs.Kinds.{formBy}
 use Rattle.kinds.specs.declared.Basic.{Basic}
 use Rattle.kinds.specs.declared.Basic.the-variants as basic
 use Rattle.kinds.specs.declared.Value.the-variants as value
-use Rattle.kinds.specs.Values.{numeral}
-use Rattle.kinds.specs.Values.{valueOf}
+use Rattle.kinds.specs.Values.{numeral, valueOf}
 use Rattle.row_fields.specs.Places.{Stood}
 use Rattle.row_fields.proofs.Spelt.{Wide, stood-room, stood-says}
 use Rattle.row_fields.proofs.value_at.Statement.{statement}
