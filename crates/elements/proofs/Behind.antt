@@ -1,25 +1,27 @@
 -- What an accepted element leaves behind it: where it ends, a book that is good again and has only grown, and lent octets that hold it.
-use Prim.Native.Nat.{ℕ, _+_, _≤_, _<_}
+use Prim.Native.Nat.{ℕ, _+_, _-_, _≤_, _<_}
 use mathlib.Core.Path.{_≡_, refl, sym, ap, _∙_}
 use mathlib.Core.List.{List, [], _∷_, _++_}
 use mathlib.Core.Option.{none}
 use mathlib.Core.Logic.{inl, inr}
 use native.Mathlib.Omega.{arith}
-use lib.ListN.{length, drop, length-append, length-drop}
+use lib.ListN.{length, take, drop, length-append, length-drop}
 use Rattle.octets.specs.Limits.{longest, bookRoom, mostLayouts}
 use Rattle.octets.specs.Reading.{ok, isOk}
-use Rattle.octets.specs.Writing.{word, Each, Octet}
+use Rattle.octets.specs.Writing.{word, Each, Octet, over}
 use Rattle.octets.proofs.Ends.{number-room}
 use Rattle.octets.proofs.Inverse.{ok-value}
 use Rattle.octets.proofs.Spans.{Spans, length-word, each-append, each-drop}
 use Rattle.layouts.specs.Layout.{Layout, layoutAt, layoutImage, GoodLayout}
 use Rattle.layouts.specs.Book.{Book, find, bookImage, GoodBook, bookOf, bookIn, IsBook, learn}
 use Rattle.layouts.proofs.Layouts.{layout-octets, layout-long}
-use Rattle.layouts.proofs.Books.{octets-book, image-nil, image-cons, image-snoc}
+use Rattle.layouts.proofs.Books.{Lent, octets-book, image-nil, image-cons, image-snoc}
+use Rattle.layouts.proofs.Lends.{layout-part, put-learnt}
 use Rattle.layouts.proofs.Growing.{Learnt, learnt, grown}
 use Rattle.rows.specs.Row.{rowImage}
 use Rattle.elements.specs.Element.{Element, item, layout, row, finish, Stepped, elementAt}
 use Rattle.elements.specs.Steps.{holding}
+use Rattle.elements.specs.Answers.{Grows}
 use Rattle.elements.specs.Reading.{asRow}
 use Rattle.elements.proofs.Elements.{Came, a-layout, a-row, an-end, element-forth}
 use Rattle.elements.proofs.Went.{Went, at-layout, at-row, at-finish, went}
@@ -141,3 +143,24 @@ element-once s at rows others b st su next end e f = go (went s at rows b st nex
     go (at-finish n t k h el ro bo) (at-layout m y j i d em rm) = absurd (let z = ok-value k j in omega arith)
     go (at-finish n t k h el ro bo) (at-row q j i em rm bm) = bo ∙ sym bm
     go (at-finish n t k h el ro bo) (at-finish m u j i em rm bm) = bo ∙ sym bm
+
+-- A layout that is new to a lent book: its octets stand in the document, the book has room for them, and behind the used ones they make the book with it.
+pub record Laid (s : List ℕ) (at next : ℕ) (octets : List ℕ) (used : ℕ) : Type 0 where
+  pub far : at + 4 ≤ next
+  pub near : next ≤ length s
+  pub room : used + length (take (next - (at + 4)) (drop (at + 4) s)) ≤ length octets
+  pub is : (rows : ℕ) (st : Stepped) → elementAt s at rows (bookIn octets used) ≡ ok st next → over octets used (take (next - (at + 4)) (drop (at + 4) s)) ≡ holding (st .book) octets
+
+pub laid : (s : List ℕ) (at next : ℕ) (octets : List ℕ) (used : ℕ) → Each Octet s → Lent octets used (bookIn octets used) → Grows s at next (bookIn octets used) → Laid s at next octets used
+laid s at next octets used o held g =
+    let b = bookIn octets used in
+    let n = element-new s o at (g .rows) b (g .stepped) next (g .reads) _ _ refl refl (g .more) in
+    let (_, far, near, is) = layout-part s (at + 4) next (n .layout) o (element-inside s at (g .rows) b (g .stepped) next (g .reads)) (n .reads) in
+    record {
+      far = far;
+      near = near;
+      room = omega (arith, ap length is, n .small, held .size, held .room);
+      is = λ rows st e.
+          ap (over octets used) is ∙ (put-learnt octets used b (n .layout) held
+          ∙ ap (λ (c : Book). holding c octets) (sym (n .is) ∙ element-once s at (g .rows) rows b (g .stepped) st next next (g .reads) e));
+    }

@@ -4,7 +4,7 @@ use mathlib.Core.Path.{_≡_, refl, sym, ap, subst}
 use mathlib.Core.List.{List, [], _∷_}
 use mathlib.Core.Bool.{Bool, true, false, _&&_}
 use mathlib.Core.Option.{Option, some, none}
-use mathlib.Core.Logic.{_⊎_, inl, inr}
+use mathlib.Core.Logic.{inl, inr}
 use native.Mathlib.Omega.{arith}
 use lib.ListN.{length, take}
 use lib.Dec.{leb, ltb, eqb}
@@ -24,6 +24,7 @@ use Rattle.layouts.specs.declared.Learning.the-variants.{Known, New, Refused}
 use Rattle.layouts.proofs.Judging.{Learned, learned}
 use Rattle.headers.specs.Header.{namespaceAt, idAt, headerFrom, headerAt}
 use Rattle.rows.specs.Row.{fieldsIn, filled, valuesAt, named, rowAt}
+use Rattle.rows.proofs.RowLaws.{row-by}
 use Rattle.kinds.specs.Forms.{valueIn}
 use Rattle.elements.specs.Element.{Element, item, finish, Stepped, finishAt, elementAt}
 use Rattle.elements.specs.Walk.{Stop, ended, refused, Walk, onward, walk, turnBy, turnOf, Spot, spotAt, spotOf, turnAt, through}
@@ -207,8 +208,7 @@ module _ (P : ℕ → Type 0) (s : List ℕ) (end : ℕ) (long : length s ≤ en
               stays-choose (eqb last to) _ _ (λ _. c) (thirteen, before)
 
       pub row-stays : P 12 → (book : Book) (at : ℕ) → at ≤ end → Stays P end (rowAt book s at)
-      unfolding rowAt
-      row-stays twelve book at b = stays-then (number 4 s at) _ (number-stays 4 at b) λ n length-at c. go n length-at c (find n book)
+      row-stays twelve book at b = rw (row-by book s at) (stays-then (number 4 s at) _ (number-stays 4 at b) λ n length-at c. go n length-at c (find n book))
         where
           go : (n length-at : ℕ) → length-at ≤ end → (o : Option Layout) → Stays P end (named s at n length-at o)
           go n length-at c none = (twelve, b)

@@ -1,5 +1,5 @@
 -- What a turn is: an item goes on, the end and a refusal stop; what a turn that goes on has read, and that it goes on by four octets at least.
-use Prim.Native.Nat.{ℕ, _+_, _-_, _≤_}
+use Prim.Native.Nat.{ℕ, _+_, _≤_}
 use mathlib.Core.Path.{_≡_, refl, sym, ap, _∙_, subst}
 use mathlib.Core.List.{List}
 use native.Mathlib.Omega.{arith}

@@ -79,57 +79,34 @@ module _ (s : List ℕ) where
       twice : (k : ℕ) → suc (suc (k * 2)) ≡ suc k * 2
       twice k = omega arith
 
-  -- The two lists as the code reads them: a count, and strings.
-  namespaces-list : (at : ℕ) → ends (count mostListed s at then λ k next. run (namespaceAt s) k next) ≡ ends (count mostListed s at then λ k next. run (text s) (k * 2) next)
-  namespaces-list at = go (count mostListed s at)
-    where
-      go : (r : Read ℕ) → ends (r then λ k next. run (namespaceAt s) k next) ≡ ends (r then λ k next. run (text s) (k * 2) next)
-      go (ok k next) = namespaces-texts k next
-      go (no n p) = refl
+  -- The parts as the code reads them. A list is a count and strings.
+  abbrev pub recorderRead : Read (List ℕ)
+  recorderRead = exactly 4 3 s 0 then λ _ next. text s next
 
-  services-list : (at : ℕ) → ends (count mostListed s at then λ k next. run (text s) k next) ≡ ends (count mostListed s at then λ k next. run (text s) (k * 1) next)
-  services-list at = go (count mostListed s at)
-    where
-      go : (r : Read ℕ) → ends (r then λ k next. run (text s) k next) ≡ ends (r then λ k next. run (text s) (k * 1) next)
-      go (ok k next) = ap (λ (n : ℕ). ends (run (text s) n next)) (sym (mul-one k))
-      go (no n p) = refl
+  abbrev pub defaultRead : ℕ → Read (List ℕ)
+  defaultRead at = number 8 s at then λ _ next. text s next
 
-  -- A list that was read: its count and its items.
-  pub record Listed {A : Type 0} (one : ℕ → Read A) (at end : ℕ) : Type 0 where
-    pub items : List A
-    pub counts : count mostListed s at ≡ ok (length items) (at + 4)
-    pub number : number 4 s at ≡ ok (length items) (at + 4)
-    pub reads : run one (length items) (at + 4) ≡ ok items end
+  abbrev pub listRead : ℕ → ℕ → Read (List (List ℕ))
+  listRead at each = count mostListed s at then λ k next. run (text s) (k * each) next
 
-  listed : {A : Type 0} (one : ℕ → Read A) (at end : ℕ) → ends (count mostListed s at then λ k next. run one k next) ≡ ok end end → Listed one at end
-  listed {A} one at end e =
-      let (xs, f) = ended (count mostListed s at then λ k next. run one k next) end e in
-      after (count mostListed s at) _ f λ k next e₁ e₂.
-      let c = count-is s at 16 k next e₁ in
-      let long : k ≡ length xs = sym (run-length one k next end xs e₂) in
-      record {
-        items = xs;
-        counts = e₁ ∙ (ap (ok k) (c .1) ∙ ap (λ (n : ℕ). ok n (at + 4)) long);
-        number = c .2 ∙ ap (λ (n : ℕ). ok n (at + 4)) long;
-        reads = subst (λ (p : ℕ). run one (length xs) p ≡ ok xs end) (c .1) (subst (λ (n : ℕ). run one n next ≡ ok xs end) long e₂);
-      }
+  abbrev closeRead : ℕ → Read ℕ
+  closeRead at = idAt s at then λ _ next. exactly 0xffffffff 6 s next
 
   -- What stands before the lists.
-  pub record Fronted (start namespaces : ℕ) : Type 0 where
-    pub version : ℕ
-    pub is-four : exactly 4 3 s 0 ≡ ok version 4
-    pub recorder : List ℕ
-    pub records : text s 4 ≡ ok recorder start
-    pub time : ℕ
-    pub starts : number 8 s start ≡ ok time (start + 8)
-    pub default : List ℕ
-    pub defaults : text s (start + 8) ≡ ok default namespaces
+  record Fronted (start namespaces : ℕ) : Type 0 where
+    version : ℕ
+    is-four : exactly 4 3 s 0 ≡ ok version 4
+    recorder : List ℕ
+    records : text s 4 ≡ ok recorder start
+    time : ℕ
+    starts : number 8 s start ≡ ok time (start + 8)
+    default : List ℕ
+    defaults : text s (start + 8) ≡ ok default namespaces
 
-  pub front : (start namespaces : ℕ) → ends (exactly 4 3 s 0 then λ _ next. text s next) ≡ ok start start
-      → ends (number 8 s start then λ _ next. text s next) ≡ ok namespaces namespaces → Fronted start namespaces
+  front : (start namespaces : ℕ) → ok start start ≡ ends recorderRead → ok namespaces namespaces ≡ ends (defaultRead start) → Fronted start namespaces
   front start namespaces e f =
-      let (recorder, e₀) = ended (exactly 4 3 s 0 then λ _ next. text s next) start e in
-      let (default, f₀) = ended (number 8 s start then λ _ next. text s next) namespaces f in
+      let (recorder, e₀) = ended recorderRead start (sym e) in
+      let (default, f₀) = ended (defaultRead start) namespaces (sym f) in
       after (exactly 4 3 s 0) _ e₀ λ version a e₁ e₂.
       after (number 8 s start) _ f₀ λ time c f₁ f₂.
       let p : a ≡ 4 = exactly-place s 0 4 3 version a e₁ in
@@ -145,64 +122,98 @@ module _ (s : List ℕ) where
         defaults = subst (λ (n : ℕ). text s n ≡ ok default namespaces) q f₂;
       }
 
-  -- A header is refused where the first of its parts is.
-  module _ (n p : ℕ) where
-    pub refused-front : ends (exactly 4 3 s 0 then λ _ next. text s next) ≡ no n p → headerFrom s 0 ≡ no n p
-    unfolding headerFrom
-    refused-front e = stop-both (exactly 4 3 s 0) _ _ n p e
+  -- A list that was read: its count and its items.
+  record Listed {A : Type 0} (one : ℕ → Read A) (at end : ℕ) : Type 0 where
+    items : List A
+    counts : count mostListed s at ≡ ok (length items) (at + 4)
+    number : number 4 s at ≡ ok (length items) (at + 4)
+    reads : run one (length items) (at + 4) ≡ ok items end
 
-    pub refused-default : (start : ℕ) → ends (exactly 4 3 s 0 then λ _ next. text s next) ≡ ok start start
-        → ends (number 8 s start then λ _ next. text s next) ≡ no n p → headerFrom s 0 ≡ no n p
-    unfolding headerFrom
-    refused-default start e f =
-        let (recorder, e₀) = ended (exactly 4 3 s 0 then λ _ next. text s next) start e in
-        after (exactly 4 3 s 0) _ e₀ λ version a e₁ e₂.
-        rw (e₁, e₂) (stop-both (number 8 s start) _ _ n p f)
+  -- So many items of a list end where so many strings for each do.
+  module _ {A : Type 0} (one : ℕ → Read A) (each : ℕ) (alike : (k at : ℕ) → ends (run one k at) ≡ ends (run (text s) (k * each) at)) (at : ℕ) where
+    list-alike : ends (count mostListed s at then λ k next. run one k next) ≡ ends (listRead at each)
+    list-alike = go (count mostListed s at)
+      where
+        go : (r : Read ℕ) → ends (r then λ k next. run one k next) ≡ ends (r then λ k next. run (text s) (k * each) next)
+        go (ok k next) = alike k next
+        go (no n p) = refl
 
-    module _ (start namespaces : ℕ) (f : Fronted start namespaces) where
-      pub refused-namespaces : ends (count mostListed s namespaces then λ k next. run (text s) (k * 2) next) ≡ no n p → headerFrom s 0 ≡ no n p
-      unfolding headerFrom
-      refused-namespaces e =
-          rw (f .is-four, f .records, f .starts, f .defaults) (stop-both (count mostListed s namespaces) _ _ n p (namespaces-list namespaces ∙ e))
+    listed : (end : ℕ) → ok end end ≡ ends (listRead at each) → Listed one at end
+    listed end e =
+        let (xs, f) = ended (count mostListed s at then λ k next. run one k next) end (list-alike ∙ sym e) in
+        after (count mostListed s at) _ f λ k next e₁ e₂.
+        let c = count-is s at 16 k next e₁ in
+        let long : k ≡ length xs = sym (run-length one k next end xs e₂) in
+        record {
+          items = xs;
+          counts = e₁ ∙ (ap (ok k) (c .1) ∙ ap (λ (n : ℕ). ok n (at + 4)) long);
+          number = c .2 ∙ ap (λ (n : ℕ). ok n (at + 4)) long;
+          reads = subst (λ (p : ℕ). run one (length xs) p ≡ ok xs end) (c .1) (subst (λ (n : ℕ). run one n next ≡ ok xs end) long e₂);
+        }
 
-      module _ (services : ℕ) (l : Listed (namespaceAt s) namespaces services) where
-        pub refused-services : ends (count mostListed s services then λ k next. run (text s) (k * 1) next) ≡ no n p → headerFrom s 0 ≡ no n p
-        unfolding headerFrom
-        refused-services e =
-            rw (f .is-four, f .records, f .starts, f .defaults, l .counts, l .reads) (stop-both (count mostListed s services) _ _ n p (services-list services ∙ e))
+  services-texts : (k at : ℕ) → ends (run (text s) k at) ≡ ends (run (text s) (k * 1) at)
+  services-texts k at = ap (λ (n : ℕ). ends (run (text s) n at)) (sym (mul-one k))
 
-        pub refused-close : (id : ℕ) → Listed (text s) services id → ends (idAt s id then λ _ next. exactly 0xffffffff 6 s next) ≡ no n p → headerFrom s 0 ≡ no n p
-        unfolding headerFrom
-        refused-close id m e =
-            rw (f .is-four, f .records, f .starts, f .defaults, l .counts, l .reads, m .counts, m .reads) (stop-both (idAt s id) _ _ n p e)
-
-  pub namespaces-listed : (at end : ℕ) → ends (count mostListed s at then λ k next. run (text s) (k * 2) next) ≡ ok end end → Listed (namespaceAt s) at end
-  namespaces-listed at end e = listed (namespaceAt s) at end (namespaces-list at ∙ e)
-
-  pub services-listed : (at end : ℕ) → ends (count mostListed s at then λ k next. run (text s) (k * 1) next) ≡ ok end end → Listed (text s) at end
-  services-listed at end e = listed (text s) at end (services-list at ∙ e)
-
-  -- A header whose parts are all accepted.
-  pub accepted : length s ≤ longest → (start namespaces services id end : ℕ) → Fronted start namespaces → Listed (namespaceAt s) namespaces services → Listed (text s) services id
-      → ends (idAt s id then λ _ next. exactly 0xffffffff 6 s next) ≡ ok end end
-      → Accepted s (headerFrom s 0) (record { start = start; namespaces = namespaces; services = services; id = id; end = end })
+  -- A header is refused where the first of its parts is, each behind those that were read.
+  pub refused-recorder : (n p : ℕ) → no n p ≡ ends recorderRead → headerFrom s 0 ≡ no n p
   unfolding headerFrom
-  accepted short start namespaces services id end f l m e =
-      let (four, e₀) = ended (idAt s id then λ _ next. exactly 0xffffffff 6 s next) end e in
-      after (idAt s id) _ e₀ λ value next e₁ e₂.
-      record {
-        header = record { recorder = f .recorder; start = f .time; default = f .default; others = l .items; services = m .items; id = value };
-        reads = rw (f .is-four, f .records, f .starts, f .defaults, l .counts, l .reads, m .counts, m .reads, e₁, e₂) refl;
-        located =
-            record {
-              recorder = f .records;
-              start = f .starts;
-              default = f .defaults;
-              namespaces = l .number;
-              others = l .reads;
-              counted = m .number;
-              services = m .reads;
-              id = e₁ ∙ ap (ok value) (id-place s id value next e₁);
-            };
-        short = short;
-      }
+  refused-recorder n p e = stop-both (exactly 4 3 s 0) _ _ n p (sym e)
+
+  module _ (start : ℕ) (recorded : ok start start ≡ ends recorderRead) where
+    pub refused-default : (n p : ℕ) → no n p ≡ ends (defaultRead start) → headerFrom s 0 ≡ no n p
+    unfolding headerFrom
+    refused-default n p e =
+        let (recorder, e₀) = ended recorderRead start (sym recorded) in
+        after (exactly 4 3 s 0) _ e₀ λ version a e₁ e₂.
+        rw (e₁, e₂) (stop-both (number 8 s start) _ _ n p (sym e))
+
+    module _ (namespaces : ℕ) (named : ok namespaces namespaces ≡ ends (defaultRead start)) where
+      f : Fronted start namespaces
+      f = front start namespaces recorded named
+
+      pub refused-namespaces : (n p : ℕ) → no n p ≡ ends (listRead namespaces 2) → headerFrom s 0 ≡ no n p
+      unfolding headerFrom
+      refused-namespaces n p e =
+          rw (f .is-four, f .records, f .starts, f .defaults) (stop-both (count mostListed s namespaces) _ _ n p (list-alike (namespaceAt s) 2 namespaces-texts namespaces ∙ sym e))
+
+      module _ (services : ℕ) (spaced : ok services services ≡ ends (listRead namespaces 2)) where
+        l : Listed (namespaceAt s) namespaces services
+        l = listed (namespaceAt s) 2 namespaces-texts namespaces services spaced
+
+        pub refused-services : (n p : ℕ) → no n p ≡ ends (listRead services 1) → headerFrom s 0 ≡ no n p
+        unfolding headerFrom
+        refused-services n p e =
+            rw (f .is-four, f .records, f .starts, f .defaults, l .counts, l .reads) (stop-both (count mostListed s services) _ _ n p (list-alike (text s) 1 services-texts services ∙ sym e))
+
+        module _ (id : ℕ) (served : ok id id ≡ ends (listRead services 1)) where
+          m : Listed (text s) services id
+          m = listed (text s) 1 services-texts services id served
+
+          pub refused-close : (n p : ℕ) → no n p ≡ ends (closeRead id) → headerFrom s 0 ≡ no n p
+          unfolding headerFrom
+          refused-close n p e =
+              rw (f .is-four, f .records, f .starts, f .defaults, l .counts, l .reads, m .counts, m .reads) (stop-both (idAt s id) _ _ n p (sym e))
+
+          -- A header whose parts are all accepted.
+          pub accepted : length s ≤ longest → (end : ℕ) → ok end end ≡ ends (closeRead id)
+              → Accepted s (headerFrom s 0) (record { start = start; namespaces = namespaces; services = services; id = id; end = end })
+          unfolding headerFrom
+          accepted short end e =
+              let (four, e₀) = ended (closeRead id) end (sym e) in
+              after (idAt s id) _ e₀ λ value next e₁ e₂.
+              record {
+                header = record { recorder = f .recorder; start = f .time; default = f .default; others = l .items; services = m .items; id = value };
+                reads = rw (f .is-four, f .records, f .starts, f .defaults, l .counts, l .reads, m .counts, m .reads, e₁, e₂) refl;
+                located =
+                    record {
+                      recorder = f .records;
+                      start = f .starts;
+                      default = f .defaults;
+                      namespaces = l .number;
+                      others = l .reads;
+                      counted = m .number;
+                      services = m .reads;
+                      id = e₁ ∙ ap (ok value) (id-place s id value next e₁);
+                    };
+                short = short;
+              }

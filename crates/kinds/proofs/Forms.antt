@@ -1,5 +1,5 @@
 -- A value by its form: what functions answering places cite, that its reading and its image are inverse, and that rooms of one reach accept alike.
-use Prim.Native.Nat.{ℕ, _+_, _^_, _≤_, _<_}
+use Prim.Native.Nat.{ℕ, _+_, _≤_, _<_}
 use mathlib.Core.Path.{_≡_, refl, sym, ap, _∙_}
 use mathlib.Core.List.{List}
 use mathlib.Core.Bool.{Bool, true, false}
@@ -8,7 +8,7 @@ use lib.ListN.{length}
 use lib.Dec.{leb, lit≤}
 use borrow.Author.Tests.{leb-true, le-leb, lt-leb}
 use Rattle.octets.specs.Reading.{ok, no, ends, isOk, be, reach, overrun, numberIn, ledIn}
-use Rattle.octets.specs.Writing.{word, Each, Octet}
+use Rattle.octets.specs.Writing.{Each, Octet}
 use Rattle.octets.specs.declared.Room.{Room}
 use Rattle.octets.proofs.Spans.{Spans, word-octets}
 use Rattle.octets.proofs.Inverse.{Inverse, Answer, Any, after, settle, chosen}

@@ -1,18 +1,17 @@
 -- The contracts of layouts themselves that settle the answer: each allows one; of a part handed back, one content; where a layout was looked up, all but the place. Assumes nothing.
-use Prim.Native.Nat.{ℕ, _+_, _<_}
+use Prim.Native.Nat.{ℕ, _<_}
 use mathlib.Core.Path.{_≡_, refl, sym, ap, _∙_}
 use mathlib.Core.List.{List, [], _∷_, _++_}
 use mathlib.Core.Option.{Option, some, none}
 use native.Mathlib.Omega.{arith}
 use lib.ListN.{length, drop, length-append, length-drop}
 use denote.Ref.{now}
-use Rattle.octets.specs.Reading.{Read, ok, no}
 use Rattle.octets.specs.Contracts.{Once, OnceSeen}
 use Rattle.octets.proofs.Inverse.{ok-value, ok-place, no-ok}
 use Rattle.octets.proofs.Ends.{ended, value-is}
 use Rattle.octets.proofs.Contracts.{says-once}
-use Rattle.layouts.specs.Layout.{Attribute, Layout, layoutImage}
-use Rattle.layouts.specs.Book.{Book, learn}
+use Rattle.layouts.specs.Layout.{Attribute, Layout}
+use Rattle.layouts.specs.Book.{Book}
 use Rattle.layouts.specs.Answers.{Looks, Judges, lookedBut}
 use Rattle.layouts.specs.declared.Looked.{Looked}
 use Rattle.layouts.specs.declared.Looked.the-variants.{There, Missing}

@@ -1,12 +1,10 @@
 -- A lent book and a layout by their octets: where a layout stands, and what a book's octets are with one more.
 -- The used octets are the book's image, so a layout's octets behind them make the image of the book with it.
-use Prim.Native.Nat.{ℕ, _+_, _-_, _≤_, _<_}
-use mathlib.Core.Path.{_≡_, refl, ap, _∙_, sym}
+use Prim.Native.Nat.{ℕ, _+_, _-_, _≤_}
+use mathlib.Core.Path.{_≡_, refl, ap}
 use mathlib.Core.List.{List, [], _∷_, _++_, append-assoc}
-use lib.ListN.{length, take, drop, length-append, length-drop}
-use lib.Seq.{length-take-le}
+use lib.ListN.{length, take, drop, length-append}
 use borrow.Author.Tests.{le-leb}
-use native.Mathlib.Omega.{arith}
 use Rattle.octets.specs.Limits.{bookRoom}
 use Rattle.octets.specs.Reading.{ok, part}
 use Rattle.octets.specs.Writing.{Each, Octet, over}
@@ -23,11 +21,6 @@ pub layout-part : (s : List ℕ) (at next : ℕ) (l : Layout) → Each Octet s �
     → GoodLayout l × (at ≤ next) × (next ≤ length s) × (take (next - at) (drop at s) ≡ layoutImage l)
 unfolding part
 layout-part s at next l o h e = layout-forth s l at next o h e
-
-pub layout-length : (s : List ℕ) (at next : ℕ) (l : Layout) → Each Octet s → at ≤ length s → layoutAt s at ≡ ok l next → length (layoutImage l) ≡ next - at
-layout-length s at next l o h e =
-    let (g, le, inside, is) = layout-part s at next l o h e in
-    ap length (sym is) ∙ length-take-le (next - at) (drop at s) (rw (length-drop at s) (omega arith))
 
 -- What was looked up stands where it was found.
 pub stood : (s : List ℕ) (n : ℕ) (book : Book) (x : Looked) → Looks s n book x → Stood s x

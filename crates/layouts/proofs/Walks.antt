@@ -4,6 +4,7 @@ use mathlib.Core.Path.{_≡_, refl, ap, _∙_, sym, subst}
 use mathlib.Core.List.{List, [], _∷_}
 use mathlib.Core.Option.{some, none}
 use lib.ListN.{length, take}
+use lib.Seq.{length-take-le}
 use native.Mathlib.Omega.{arith}
 use Rattle.octets.specs.Reading.{ok, ends, be}
 use Rattle.octets.specs.Writing.{Each, Octet}
@@ -87,9 +88,12 @@ module _ (s : List ℕ) (n : ℕ) (book : Book) where
     pub here-stands : be 4 s pos ≡ n → StandsFor s n book pos
     here-stands e = record { layout = at .layout; next = at .next; found = at .found (sym e ∙ at .number); reads = at .reads }
 
--- What lent octets that hold a book are: their used part is the book's image.
+-- What lent octets that hold a book are: their used part is the book's image, and as long as is said.
 pub lent-book : (octets : List ℕ) (used : ℕ) → Each Octet octets → IsBook octets used → Lent octets used (bookIn octets used)
 lent-book octets used o e = book-forth octets used o e .0
 
 pub book-image : (octets : List ℕ) (used : ℕ) (book : Book) → Lent octets used book → Image (take used octets) book
 book-image octets used book h = record { is = h .image; good = h .good .good }
+
+pub lent-length : (octets : List ℕ) (used : ℕ) {book : Book} → Lent octets used book → length (take used octets) ≡ used
+lent-length octets used h = length-take-le used octets (omega (arith, h .room, h .most))

@@ -1,12 +1,12 @@
 -- What is asked of a reading: that a refusal question says whether there is a value, and an item of a list whether the list is long enough.
 use Prim.Native.Nat.{ℕ, zero, suc, _+_, _≤_}
-use mathlib.Core.Path.{_≡_, refl, sym, ap, _∙_, subst}
+use mathlib.Core.Path.{_≡_, refl, sym, ap, _∙_}
 use mathlib.Core.List.{List, [], _∷_}
 use native.Mathlib.Omega.{arith}
 use lib.ListN.{length, drop}
 use lib.Seq.{drop-nil}
-use Rattle.octets.specs.Reading.{Read, ok, no, ends, isOk, be, number}
-use Rattle.octets.specs.Answers.{says, Within}
+use Rattle.octets.specs.Reading.{Read, ok, no, isOk, be, number}
+use Rattle.octets.specs.Answers.{says}
 use Rattle.octets.specs.Asked.{refusalOf, nth, partOf, StandsAt, foundAt}
 use Rattle.octets.proofs.Inverse.{ok-value}
 use Rattle.octets.proofs.Ends.{number-ok, number-room}
@@ -23,11 +23,7 @@ pub refused-as : {A : Type 0} (r : Read A) (n p : ℕ) → refusalOf r ≡ refus
 refused-as (no m q) n p e = let a : m ≡ n = cc in let b : q ≡ p = cc in cc
 refused-as (ok a next) n p e = absurd (let z : _≡_ {A = ℕ} 0 1 = cc in omega arith)
 
--- A refusal shows in the end alone, and in where what was asked for stands.
-pub refusal-ends : {A : Type 0} (r : Read A) (q : Read ℕ) → ends r ≡ q → refusalOf r ≡ refusalOf q
-refusal-ends (ok a next) q e = ap refusalOf e
-refusal-ends (no n p) q e = ap refusalOf e
-
+-- A refusal shows in where what was asked for stands.
 pub refusal-stands : {A : Type 0} (s : List ℕ) (one : ℕ → Read A) (read : Read A) (r : Ended) → StandsAt s one read r → refusalOf (says r) ≡ refusalOf read
 refusal-stands s one read (ended.End p) e = sym (ap refusalOf (e .is))
 refusal-stands s one read (ended.Refused n p) e = sym (ap refusalOf e)
@@ -36,10 +32,6 @@ refusal-stands s one read (ended.Refused n p) e = sym (ap refusalOf e)
 pub part-stands : {A : Type 0} (s : List ℕ) (one : ℕ → Read A) (read : Read A) (f : A → List ℕ) (r : Ended) → StandsAt s one read r → partOf f (foundAt one r) ≡ partOf f read
 part-stands s one read f (ended.End p) e = ap (partOf f) (e .reads) ∙ sym (ap (partOf f) (e .is))
 part-stands s one read f (ended.Refused n p) e = sym (ap (partOf f) e)
-
--- What a reader that has come to a place says of it.
-pub come-to : {A : Type 0} (read : Read A) (at end : ℕ) (r : Ended) (p : ℕ) → says r ≡ ends read → Within at r end → r ≡ ended.End p → (ends read ≡ ok p p) × (at ≤ p) × (p ≤ end)
-come-to read at end r p e w q = let (later, inside) = subst (λ (x : Ended). Within at x end) q w in (sym e ∙ ap says q, later, inside)
 
 -- A number that was read is what its octets spell.
 pub number-is : (s : List ℕ) (w at n next : ℕ) → number w s at ≡ ok n next → (at + w ≤ length s) × (be w s at ≡ n)

@@ -1,8 +1,6 @@
 -- The contracts of octets themselves: each allows one answer, and one final content of what is lent to be changed. Assumes nothing.
-use Prim.Native.Nat.{ℕ}
 use mathlib.Core.Path.{_≡_, refl, sym, _∙_}
 use Rattle.octets.specs.Contracts.{Once, OnceSeen}
-use Rattle.octets.specs.Reading.{Read}
 use Rattle.octets.specs.Answers.{says, counts}
 use Rattle.octets.specs.declared.Ended.{Ended}
 use Rattle.octets.specs.declared.Ended.the-variants.{End, Refused}

@@ -25,8 +25,7 @@ use Rattle.questions.specs.Questions.{rowOf, layoutOf, rowAsked}
 use Rattle.kinds.specs.Values.{octetsOf}
 use Rattle.questions.specs.Answers.{fieldTells, kindTells}
 use Rattle.octets.proofs.Asked.{nth-none, nth-some}
-use Rattle.questions.proofs.Asked.{attribute-asked}
-use Rattle.questions.proofs.Line.{field-asked, field-unasked}
+use Rattle.questions.proofs.Asked.{attribute-asked, field-asked, field-unasked}
 use Rattle.questions.proofs.After.{row-after, layout-after}
 use Rattle.header_questions.specs.Questions.{namespacesPlace, servicesPlace, namespaceAsked, serviceAsked}
 use Rattle.promises.specs.BySteps.{Ending, BySteps, Meets}

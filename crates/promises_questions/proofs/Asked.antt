@@ -8,7 +8,7 @@ use native.Mathlib.Nat.{le-refl}
 use lib.ListN.{length, drop}
 use lib.Dec.{leb, eqb}
 use Rattle.octets.specs.Limits.{longest, mostRows}
-use Rattle.octets.specs.Reading.{Read, ok, no, _then_, choose, be, number}
+use Rattle.octets.specs.Reading.{Read, ok, choose, be, number}
 use Rattle.octets.proofs.Inverse.{after}
 use Rattle.layouts.specs.Layout.{layoutAt}
 use Rattle.layouts.specs.Book.{Book, bookOf, learn}

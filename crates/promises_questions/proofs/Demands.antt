@@ -12,7 +12,7 @@ use Rattle.layouts.specs.Book.{Book}
 use Rattle.headers.specs.Header.{headerAt}
 use Rattle.elements.specs.Walk.{lentAt}
 use Rattle.elements.specs.Reading.{Placed, Reading, headed, rowsOf}
-use Rattle.questions.proofs.Line.{field-unasked}
+use Rattle.questions.proofs.Asked.{field-unasked}
 use Rattle.questions.proofs.After.{row-kind, row-refused}
 use Rattle.promises.specs.BySteps.{Ending, ended, refused, BySteps, answer, FromFirst, no-header, then-steps, Carries}
 use Rattle.promises.specs.Resume.{CutAt, Taken, FirstLacking, Resumed}

@@ -5,30 +5,31 @@ use mathlib.Core.List.{List}
 use mathlib.Core.Bool.{Bool, true, false, _&&_}
 use native.Mathlib.Omega.{arith}
 use lib.ListN.{length, take}
-use lib.Seq.{length-take-le}
 use lib.Dec.{leb, eqb}
 use borrow.Author.Tests.{le-leb, lt-leb, eq-eqb, ne-eqb, eqb-true}
-use Rattle.octets.specs.Limits.{longest, mostRows, bookRoom}
+use Rattle.octets.specs.Limits.{longest, mostRows}
 use Rattle.octets.specs.Reading.{Read, ok, no, _then_, choose, ends, isOk, be, number}
-use Rattle.octets.specs.Asked.{nth, Standing}
+use Rattle.octets.specs.Asked.{refusalOf, nth, Standing}
 use Rattle.octets.specs.Writing.{Each, Octet}
-use Rattle.octets.specs.Answers.{says}
-use Rattle.octets.specs.declared.Ended.{Ended}
-use Rattle.octets.specs.declared.Ended.the-variants as answer
+use Rattle.octets.specs.declared.Refusal.{Refusal}
+use Rattle.octets.specs.declared.Refusal.the-variants as refusal
 use Rattle.octets.proofs.Inverse.{after, ok-value, ok-place}
-use Rattle.octets.proofs.Asked.{nth-none, nth-some}
-use Rattle.octets.proofs.Ends.{made, stop, ended, refused, number-ok, number-no, number-room}
+use Rattle.octets.proofs.Asked.{unrefused, refused-as, nth-none, nth-some}
+use Rattle.octets.proofs.Ends.{refused, number-ok, number-no, number-room}
 use Rattle.layouts.specs.Layout.{Layout, attributeAt, layoutAt}
 use Rattle.layouts.specs.Book.{Book, bookIn, IsBook, learn}
-use Rattle.layouts.specs.Answers.{Image, Holds, Nth}
-use Rattle.layouts.proofs.Walks.{lent-book, book-image}
+use Rattle.layouts.specs.Answers.{Nth}
+use Rattle.layouts.proofs.Walks.{lent-book, book-image, lent-length}
 use Rattle.rows.specs.Row.{Row, rowAt}
 use Rattle.elements.specs.Element.{item, layout, row, Stepped}
 use Rattle.elements.specs.Steps.{lentBook}
-use Rattle.elements.proofs.Before.{lent-is, lent-forth}
+use Rattle.elements.proofs.Before.{lent-is}
 use Rattle.elements.proofs.Told.{element-layout, element-row}
-use Rattle.questions.specs.Questions.{kindAsked, bookAsked, rowOf, layoutOf, rowAsked, layoutAsked, attributeAsked}
-use Rattle.questions.specs.Places.{layoutOver}
+use Rattle.row_fields.specs.Places.{Spots, fieldOver}
+use Rattle.row_fields.specs.declared.FieldSpot.{FieldSpot}
+use Rattle.row_fields.specs.declared.FieldSpot.the-variants as spot
+use Rattle.questions.specs.Questions.{kindAsked, bookAsked, rowOf, layoutOf, rowAsked, fieldAsked, layoutAsked, attributeAsked}
+use Rattle.questions.specs.Places.{Opened, Opens, FieldAt, layoutOver}
 
 -- The kind.
 module _ (wanted : ℕ) (s : List ℕ) (at : ℕ) where
@@ -68,85 +69,66 @@ module _ (wanted : ℕ) (s : List ℕ) (at : ℕ) where
       wrong false true e = absurd (let z : _≡_ {A = ℕ} 0 1 = cc in omega arith)
       wrong false false e = absurd (let z : _≡_ {A = ℕ} 0 1 = cc in omega arith)
 
--- An element of the kind asked about, over a book that is good.
-pub record Asked (wanted : ℕ) (s : List ℕ) (at rows : ℕ) (octets : List ℕ) (used next : ℕ) : Type 0 where
-  pub short : length s ≤ longest
-  pub few : rows ≤ mostRows
-  pub is : IsBook octets used
-  pub room : at + 4 ≤ length s
-  pub kind : be 4 s at ≡ wanted
-  pub place : next ≡ at + 4
+-- What stands before every question about an element.
+module _ (wanted : ℕ) (s : List ℕ) (at rows : ℕ) (octets : List ℕ) (used : ℕ) where
+  pub unlent : (n p : ℕ) → lentBook s rows octets used ≡ no n p → bookAsked wanted s at rows octets used ≡ no n p
+  unfolding bookAsked
+  unlent n p e = rw e refl
 
+  -- What is lent is good; the kind decides.
+  pub opens : Each Octet octets → (length s ≤ longest) × (rows ≤ mostRows) × IsBook octets used → (r : Refusal) → r ≡ refusalOf (kindAsked wanted s at) → Opens wanted s at rows octets used r
+  unfolding bookAsked
+  opens o (short, few, is) (refusal.Refused n p) e = rw (lent-is s rows octets used short is few, refused-as (kindAsked wanted s at) n p (sym e)) refl
+  opens o (short, few, is) refusal.None e =
+      let (k, next, f) = unrefused (kindAsked wanted s at) (sym e) in
+      let (room, kind, place) = kind-forth wanted s at f in
+      let held = lent-book octets used o is in
+      let image = book-image octets used (bookIn octets used) held in
+      let whole = lent-length octets used held in
+      record {
+        is = rw (lent-is s rows octets used short is few, kind-right wanted s at room kind) refl;
+        kind = kind;
+        image = image;
+        whole = whole;
+        lent = record { room = room; short = short; small = omega (arith, whole, held .most); holds = record { book = bookIn octets used; image = image } };
+      }
+
+-- A field is asked as the step reads its row, and so is a layout.
 module _ (s : List ℕ) (at rows : ℕ) (octets : List ℕ) (used : ℕ) where
-  pub record Opened (wanted next : ℕ) : Type 0 where
-    pub asked : Asked wanted s at rows octets used next
-    pub image : Image (take used octets) (bookIn octets used)
-    pub whole : length (take used octets) ≡ used
-    pub small : length (take used octets) ≤ bookRoom
+  module _ (n : ℕ) where
+    pub field-unasked : (m p : ℕ) → rowAsked s at rows octets used ≡ no m p → fieldAsked s at rows octets used n ≡ no m p
+    unfolding fieldAsked
+    field-unasked m p e = rw e refl
 
-  module _ (wanted : ℕ) where
-    pub asked-unlent : (n p : ℕ) → lentBook s rows octets used ≡ no n p → bookAsked wanted s at rows octets used ≡ no n p
-    unfolding bookAsked
-    asked-unlent n p e = rw e refl
+    pub field-asked : (r : Row) (next : ℕ) → rowAsked s at rows octets used ≡ ok r next → fieldAsked s at rows octets used n ≡ nth n at (r .fields) next
+    unfolding fieldAsked
+    field-asked r next e = rw e refl
 
-    pub asked-kind : (book : Book) (end : ℕ) → lentBook s rows octets used ≡ ok book end → ends (bookAsked wanted s at rows octets used) ≡ ends (kindAsked wanted s at)
-    unfolding bookAsked
-    asked-kind book end e = rw e (made (kindAsked wanted s at) (λ _. book))
+    pub field-unopened : (m p : ℕ) → bookAsked 2 s at rows octets used ≡ no m p → fieldAsked s at rows octets used n ≡ no m p
+    unfolding fieldAsked rowAsked
+    field-unopened m p e = rw e refl
 
-    pub asked-is : Each Octet octets → (next : ℕ) → ends (bookAsked wanted s at rows octets used) ≡ ok next next → Asked wanted s at rows octets used next
-    unfolding bookAsked
-    asked-is o next e =
-        let (b, f) = ended (bookAsked wanted s at rows octets used) next e in
-        after (lentBook s rows octets used) _ f λ book end e₁ e₂.
-        after (kindAsked wanted s at) _ e₂ λ kind mid e₃ e₄.
-        let (short, few, is) = lent-forth s rows octets used o e₁ in
-        let (room, right, place) = kind-forth wanted s at e₃ in
-        record { short = short; few = few; is = is; room = room; kind = right; place = ok-place e₄ refl ∙ place }
+    field-opened : Opened 2 s at rows octets used → fieldAsked s at rows octets used n ≡ fieldOver (bookIn octets used) s at n
+    unfolding fieldAsked rowAsked fieldOver
+    field-opened o = rw (o .is, element-row s at rows (bookIn octets used) (o .lent .room) (o .kind)) (go (rowAt (bookIn octets used) s (at + 4)))
+      where
+        go : (r : Read Row)
+            → (((r then λ x end. ok (record { element = item (row x); rows = rows + 1; book = bookIn octets used }) end) then λ (st : Stepped) next. rowOf at (st .element) next) then λ x next. nth n at (x .fields) next)
+            ≡ (r then λ x next. nth n at (x .fields) next)
+        go (ok x end) = refl
+        go (no m p) = refl
 
-    asked : {next : ℕ} → Asked wanted s at rows octets used next → bookAsked wanted s at rows octets used ≡ ok (bookIn octets used) (at + 4)
-    unfolding bookAsked
-    asked a = rw (lent-is s rows octets used (a .short) (a .is) (a .few), kind-right wanted s at (a .room) (a .kind)) refl
+    pub field-placed : Opened 2 s at rows octets used → (r : FieldSpot) → Spots s (take used octets) (fieldOver (bookIn octets used) s at n) r → FieldAt s octets used (fieldAsked s at rows octets used n) r
+    field-placed o (spot.At attribute value) e = (rw (field-opened o) e, o .whole)
+    field-placed o (spot.Refused m p) e = field-opened o ∙ e
 
-    -- Before a row and a layout alike: the refusal of what stands before, or a book whose used octets are lent on, at a place inside the document.
-    module _ (r : Ended) (says-it : says r ≡ ends (bookAsked wanted s at rows octets used)) where
-      pub unopened : (n p : ℕ) → r ≡ answer.Refused n p → bookAsked wanted s at rows octets used ≡ no n p
-      unopened n p q = refused (bookAsked wanted s at rows octets used) n p (sym says-it ∙ ap says q)
-
-      pub opened : Each Octet octets → (next : ℕ) → r ≡ answer.End next → Opened wanted next
-      opened o next q =
-          let a = asked-is o next (sym says-it ∙ ap says q) in
-          let held = lent-book octets used o (a .is) in
-          let whole = length-take-le used octets (omega (arith, held .room, held .most)) in
-          record {
-            asked = a;
-            image = book-image octets used (bookIn octets used) held;
-            whole = whole;
-            small = omega (arith, whole, held .most);
-          }
-
-  pub opened-lent : {wanted next : ℕ} → Opened wanted next → (next ≤ length s) × (length s ≤ longest) × (length (take used octets) ≤ bookRoom) × Holds (take used octets)
-  opened-lent o = let a = o .asked in (omega (arith, a .place, a .room), a .short, o .small, record { book = bookIn octets used; image = o .image })
-
-  -- A row is asked as the step reads it, and so is a layout.
-  pub row-unasked : (n p : ℕ) → bookAsked 2 s at rows octets used ≡ no n p → rowAsked s at rows octets used ≡ no n p
-  unfolding rowAsked
-  row-unasked n p e = rw e refl
-
-  pub row-asked : {next : ℕ} → Asked 2 s at rows octets used next → rowAt (bookIn octets used) s next ≡ rowAsked s at rows octets used
-  unfolding rowAsked
-  row-asked a = ap (rowAt (bookIn octets used) s) (a .place) ∙ sym (rw (asked 2 a, element-row s at rows (bookIn octets used) (a .room) (a .kind)) (go (rowAt (bookIn octets used) s (at + 4))))
-    where
-      go : (r : Read Row) → ((r then λ x end. ok (record { element = item (row x); rows = rows + 1; book = bookIn octets used }) end) then λ (st : Stepped) next. rowOf at (st .element) next) ≡ r
-      go (ok x end) = refl
-      go (no n p) = refl
-
-  pub layout-unasked : (n p : ℕ) → bookAsked 1 s at rows octets used ≡ no n p → layoutAsked s at rows octets used ≡ no n p
+  pub layout-unopened : (n p : ℕ) → bookAsked 1 s at rows octets used ≡ no n p → layoutAsked s at rows octets used ≡ no n p
   unfolding layoutAsked
-  layout-unasked n p e = rw e refl
+  layout-unopened n p e = rw e refl
 
-  pub layout-asked : {next : ℕ} → Asked 1 s at rows octets used next → layoutOver (bookIn octets used) s next ≡ layoutAsked s at rows octets used
+  pub layout-opened : Opened 1 s at rows octets used → layoutAsked s at rows octets used ≡ layoutOver (bookIn octets used) s at
   unfolding layoutAsked layoutOver
-  layout-asked a = ap (layoutOver (bookIn octets used) s) (a .place) ∙ sym (rw (asked 1 a, element-layout s at rows (bookIn octets used) (a .room) (a .kind)) (go (layoutAt s (at + 4))))
+  layout-opened o = rw (o .is, element-layout s at rows (bookIn octets used) (o .lent .room) (o .kind)) (go (layoutAt s (at + 4)))
     where
       learnt : (l : Layout) (end : ℕ) (r : Read Book)
           → ((r then λ b _. ok (record { element = item (layout l); rows = rows; book = b }) end) then λ (st : Stepped) next. layoutOf at (st .element) next) ≡ (r then λ _ _. ok l end)
@@ -159,52 +141,7 @@ module _ (s : List ℕ) (at rows : ℕ) (octets : List ℕ) (used : ℕ) where
       go (ok l end) = learnt l end (learn (bookIn octets used) l (at + 4))
       go (no n p) = refl
 
--- A layout over a book, by what learning it answers.
-module _ (book : Book) (s : List ℕ) (at : ℕ) where
-  pub over-refused : (n p : ℕ) → ends (layoutAt s at) ≡ no n p → ends (layoutOver book s at) ≡ no n p
-  unfolding layoutOver
-  over-refused n p e = stop (layoutAt s at) _ n p e
-
-  module _ (l : Layout) (end : ℕ) (e : layoutAt s at ≡ ok l end) where
-    pub over-unlearnt : (n p : ℕ) → learn book l at ≡ no n p → ends (layoutOver book s at) ≡ no n p
-    unfolding layoutOver
-    over-unlearnt n p f = rw (e, f) refl
-
-    pub over-learnt : (more : Book) (x : ℕ) → learn book l at ≡ ok more x → ends (layoutOver book s at) ≡ ok end end
-    unfolding layoutOver
-    over-learnt more x f = rw (e, f) refl
-
-  over-forth : {l : Layout} {end : ℕ} → layoutOver book s at ≡ ok l end → layoutAt s at ≡ ok l end
-  unfolding layoutOver
-  over-forth e =
-      after (layoutAt s at) _ e λ m last e₁ e₂.
-      after (learn book m at) _ e₂ λ more x e₃ e₄. e₁ ∙ e₄
-
--- A layout that is asked for stands behind its kind.
-module _ (s : List ℕ) (at rows : ℕ) (octets : List ℕ) (used : ℕ) where
-  pub record Layed (next : ℕ) : Type 0 where
-    pub layout : Layout
-    pub is : layoutAsked s at rows octets used ≡ ok layout next
-    pub short : length s ≤ longest
-    pub room : at + 4 ≤ length s
-    pub stands : layoutAt s (at + 4) ≡ ok layout next
-
-  at-layout : {l : Layout} {next : ℕ} → Each Octet octets → layoutAsked s at rows octets used ≡ ok l next → (mid : ℕ) × Asked 1 s at rows octets used mid
-  unfolding layoutAsked
-  at-layout o e = after (bookAsked 1 s at rows octets used) _ e λ book mid e₁ e₂. (mid, asked-is s at rows octets used 1 o mid (ap ends e₁))
-
-  pub layed : Each Octet octets → (r : Ended) → says r ≡ ends (layoutAsked s at rows octets used) → (next : ℕ) → r ≡ answer.End next → Layed next
-  layed o r says-it next q =
-      let (l, e) = ended (layoutAsked s at rows octets used) next (sym says-it ∙ ap says q) in
-      let (mid, a) = at-layout o e in
-      record {
-        layout = l;
-        is = e;
-        short = a .short;
-        room = a .room;
-        stands = over-forth (bookIn octets used) s (at + 4) (ap (layoutOver (bookIn octets used) s) (sym (a .place)) ∙ (layout-asked s at rows octets used a ∙ e));
-      }
-
+  -- Attribute n of it: as the layout is refused, none, or it stands at its place.
   module _ (n : ℕ) where
     pub attribute-unasked : (m p : ℕ) → layoutAsked s at rows octets used ≡ no m p → attributeAsked s at rows octets used n ≡ no m p
     unfolding attributeAsked
@@ -214,18 +151,32 @@ module _ (s : List ℕ) (at rows : ℕ) (octets : List ℕ) (used : ℕ) where
     unfolding attributeAsked
     attribute-asked l next e = rw e refl
 
-    -- Attribute n of it: there is none, or it stands at its place.
-    module _ {next : ℕ} (l : Layed next) where
-      pub attribute-none : length (l .layout .attributes) ≤ n → attributeAsked s at rows octets used n ≡ no 18 at
-      attribute-none h = attribute-asked (l .layout) next (l .is) ∙ nth-none n at (l .layout .attributes) next h
+    module _ {q : ℕ} (l : Standing s (layoutAt s) (layoutAsked s at rows octets used) q) where
+      pub attribute-none : length (l .item .attributes) ≤ n → attributeAsked s at rows octets used n ≡ no 18 at
+      attribute-none h = attribute-asked (l .item) (l .next) (l .is) ∙ nth-none n at (l .item .attributes) (l .next) h
 
-      pub attribute-stands : (p : ℕ) → Nth s (l .layout .attributes) n p → Standing s (attributeAt s) (attributeAsked s at rows octets used n) p
+      pub attribute-stands : (p : ℕ) → Nth s (l .item .attributes) n p → Standing s (attributeAt s) (attributeAsked s at rows octets used n) p
       attribute-stands p a =
           record {
             item = a .attribute;
-            next = next;
+            next = l .next;
             last = a .next;
-            is = attribute-asked (l .layout) next (l .is) ∙ nth-some n at (l .layout .attributes) next (a .is);
+            is = attribute-asked (l .item) (l .next) (l .is) ∙ nth-some n at (l .item .attributes) (l .next) (a .is);
             reads = a .reads;
             short = l .short;
           }
+
+-- A layout over a book, by what learning it answers.
+module _ (book : Book) (s : List ℕ) (at : ℕ) where
+  pub over-refused : (n p : ℕ) → ends (layoutAt s (at + 4)) ≡ no n p → layoutOver book s at ≡ no n p
+  unfolding layoutOver
+  over-refused n p e = rw (refused (layoutAt s (at + 4)) n p e) refl
+
+  module _ (l : Layout) (end : ℕ) (e : layoutAt s (at + 4) ≡ ok l end) where
+    pub over-unlearnt : (n p : ℕ) → learn book l (at + 4) ≡ no n p → layoutOver book s at ≡ no n p
+    unfolding layoutOver
+    over-unlearnt n p f = rw (e, f) refl
+
+    pub over-learnt : length s ≤ longest → (more : Book) (x : ℕ) → learn book l (at + 4) ≡ ok more x → Standing s (layoutAt s) (layoutOver book s at) (at + 4)
+    unfolding layoutOver
+    over-learnt short more x f = record { item = l; next = end; last = end; is = rw (e, f) refl; reads = e; short = short }

@@ -1,5 +1,3 @@
 pub mod Asked
-pub mod Line
-pub mod Spelt
 pub mod After
 pub mod Contracts

@@ -9,7 +9,7 @@ use native.Mathlib.Nat.{le-refl}
 use lib.ListN.{length}
 use lib.Dec.{leb, eqb, ltb}
 use borrow.Author.Tests.{leb-true}
-use Rattle.octets.specs.Reading.{Read, ok, no, be, number}
+use Rattle.octets.specs.Reading.{Read, ok, no, _then_, be, number}
 use Rattle.octets.specs.declared.Room.the-variants.{Document, Stated}
 use Rattle.octets.specs.Writing.{Each, Octet, images}
 use Rattle.octets.proofs.Spans.{moved}
@@ -21,6 +21,11 @@ use Rattle.rows.specs.Row.{Field, Row, fieldsIn, filled, valuesAt, named
 use Rattle.rows.specs.Answers.{Shape, shape}
 use Rattle.rows.proofs.Rows.{fields-inverse}
 use Rattle.rows.proofs.Lengths.{values-length}
+
+-- A row is its number, and what the layout of that number gives.
+pub row-by : (b : Book) (s : List ℕ) (at : ℕ) → rowAt b s at ≡ (number 4 s at then λ n next. named s at n next (find n b))
+unfolding rowAt
+row-by b s at = refl
 
 -- A row that was read has the number by which its layout was found.
 named-number : (s : List ℕ) (at n p : ℕ) (o : Option Layout) (r : Row) (end : ℕ) → named s at n p o ≡ ok r end → (r .number ≡ n) × ((l : Layout) × (o ≡ some l))

@@ -7,14 +7,13 @@ use mathlib.Core.Path.{_≡_, sym, ap, _∙_}
 use mathlib.Core.List.{List}
 use Rattle.octets.specs.Reading.{ok}
 use lib.ListN.{length, take}
-use lib.Seq.{length-take-le}
 use Rattle.octets.specs.Writing.{Each, Octet}
 use Rattle.octets.proofs.Spans.{each-octet}
 use Rattle.layouts.specs.Book.{Book, bookIn}
 use Rattle.layouts.specs.Answers.{Image}
 use Rattle.layouts.proofs.Books.{Lent}
 use Rattle.layouts.proofs.Lends.{stood}
-use Rattle.layouts.proofs.Walks.{lent-book, book-image}
+use Rattle.layouts.proofs.Walks.{lent-book, book-image, lent-length}
 use Rattle.elements.specs.Element.{elementAt}
 use Rattle.elements.specs.Steps.{octetsLeft, holding}
 use Rattle.elements.specs.Answers.{tells, Over}
@@ -61,7 +60,7 @@ module _ (k : Known) where
   image = book-image lent used book held
 
   used-length : length (take used lent) ≡ used
-  used-length = length-take-le used lent (omega (arith, held .room, held .most))
+  used-length = lent-length lent used held
 
 look-in-requires : tie.Need-look-in-requires
 look-in-requires c κs = let k = c .before .before in (omega (arith, used-length k, held k .most), record { book = book k; image = image k })

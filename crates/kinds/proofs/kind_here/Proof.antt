@@ -1,7 +1,7 @@
 -- `kinds::kind_here` meets its contract: an accepted type's number has its two octets and no more. Assumes nothing.
 use native.Mathlib.Omega.{arith}
 use Prim.Native.Nat.{ℕ, _/_, _%_, _<_, _≤_}
-use mathlib.Core.Path.{_≡_, sym, ap, _∙_, subst}
+use mathlib.Core.Path.{sym, ap, _∙_, subst}
 use denote.Ref.{now}
 use Rattle.octets.proofs.Ends.{value-is}
 use Rattle.kinds.specs.Kinds.{kindAt}

@@ -4,12 +4,11 @@ use Prim.Native.Nat.{ℕ}
 use mathlib.Core.Path.{_≡_, sym}
 use mathlib.Core.List.{List}
 use lib.ListN.{length, take}
-use lib.Seq.{length-take-le}
 use denote.Ref.{now}
 use Rattle.octets.proofs.Spans.{each-octet}
 use Rattle.layouts.specs.Book.{Book, bookIn}
 use Rattle.layouts.proofs.Books.{Lent}
-use Rattle.layouts.proofs.Walks.{lent-book, book-image}
+use Rattle.layouts.proofs.Walks.{lent-book, book-image, lent-length}
 use Rattle.layouts.proofs.find.Statement.{statement}
 use Rattle.layouts.proofs.find.Tie as tie
 
@@ -30,7 +29,7 @@ lent : (k : Known) → Lent (Octets k) (Used k) (Held k)
 lent k = lent-book (Octets k) (Used k) (each-octet (Octets k) (k .shared-slice-known .given)) (k .before .pre)
 
 used-length : (k : Known) → length (take (Used k) (Octets k)) ≡ Used k
-used-length k = length-take-le (Used k) (Octets k) (omega (arith, lent k .room, lent k .most))
+used-length k = lent-length (Octets k) (Used k) (lent k)
 
 look-in-requires : tie.Need-look-in-requires
 look-in-requires c κs =

@@ -11,7 +11,7 @@ use Rattle.octets.specs.Writing.{images}
 use Rattle.rows.specs.Row.{Row}
 use Rattle.questions.specs.Questions.{rowAsked}
 use Rattle.octets.proofs.Asked.{nth-some}
-use Rattle.questions.proofs.Line.{field-asked}
+use Rattle.questions.proofs.Asked.{field-asked}
 use Rattle.printing.specs.Text.{Prints, spelt}
 use Rattle.printing.proofs.Puts.{then, says, nothing, images-none}
 use Rattle.lines.specs.Lines.{numbered, fieldText}

@@ -1,4 +1,4 @@
--- `questions::value_at` meets its contract: each type by the number of its width that stands there, signed where the type is. Assumes nothing.
+-- `row_fields::value_at` meets its contract: each type by the number of its width that stands there, signed where the type is. Assumes nothing.
 use borrow.Author.Needs.{needs}
 use Prim.Native.Nat.{ℕ, _+_, _≤_}
 use denote.Ref.{now}
@@ -12,12 +12,11 @@ use Rattle.kinds.specs.Kinds.{formBy}
 use Rattle.kinds.specs.declared.Basic.{Basic}
 use Rattle.kinds.specs.declared.Basic.the-variants as basic
 use Rattle.kinds.specs.declared.Value.the-variants as value
-use Rattle.kinds.specs.Values.{numeral}
-use Rattle.kinds.specs.Values.{valueOf}
-use Rattle.questions.specs.Places.{Stood}
-use Rattle.questions.proofs.Spelt.{Wide, stood-room, stood-says}
-use Rattle.questions.proofs.value_at.Statement.{statement}
-use Rattle.questions.proofs.value_at.Tie as tie
+use Rattle.kinds.specs.Values.{numeral, valueOf}
+use Rattle.row_fields.specs.Places.{Stood}
+use Rattle.row_fields.proofs.Spelt.{Wide, stood-room, stood-says}
+use Rattle.row_fields.proofs.value_at.Statement.{statement}
+use Rattle.row_fields.proofs.value_at.Tie as tie
 
 -- The value by its type, where the octets of the document are known.
 module _ (k : tie.After-shared-slice-known) where

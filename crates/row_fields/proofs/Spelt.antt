@@ -16,9 +16,8 @@ use Rattle.kinds.specs.declared.Form.{Form}
 use Rattle.kinds.specs.declared.Form.the-variants as form
 use Rattle.kinds.specs.Kinds.{formBy}
 use Rattle.kinds.specs.Forms.{Value, bits, valueIn}
-use Rattle.kinds.specs.Values.{numeral}
-use Rattle.kinds.specs.Values.{bitsOf, octetsOf, valueOf}
-use Rattle.questions.specs.Places.{Stood, isHeld}
+use Rattle.kinds.specs.Values.{numeral, bitsOf, octetsOf, valueOf}
+use Rattle.row_fields.specs.Places.{Stood, isHeld}
 
 module _ (s : List ℕ) (end at : ℕ) where
   number-stood : (w : ℕ) {n next : ℕ} → numberIn (Stated end 0) w s at ≡ ok n next → (at + w ≤ end) × (n ≡ be w s at) × (next ≡ at + w)

@@ -1,9 +1,9 @@
--- `questions::value_place` meets its contract: the values of the first n attributes end where value n stands; in a row that is accepted they do end. Assumes nothing.
+-- `row_fields::value_place` meets its contract: the values of the first n attributes end where value n stands; in a row that is accepted they do end. Assumes nothing.
 use borrow.Author.Needs.{needs}
 use native.Mathlib.Omega.{arith}
 use Prim.Native.Nat.{ℕ, _+_, _<_}
 use denote.Ref.{now}
-use mathlib.Core.Path.{_≡_, refl, sym, ap, _∙_, subst}
+use mathlib.Core.Path.{_≡_, sym, ap, _∙_, subst}
 use mathlib.Core.List.{List}
 use lib.ListN.{length, take}
 use Rattle.octets.specs.Reading.{ok, ends, isOk, run}
@@ -14,9 +14,9 @@ use Rattle.layouts.proofs.Parts.{layout-fields}
 use Rattle.rows.specs.Row.{fieldsIn}
 use Rattle.octets.specs.Answers.{says}
 use Rattle.octets.specs.declared.Ended.{Ended}
-use Rattle.questions.proofs.Line.{run-front, walk, nth-field}
-use Rattle.questions.proofs.value_place.Statement.{statement}
-use Rattle.questions.proofs.value_place.Tie as tie
+use Rattle.row_fields.proofs.Line.{run-front, walk, nth-field}
+use Rattle.row_fields.proofs.value_place.Statement.{statement}
+use Rattle.row_fields.proofs.value_place.Tie as tie
 
 -- The first n attributes of each layout that stands there.
 abbrev Found : Type 0

@@ -1,4 +1,4 @@
--- `questions::row_here` meets its contract: the row over the layout that was looked up, or its refusal. Assumes nothing.
+-- `row_fields::row_here` meets its contract: the row over the layout that was looked up, or its refusal. Assumes nothing.
 use borrow.Author.Needs.{needs}
 use native.Mathlib.Omega.{arith}
 use Prim.Native.Nat.{ℕ}
@@ -11,8 +11,8 @@ use Rattle.layouts.specs.declared.Looked.{Looked}
 use Rattle.layouts.specs.Answers.{Image, Looks}
 use Rattle.rows.specs.Answers.{rowSays}
 use Rattle.rows.proofs.RowLaws.{row-unnumbered, row-unknown, row-unshaped, row-taken}
-use Rattle.questions.proofs.row_here.Statement.{statement}
-use Rattle.questions.proofs.row_here.Tie as tie
+use Rattle.row_fields.proofs.row_here.Statement.{statement}
+use Rattle.row_fields.proofs.row_here.Tie as tie
 
 returns : tie.Need-returns
 returns c = λ b i. let a = c .before .before .before .args in row-unnumbered (now (a .doc)) (a .at) b (c .if1 .taken)

@@ -1,28 +1,24 @@
 -- Field n of a row stands behind the values before it: it is found by going over the attributes.
-use Prim.Native.Nat.{ℕ, zero, suc, _≤_, _<_}
+use Prim.Native.Nat.{ℕ, zero, suc, _+_, _≤_, _<_}
 use mathlib.Core.Path.{_≡_, refl, ap, _∙_, subst}
 use mathlib.Core.List.{List, [], _∷_}
 use native.Mathlib.Omega.{arith}
 use lib.ListN.{length, take, drop}
-use lib.Seq.{length-take-le}
 use Rattle.octets.specs.Reading.{Read, ok, no, ends, run}
 use Rattle.octets.specs.declared.Room.{Room}
 use Rattle.octets.specs.declared.Room.the-variants.{Stated}
-use Rattle.octets.specs.Asked.{nth}
-use Rattle.octets.specs.Writing.{Each, Octet}
 use Rattle.octets.proofs.Inverse.{after, ok-value, ok-place}
 use Rattle.octets.proofs.Asked.{nth-none, nth-some}
 use Rattle.kinds.specs.Kinds.{formOf}
+use Rattle.kinds.specs.declared.Kind.{Kind}
 use Rattle.layouts.specs.Layout.{Attribute}
+use Rattle.layouts.specs.Book.{Book}
 use Rattle.layouts.specs.Answers.{Nth}
-use Rattle.layouts.proofs.Walks.{lent-book}
-use Rattle.rows.specs.Row.{Field, Row, fieldsIn}
+use Rattle.rows.specs.Row.{Field, fieldsIn, rowAt}
 use Rattle.kinds.specs.Forms.{valueIn}
 use Rattle.rows.proofs.Values.{fields-none, fields-on}
 use Rattle.rows.proofs.Lengths.{fields-length}
-use Rattle.questions.specs.Questions.{bookAsked, rowAsked, fieldAsked}
-use Rattle.questions.specs.Places.{Line, NthField, Spotted}
-use Rattle.questions.proofs.Asked.{asked-is}
+use Rattle.row_fields.specs.Places.{Line, NthField, Stood, Spotted, fieldOver}
 
 -- Field n of fields that are read: where the values before it end, its own stands.
 pub record Walked (room : Room) (xs : List Attribute) (s : List ℕ) (at : ℕ) (fields : List Field) (n : ℕ) : Type 0 where
@@ -106,56 +102,42 @@ nth-field s end first n p xs fields e h f =
       reads = subst (λ (q : ℕ). valueIn (Stated end 0) (formOf (w .field .attribute .kind)) s q ≡ ok (w .field .value) (w .next)) same (w .reads);
     }
 
--- A field that is asked for, by the row.
-module _ (s : List ℕ) (at rows : ℕ) (octets : List ℕ) (used : ℕ) where
-  -- The used octets of a book over which a row is accepted.
-  pub used-whole : {r : Row} {end : ℕ} → Each Octet octets → rowAsked s at rows octets used ≡ ok r end → length (take used octets) ≡ used
-  unfolding rowAsked
-  used-whole o e =
-      after (bookAsked 2 s at rows octets used) _ e λ book mid e₁ e₂.
-      let a = asked-is s at rows octets used 2 o mid (ap ends e₁) in
-      let l = lent-book octets used o (a .is) in
-      length-take-le used octets (omega (arith, l .room, l .most))
+-- The value of a field that was found is one of its type.
+unfoldable pub field-stood : {s book : List ℕ} {read : Read Field} {attribute value : ℕ} (p : Spotted s book read attribute value) (k : Kind) → k ≡ p .field .attribute .kind → Stood s (k .basic) value
+field-stood p k e = record { value = p .field .value; end = p .end; next = p .after; inside = p .inside; reads = rw e (p .reads) }
 
-  pub field-used : (n : ℕ) {f : Field} {end : ℕ} → Each Octet octets → fieldAsked s at rows octets used n ≡ ok f end → length (take used octets) ≡ used
-  unfolding fieldAsked
-  field-used n o e = after (rowAsked s at rows octets used) _ e λ r next e₁ e₂. used-whole o e₁
+-- Field n of a row: the row's refusal, none where it has no more than n, or the places of its attribute and value.
+module _ (b : Book) (s : List ℕ) (at n : ℕ) where
+  pub field-unread : (m p : ℕ) → rowAt b s (at + 4) ≡ no m p → fieldOver b s at n ≡ no m p
+  unfolding fieldOver
+  field-unread m p e = rw e refl
 
-  module _ (n : ℕ) where
-    pub field-unasked : (m p : ℕ) → rowAsked s at rows octets used ≡ no m p → fieldAsked s at rows octets used n ≡ no m p
-    unfolding fieldAsked
-    field-unasked m p e = rw e refl
+  module _ (book : List ℕ) (place count first end : ℕ) (l : Line s book (rowAt b s (at + 4)) place count first end) where
+    many : length (l .row .fields) ≡ count
+    many = fields-length (Stated end 0) (l .layout .attributes) s first (l .fields) ∙ l .counts
 
-    pub field-asked : (r : Row) (next : ℕ) → rowAsked s at rows octets used ≡ ok r next → fieldAsked s at rows octets used n ≡ nth n at (r .fields) next
-    unfolding fieldAsked
-    field-asked r next e = rw e refl
+    pub field-none : count ≤ n → fieldOver b s at n ≡ no 18 at
+    unfolding fieldOver
+    field-none h = rw (l .is) (nth-none n at (l .row .fields) end (omega (arith, many)))
 
-    module _ (place count first end : ℕ) (l : Line s (take used octets) (rowAsked s at rows octets used) place count first end) where
-      many : length (l .row .fields) ≡ count
-      many = fields-length (Stated end 0) (l .layout .attributes) s first (l .fields) ∙ l .counts
-
-      pub field-none : count ≤ n → fieldAsked s at rows octets used n ≡ no 18 at
-      unfolding fieldAsked
-      field-none h = rw (l .is) (nth-none n at (l .row .fields) end (omega (arith, many)))
-
-      pub field-spotted : (attribute value : ℕ) → Nth (take used octets) (l .layout .attributes) n attribute → NthField s end (l .layout .attributes) (l .row .fields) n value
-          → Spotted s (take used octets) (fieldAsked s at rows octets used n) attribute value
-      unfolding fieldAsked
-      field-spotted attribute value a f =
-          let same : a .attribute ≡ f .field .attribute = head-same (a .is) (f .names) in
-          record {
-            field = f .field;
-            next = end;
-            end = end;
-            last = a .next;
-            after = f .next;
-            is = rw (l .is) (nth-some n at (l .row .fields) end (f .is));
-            names = a .reads ∙ ap (λ (x : Attribute). ok x (a .next)) same;
-            reads = f .reads;
-            inside = l .inside;
-            short = l .short;
-            small = l .small;
-          }
-        where
-          head-same : {A : Type 0} {xs : List A} {x y : A} {us vs : List A} → xs ≡ x ∷ us → xs ≡ y ∷ vs → x ≡ y
-          head-same p q = cc
+    pub field-spotted : (attribute value : ℕ) → Nth book (l .layout .attributes) n attribute → NthField s end (l .layout .attributes) (l .row .fields) n value
+        → Spotted s book (fieldOver b s at n) attribute value
+    unfolding fieldOver
+    field-spotted attribute value a f =
+        let same : a .attribute ≡ f .field .attribute = head-same (a .is) (f .names) in
+        record {
+          field = f .field;
+          next = end;
+          end = end;
+          last = a .next;
+          after = f .next;
+          is = rw (l .is) (nth-some n at (l .row .fields) end (f .is));
+          names = a .reads ∙ ap (λ (x : Attribute). ok x (a .next)) same;
+          reads = f .reads;
+          inside = l .inside;
+          short = l .short;
+          small = l .small;
+        }
+      where
+        head-same : {A : Type 0} {xs : List A} {x y : A} {us vs : List A} → xs ≡ x ∷ us → xs ≡ y ∷ vs → x ≡ y
+        head-same p q = cc
