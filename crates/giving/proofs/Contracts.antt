@@ -4,7 +4,6 @@ use mathlib.Core.Path.{_≡_, refl, sym, ap, _∙_}
 use mathlib.Core.List.{List, []}
 use Rattle.octets.specs.Contracts.{Once}
 use Rattle.octets.proofs.Alike.{_also_}
-use Rattle.writing_parts.proofs.Contracts.{says-once}
 use Rattle.writer.specs.declared.Wanted.the-variants as wants
 use Rattle.writer.specs.declared.Answer.{Answer}
 use Rattle.writer.specs.Answers.{Left, left}
@@ -61,23 +60,23 @@ pub contracts : Contracts
 contracts =
     record {
       of-same-turn = λ κs a p x y u v e f. (e ∙ sym f, refl);
-      of-ready = λ κs a p x y u v e f. (says-once x y (e ∙ sym f), refl);
+      of-ready = λ κs a p x y u v e f. (e ∙ sym f, refl);
       of-give-on = λ κs a p x y u v e f. let q = one-answer (e wants.Recorder []) (f wants.Recorder []) in (q .0, refl also q .1 also refl);
       of-give = λ κs a p x y u v e f. let q = one-answer e f in (q .0, refl also q .1 also refl);
       of-give-text = λ κs a p x y u v e f. let q = one-answer e f in (q .0, refl also q .1 also refl);
       of-give-number = λ κs a p x y u v e f. let q = one-answer e f in (q .0, refl also q .1 also refl);
       of-give-pair = λ κs a p x y u v e f. let q = one-answer e f in (q .0, refl also q .1 also refl);
-      of-at-most = λ κs a p x y u v e f. (says-once x y (e ∙ sym f), refl);
-      of-sixteen = λ κs a p x y u v e f. (says-once x y (e ∙ sym f), refl);
+      of-at-most = λ κs a p x y u v e f. (e ∙ sym f, refl);
+      of-sixteen = λ κs a p x y u v e f. (e ∙ sym f, refl);
       of-less-one = λ κs a p x y u v e f. (e ∙ sym f, refl);
       of-give-count = λ κs a p x y u v e f. let q = one-answer e f in (q .0, refl also q .1 also refl);
       of-give-item = λ κs a p x y u v e f. let q = one-answer e f in (q .0, refl also q .1 also refl);
       of-give-attribute = λ κs a p x y u v e f. let q = one-answer e f in (q .0, refl also q .1 also q .2 also refl);
-      of-type-fault = λ κs a p x y u v e f. (says-once x y (e ∙ sym f), refl);
-      of-layout-fault = λ κs a p x y u v e f. (says-once x y (e ∙ sym f), refl);
+      of-type-fault = λ κs a p x y u v e f. (e 0 0 ∙ sym (f 0 0), refl);
+      of-layout-fault = λ κs a p x y u v e f. (e ∙ sym f, refl);
       of-suits-number = λ κs a p x y u v e f. (e ∙ sym f, refl);
       of-width-of = λ κs a p x y u v e f. (e .0 ∙ sym (f .0), refl);
       of-suits-octets = λ κs a p x y u v e f. (e [] ∙ sym (f []), refl);
-      of-close-fault = λ κs a p x y u v e f. (says-once x y (e ∙ sym f), refl);
+      of-close-fault = λ κs a p x y u v e f. (e ∙ sym f, refl);
       of-is-open = λ κs a p x y u v e f. (e ∙ sym f, refl);
     }

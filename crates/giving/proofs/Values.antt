@@ -11,7 +11,6 @@ use lib.Seq.{drop-append-le}
 use lib.Dec.{leb, eqb}
 use borrow.Author.Tests.{le-leb, lt-leb}
 use Rattle.octets.specs.Limits.{mostRows}
-use Rattle.octets.specs.Reading.{no, _then_}
 use Rattle.octets.specs.Writing.{word, Each, Octet}
 use Rattle.octets.proofs.Spans.{length-word}
 use Rattle.octets.proofs.Copies.{rest}
@@ -24,19 +23,21 @@ use Rattle.layouts.specs.Layout.{Attribute, Layout}
 use Rattle.layouts.specs.Book.{IsBook}
 use Rattle.layouts.proofs.Checks.{good-book}
 use Rattle.kinds.specs.Forms.{Value, bits, valueImage}
+use Rattle.writing_parts.specs.declared.Fault.the-variants.{Refused}
+use Rattle.writing_parts.specs.Faults.{unless}
 use Rattle.writing_parts.specs.Answers.{firstOf, nextOf}
 use Rattle.writing_parts.specs.declared.Next.{Next}
 use Rattle.writing_parts.specs.declared.Next.the-variants as next
 use Rattle.writer.specs.declared.Wanted.the-variants as wants
 use Rattle.writer.specs.declared.State.{State}
-use Rattle.writer.specs.Writer.{room, sameTurn, unless, inBook, suits, isNext}
+use Rattle.writer.specs.Writer.{room, sameTurn, inBook, suits, isNext}
 use Rattle.giving.specs.Answers.{widthOf, valueFault, closeFault}
 use Rattle.writer.proofs.Bounds.{bounds, turn-count, open-head}
 use Rattle.writer.proofs.Tests.{Ready}
 
 -- A value's own fault, by the next field.
 pub value-own : (o : Option Layout) (n : ℕ) (b : Basic) (v : Value)
-    → valueFault (nextOf o n) b (suits (formBy b) v) ≡ (inBook o then λ l _. unless (isNext (drop n (l .attributes)) b v) 21)
+    → valueFault (nextOf o n) b (suits (formBy b) v) ≡ inBook o (λ l. unless (isNext (drop n (l .attributes)) b v) 21)
 value-own none n b v = refl
 value-own (some l) n b v = go (drop n (l .attributes))
   where
@@ -45,17 +46,17 @@ value-own (some l) n b v = go (drop n (l .attributes))
     go (a ∷ rest) = refl
 
 -- A value that does not suit its own type is always refused.
-pub unfit : (x : Next) (b : Basic) → (n : ℕ) × (valueFault x b false ≡ no n 0)
+pub unfit : (x : Next) (b : Basic) → (n : ℕ) × (valueFault x b false ≡ Refused n)
 unfit next.Unknown b = (12, refl)
 unfit next.Missing b = (21, refl)
 unfit (next.Of a) b = (21, go (eqb (codeOf a) (codeOf b)))
   where
-    go : (t : Bool) → unless (t && false) 21 ≡ no 21 0
+    go : (t : Bool) → unless (t && false) 21 ≡ Refused 21
     go true = refl
     go false = refl
 
 -- The own fault of closing a row, by the next field.
-pub close-own : (o : Option Layout) (n : ℕ) → closeFault (nextOf o n) ≡ (inBook o then λ l _. unless (leb (length (l .attributes)) n) 22)
+pub close-own : (o : Option Layout) (n : ℕ) → closeFault (nextOf o n) ≡ inBook o (λ l. unless (leb (length (l .attributes)) n) 22)
 close-own none n = refl
 close-own (some l) n = go (drop n (l .attributes)) (length-drop n (l .attributes))
   where

@@ -7,14 +7,13 @@ ghost use mathlib.Core.List.{List, _++_};
 ghost use Prim.Native.Nat.{ℕ, _-_, _≤_};
 ghost use lib.ListN.{length};
 ghost use lib.Dec.{leb, eqb};
-ghost use Rattle.octets.specs.Reading.{_then_};
 ghost use Rattle.octets.specs.Writing.{word, ledImage};
 ghost use Rattle.kinds.specs.Kinds.{formBy, kindOf};
 ghost use Rattle.layouts.specs.Book.{find, bookIn, IsBook};
 ghost use Rattle.kinds.specs.Forms.{Value, bits, held, valueImage};
-ghost use Rattle.writing_parts.specs.Answers.{says};
-ghost use Rattle.writer.specs.Writer.{room, rule, orderOf, sameTurn, single, listed, isOpen, bounded, fine, unless, put, puts, attributes, turnAt, counts, lists, inBook, suits, early, value};
-ghost use Rattle.writer.specs.Answers.{left, deedLeaves, restLeaves, callLeaves};
+ghost use Rattle.writing_parts.specs.Faults.{fine, unless, refusedBy};
+ghost use Rattle.writer.specs.Writer.{room, rule, orderOf, sameTurn, single, listed, isOpen, bounded, put, puts, attributes, turnAt, counts, lists, inBook, suits, value};
+ghost use Rattle.writer.specs.Answers.{left, early, deedLeaves, restLeaves, callLeaves};
 ghost use Rattle.giving.specs.Answers.{widthOf, valueFault, closeFault};
 use kinds::Basic;
 use kinds::Form;
@@ -147,7 +146,7 @@ fn in_bounds(s: State, len: usize) -> bool
 
 // 17 for the book, then 20 for a state out of its bounds or a call out of turn.
 pub fn ready(s: State, len: usize, book: &[u8], used: usize, mine: bool) -> Fault
-    ensures { λ r. ⌜ says r ≡ early s len (now (book .entry)) used mine ⌝ }
+    ensures { λ r. ⌜ r ≡ early s len (now (book .entry)) used mine ⌝ }
 {
     if !layouts::is_book(book, used) {
         return Fault::Refused(17);
@@ -176,7 +175,7 @@ pub fn give_on(
     start: usize,
 ) -> Answer
     requires { ⌜ s .place ≤ room (length (now buf)) ⌝ }
-    ensures { λ r. ⌜ ((turn : Wanted) (lent : List ℕ) → left r (now (buf .exit)) lent ≡ restLeaves s (now (buf .entry)) lent used (put s turn (says fault) (now (head .entry) ++ (now (body .entry) ++ now (tail .entry))) next count start)) ⌝ }
+    ensures { λ r. ⌜ ((turn : Wanted) (lent : List ℕ) → left r (now (buf .exit)) lent ≡ restLeaves s (now (buf .entry)) lent used (put s turn fault (now (head .entry) ++ (now (body .entry) ++ now (tail .entry))) next count start)) ⌝ }
 {
     let place = s.place;
     let rows = s.rows;
@@ -214,7 +213,7 @@ pub fn give(
     count: u32,
     start: usize,
 ) -> Answer
-    ensures { λ r. ⌜ left r (now (buf .exit)) (now (book .entry)) ≡ deedLeaves s (now (buf .entry)) (now (book .entry)) used (put s turn (says fault) (now (head .entry) ++ (now (body .entry) ++ now (tail .entry))) next count start) ⌝ }
+    ensures { λ r. ⌜ left r (now (buf .exit)) (now (book .entry)) ≡ deedLeaves s (now (buf .entry)) (now (book .entry)) used (put s turn fault (now (head .entry) ++ (now (body .entry) ++ now (tail .entry))) next count start) ⌝ }
 {
     let place = s.place;
     let wanted = s.turn;
@@ -270,7 +269,7 @@ pub fn give_number(
     count: u32,
 ) -> Answer
     requires { ⌜ w ≤ 8 ⌝ }
-    ensures { λ r. ⌜ left r (now (buf .exit)) (now (book .entry)) ≡ deedLeaves s (now (buf .entry)) (now (book .entry)) used (puts s turn (says fault) (word w n) next count) ⌝ }
+    ensures { λ r. ⌜ left r (now (buf .exit)) (now (book .entry)) ≡ deedLeaves s (now (buf .entry)) (now (book .entry)) used (puts s turn fault (word w n) next count) ⌝ }
 {
     let head = writing_parts::word8(n);
     let from = 8 - w;
@@ -324,7 +323,7 @@ pub fn give_pair(
 
 // 4 for a count over its limit.
 pub fn at_most(n: u32, most: u32) -> Fault
-    ensures { λ r. ⌜ says r ≡ unless (leb n most) 4 ⌝ }
+    ensures { λ r. ⌜ r ≡ unless (leb n most) 4 ⌝ }
 {
     if n <= most {
         Fault::None
@@ -335,7 +334,7 @@ pub fn at_most(n: u32, most: u32) -> Fault
 
 // 5 for a document id of another length.
 pub fn sixteen(n: usize) -> Fault
-    ensures { λ r. ⌜ says r ≡ unless (eqb n 16) 5 ⌝ }
+    ensures { λ r. ⌜ r ≡ unless (eqb n 16) 5 ⌝ }
 {
     if n == 16 {
         Fault::None
@@ -405,7 +404,7 @@ fn complete(
     last: &[u8],
 ) -> Answer
     requires { ⌜ 8 ≤ rule turn .head ⌝ }
-    ensures { λ r. ⌜ left r (now (buf .exit)) (now (book .exit)) ≡ deedLeaves s (now (buf .entry)) (now (book .entry)) used (attributes s turn (says fault) (now (last .entry)) 0) ⌝ }
+    ensures { λ r. ⌜ left r (now (buf .exit)) (now (book .exit)) ≡ deedLeaves s (now (buf .entry)) (now (book .entry)) used (attributes s turn fault (now (last .entry)) 0) ⌝ }
 {
     let place = s.place;
     let start = s.start;
@@ -448,7 +447,7 @@ pub fn give_attribute(
     more: u32,
 ) -> Answer
     requires { ⌜ 8 ≤ rule turn .head ⌝ }
-    ensures { λ r. ⌜ left r (now (buf .exit)) (now (book .exit)) ≡ deedLeaves s (now (buf .entry)) (now (book .entry)) used (attributes s turn (says fault) (word 4 n) more) ⌝ }
+    ensures { λ r. ⌜ left r (now (buf .exit)) (now (book .exit)) ≡ deedLeaves s (now (buf .entry)) (now (book .entry)) used (attributes s turn fault (word 4 n) more) ⌝ }
 {
     if more == 0 {
         let last = writing_parts::word4(n as u64);
@@ -470,7 +469,7 @@ pub fn give_attribute(
 
 // 8 or 9 for a type number that means no type.
 pub fn type_fault(t: u32) -> Fault
-    ensures { λ r. ⌜ says r ≡ (kindOf 0 t 0 then λ _ _. fine) ⌝ }
+    ensures { λ r. ⌜ ((at next : ℕ) → r ≡ refusedBy (kindOf at t next)) ⌝ }
 {
     let typed = kinds::kind_of(t);
     match typed {
@@ -482,7 +481,7 @@ pub fn type_fault(t: u32) -> Fault
 // 12 for a layout that is not in the book.
 pub fn layout_fault(book: &[u8], used: usize, n: u32) -> Fault
     requires { ⌜ IsBook (now book) used ⌝ }
-    ensures { λ r. ⌜ says r ≡ (inBook (find n (bookIn (now (book .entry)) used)) then λ _ _. fine) ⌝ }
+    ensures { λ r. ⌜ r ≡ inBook (find n (bookIn (now (book .entry)) used)) (λ _. fine) ⌝ }
 {
     let looked = layouts::find(book, used, n);
     match looked {
@@ -493,7 +492,7 @@ pub fn layout_fault(book: &[u8], used: usize, n: u32) -> Fault
 
 // 12 for a row whose layout is not in the book; 21 with no field left, or for a value that is not of the next field's type.
 fn value_fault(next: Next, b: Basic, fits: bool) -> Fault
-    ensures { λ r. ⌜ says r ≡ valueFault next b fits ⌝ }
+    ensures { λ r. ⌜ r ≡ valueFault next b fits ⌝ }
 {
     match next {
         Next::Unknown => Fault::Refused(12),
@@ -587,7 +586,7 @@ pub fn suits_octets(b: Basic) -> bool
 
 // 12 for a row whose layout is not in the book; 22 for one whose next field is not given.
 pub fn close_fault(next: Next) -> Fault
-    ensures { λ r. ⌜ says r ≡ closeFault next ⌝ }
+    ensures { λ r. ⌜ r ≡ closeFault next ⌝ }
 {
     match next {
         Next::Unknown => Fault::Refused(12),

@@ -3,7 +3,6 @@ use borrow.Author.Needs.{needs}
 use mathlib.Core.Path.{sym, _∙_}
 use mathlib.Core.List.{_++_}
 use denote.Ref.{now}
-use Rattle.writing_parts.specs.Answers.{says}
 use Rattle.writer.specs.Writer.{put}
 use Rattle.writer.proofs.Bounds.{bounds}
 use Rattle.writer.proofs.Tests.{stopped, passed, at-ready}
@@ -16,7 +15,7 @@ returns c =
     let r = f .before .before in
     let t = r .before in
     let a = t .before .before .before .before .before .before .args in
-    stopped (a .s) (now (a .buf)) (now (a .book)) (a .used) (put (a .s) (a .turn) (says (a .fault)) (now (a .head) ++ (now (a .body) ++ now (a .tail))) (a .next) (a .count) (a .start))
+    stopped (a .s) (now (a .buf)) (now (a .book)) (a .used) (put (a .s) (a .turn) (a .fault) (now (a .head) ++ (now (a .body) ++ now (a .tail))) (a .next) (a .count) (a .start))
     (r .ready .result) (t .same-turn .result) (r .ready .ensures) (t .same-turn .ensures) (f .first .given .0 .0) (f .first .given .1)
 
 give-on-requires : tie.Need-give-on-requires
@@ -25,7 +24,7 @@ give-on-requires c κs =
     let r = e .before .before in
     let t = r .before in
     let a = t .before .before .before .before .before .before .args in
-    bounds (a .s) _ (at-ready (a .s) (now (a .buf)) (now (a .book)) (a .used) (put (a .s) (a .turn) (says (a .fault)) (now (a .head) ++ (now (a .body) ++ now (a .tail))) (a .next) (a .count) (a .start))
+    bounds (a .s) _ (at-ready (a .s) (now (a .buf)) (now (a .book)) (a .used) (put (a .s) (a .turn) (a .fault) (now (a .head) ++ (now (a .body) ++ now (a .tail))) (a .next) (a .count) (a .start))
     (r .ready .result) (t .same-turn .result) (r .ready .ensures) (t .same-turn .ensures) (e .enum-told .given .1) .within) .place
 
 returns-2 : tie.Need-returns-2
@@ -36,7 +35,7 @@ returns-2 c =
     let t = r .before in
     let a = t .before .before .before .before .before .before .args in
     g .give-on .ensures (a .turn) (now (a .book))
-    ∙ sym (passed (a .s) (now (a .buf)) (now (a .book)) (a .used) (put (a .s) (a .turn) (says (a .fault)) (now (a .head) ++ (now (a .body) ++ now (a .tail))) (a .next) (a .count) (a .start))
+    ∙ sym (passed (a .s) (now (a .buf)) (now (a .book)) (a .used) (put (a .s) (a .turn) (a .fault) (now (a .head) ++ (now (a .body) ++ now (a .tail))) (a .next) (a .count) (a .start))
     (r .ready .result) (t .same-turn .result) (r .ready .ensures) (t .same-turn .ensures) (e .enum-told .given .1))
 
 pub give-spec : {M : Type 1} → statement M

@@ -6,10 +6,10 @@ use Rattle.giving.proofs.type_fault.Statement.{statement}
 use Rattle.giving.proofs.type_fault.Tie as tie
 
 returns : tie.Need-returns
-returns c = let m = c .before in rw (sym (m .before .before .kind-of .ensures 0 0) ∙ ap (kinds 0 0) (m .typed .given .1)) refl
+returns c = λ at next. let m = c .before in rw (sym (m .before .before .kind-of .ensures at next) ∙ ap (kinds at next) (m .typed .given .1)) refl
 
 returns-2 : tie.Need-returns-2
-returns-2 c = let m = c .before in rw (sym (m .before .before .kind-of .ensures 0 0) ∙ ap (kinds 0 0) (m .typed2 .given .1)) refl
+returns-2 c = λ at next. let m = c .before in rw (sym (m .before .before .kind-of .ensures at next) ∙ ap (kinds at next) (m .typed2 .given .1)) refl
 
 pub type-fault-spec : {M : Type 1} → statement M
 type-fault-spec =

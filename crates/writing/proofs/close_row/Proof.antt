@@ -3,7 +3,7 @@ use borrow.Author.Needs.{needs}
 use borrow.Author.Tests.{le-leb}
 use native.Mathlib.Omega.{arith}
 use Prim.Native.Nat.{ℕ, _+_, _-_, _≤_}
-use mathlib.Core.Path.{_≡_, refl, sym, ap, _∙_}
+use mathlib.Core.Path.{_≡_, refl, sym, _∙_}
 use mathlib.Core.Bool.{Bool}
 use mathlib.Core.List.{List}
 use denote.Ref.{now}
@@ -14,39 +14,39 @@ use Rattle.octets.specs.Writing.{over, Each, Octet}
 use Rattle.octets.proofs.Spans.{each-octet}
 use Rattle.layouts.specs.Book.{find, bookIn}
 use Rattle.rows.specs.Row.{lengthImage}
-use Rattle.writing_parts.specs.Answers.{says, nextOf}
+use Rattle.writing_parts.specs.Answers.{nextOf}
 use Rattle.writing_parts.specs.declared.Next.{Next}
 use Rattle.writing_parts.specs.declared.Fault.{Fault}
 use Rattle.writing_parts.specs.declared.Fault.the-variants as faults
 use Rattle.writer.specs.declared.Wanted.the-variants as wants
 use Rattle.writer.specs.declared.State.{State}
 use Rattle.writer.specs.declared.Answer.the-variants.{Done, Refused}
-use Rattle.writer.specs.Writer.{room, sameTurn, between, rowLayout, does, closeRow, early}
-use Rattle.writer.specs.Answers.{left, callLeaves}
+use Rattle.writer.specs.Writer.{room, sameTurn, between, rowLayout, does, closeRow}
+use Rattle.writer.specs.Answers.{left, early, callLeaves}
 use Rattle.giving.specs.Answers.{closeFault}
 use Rattle.writer.proofs.Tests.{leaves-fault, leaves-put, stopped, passed, ready, length-size}
 use Rattle.giving.proofs.Values.{close-own, InRow, in-row}
 use Rattle.writing.proofs.close_row.Statement.{statement}
 use Rattle.writing.proofs.close_row.Tie as tie
 
-module _ (s : State) (b l : List ℕ) (used : ℕ) (r : Fault) (mine : Bool) (is : says r ≡ early s (length b) l used mine) (own : mine ≡ sameTurn (s .turn) wants.Value) where
+module _ (s : State) (b l : List ℕ) (used : ℕ) (r : Fault) (mine : Bool) (is : r ≡ early s (length b) l used mine) (own : mine ≡ sameTurn (s .turn) wants.Value) where
   first : (k : ℕ) → r ≡ faults.Refused k → left (Refused k (s .place)) b l ≡ callLeaves s b l used closeRow
   unfolding callLeaves does
   first = stopped s b l used (does s b (bookIn l used) closeRow) r mine is own
 
   module _ (e : r ≡ faults.None) where
     inside : Each Octet l → InRow s (length b) l used
-    inside o = in-row s (length b) l used o own (ready s (length b) l used mine (sym is ∙ ap says e))
+    inside o = in-row s (length b) l used o own (ready s (length b) l used mine (sym is ∙ e))
 
-    module _ (f : Fault) {x : Next} (j : x ≡ nextOf (find (be 4 b (s .start + 4)) (bookIn l used)) (s .count)) (k : says f ≡ closeFault x) where
-      fault : does s b (bookIn l used) closeRow .fault ≡ says f
+    module _ (f : Fault) {x : Next} (j : x ≡ nextOf (find (be 4 b (s .start + 4)) (bookIn l used)) (s .count)) (k : f ≡ closeFault x) where
+      fault : does s b (bookIn l used) closeRow .fault ≡ f
       unfolding does rowLayout
       fault = sym (k ∙ rw j (close-own (find (be 4 b (s .start + 4)) (bookIn l used)) (s .count)))
 
       refused : (m : ℕ) → f ≡ faults.Refused m → left (Refused m (s .place)) b l ≡ callLeaves s b l used closeRow
       unfolding callLeaves does
       refused m g =
-          sym (passed s b l used (does s b (bookIn l used) closeRow) r mine is own e ∙ leaves-fault s b l used (does s b (bookIn l used) closeRow) m 0 (fault ∙ ap says g))
+          sym (passed s b l used (does s b (bookIn l used) closeRow) r mine is own e ∙ leaves-fault s b l used (does s b (bookIn l used) closeRow) m (fault ∙ g))
 
       done : f ≡ faults.None → s .start + 12 ≤ s .place → s .place ≤ room (length b) → {y : List ℕ}
           → y ≡ over b (s .start + 8) (lengthImage (ltb (be 4 b (s .start + 8)) 0xffffffff) (s .place - (s .start + 12)))
@@ -56,7 +56,7 @@ module _ (s : State) (b l : List ℕ) (used : ℕ) (r : Fault) (mine : Bool) (is
           let stated : Bool = ltb (be 4 b (s .start + 8)) 0xffffffff in
           let four = length-size stated (s .place - (s .start + 12)) in
           rw q (sym (passed s b l used (does s b (bookIn l used) closeRow) r mine is own e
-          ∙ leaves-put s b l used (does s b (bookIn l used) closeRow) (fault ∙ ap says g) refl
+          ∙ leaves-put s b l used (does s b (bookIn l used) closeRow) (fault ∙ g) refl
           (le-leb (s .start + 8 + length (lengthImage stated (s .place - (s .start + 12)))) (room (length b)) (omega arith))))
 
 returns : tie.Need-returns

@@ -3,26 +3,25 @@ use borrow.Author.Needs.{needs}
 use borrow.Author.Tests.{le-leb}
 use native.Mathlib.Omega.{arith}
 use Prim.Native.Nat.{ℕ, _+_, _-_, _≤_}
-use mathlib.Core.Path.{_≡_, refl, sym, ap, _∙_}
+use mathlib.Core.Path.{_≡_, refl, sym, _∙_}
 use mathlib.Core.Bool.{Bool}
 use mathlib.Core.List.{List}
 use denote.Ref.{now}
 use lib.ListN.{length, replicate, length-replicate}
 use Rattle.octets.specs.Writing.{over}
 use Rattle.layouts.specs.Book.{bookIn}
-use Rattle.writing_parts.specs.Answers.{says}
 use Rattle.writing_parts.specs.declared.Fault.{Fault}
 use Rattle.writing_parts.specs.declared.Fault.the-variants as faults
 use Rattle.writer.specs.declared.State.{State}
 use Rattle.writer.specs.declared.Answer.the-variants.{Done, Refused}
-use Rattle.writer.specs.Writer.{room, isOpen, between, does, giveUp, early}
-use Rattle.writer.specs.Answers.{left, callLeaves}
+use Rattle.writer.specs.Writer.{room, isOpen, between, does, giveUp}
+use Rattle.writer.specs.Answers.{left, early, callLeaves}
 use Rattle.writer.proofs.Bounds.{bounds}
 use Rattle.writer.proofs.Tests.{stopped, passed, ready, leaves-put}
 use Rattle.writing.proofs.give_up.Statement.{statement}
 use Rattle.writing.proofs.give_up.Tie as tie
 
-module _ (s : State) (b l : List ℕ) (used : ℕ) (r : Fault) (mine : Bool) (is : says r ≡ early s (length b) l used mine) (own : mine ≡ isOpen (s .turn)) where
+module _ (s : State) (b l : List ℕ) (used : ℕ) (r : Fault) (mine : Bool) (is : r ≡ early s (length b) l used mine) (own : mine ≡ isOpen (s .turn)) where
   first : (k : ℕ) → r ≡ faults.Refused k → left (Refused k (s .place)) b l ≡ callLeaves s b l used giveUp
   unfolding callLeaves does
   first = stopped s b l used (does s b (bookIn l used) giveUp) r mine is own
@@ -30,7 +29,7 @@ module _ (s : State) (b l : List ℕ) (used : ℕ) (r : Fault) (mine : Bool) (is
   module _ (e : r ≡ faults.None) where
     within : (s .start ≤ s .place) × (s .place ≤ room (length b))
     within =
-        let k = ready s (length b) l used mine (sym is ∙ ap says e) in
+        let k = ready s (length b) l used mine (sym is ∙ e) in
         let w = bounds s (length b) (k .within) in
         let h = w .head (sym own ∙ k .in-turn) in
         (omega arith, w .place)

@@ -6,26 +6,25 @@ use mathlib.Core.Bool.{Bool}
 use mathlib.Core.List.{List, [], _++_, append-nil}
 use denote.Ref.{now}
 use lib.ListN.{length}
-use Rattle.octets.specs.Reading.{_then_}
 use Rattle.octets.specs.Writing.{word, Each, Octet}
 use Rattle.octets.proofs.Spans.{each-octet}
 use Rattle.layouts.specs.Book.{find, bookIn, IsBook}
 use Rattle.layouts.proofs.Checks.{good-book}
 use Rattle.rows.specs.Row.{lengthImage}
-use Rattle.writing_parts.specs.Answers.{says}
+use Rattle.writing_parts.specs.Faults.{fine}
 use Rattle.writing_parts.specs.declared.Fault.{Fault}
 use Rattle.writing_parts.specs.declared.Fault.the-variants as faults
 use Rattle.writer.specs.declared.Wanted.the-variants as wants
 use Rattle.writer.specs.declared.State.{State}
 use Rattle.writer.specs.declared.Answer.the-variants.{Refused}
-use Rattle.writer.specs.Writer.{room, sameTurn, fine, inBook, put, does, openRow, early}
-use Rattle.writer.specs.Answers.{Left, left, restLeaves, callLeaves}
+use Rattle.writer.specs.Writer.{room, sameTurn, inBook, put, does, openRow}
+use Rattle.writer.specs.Answers.{Left, left, early, restLeaves, callLeaves}
 use Rattle.writer.proofs.Bounds.{bounds}
 use Rattle.writer.proofs.Tests.{stopped, passed, at-ready, same-put}
 use Rattle.writing.proofs.open_row.Statement.{statement}
 use Rattle.writing.proofs.open_row.Tie as tie
 
-module _ (s : State) (b l : List ℕ) (used n : ℕ) (stated : Bool) (r : Fault) (mine : Bool) (is : says r ≡ early s (length b) l used mine)
+module _ (s : State) (b l : List ℕ) (used n : ℕ) (stated : Bool) (r : Fault) (mine : Bool) (is : r ≡ early s (length b) l used mine)
     (own : mine ≡ sameTurn (s .turn) wants.Element) where
   first : (k : ℕ) → r ≡ faults.Refused k → left (Refused k (s .place)) b l ≡ callLeaves s b l used (openRow n stated)
   unfolding callLeaves does
@@ -38,8 +37,8 @@ module _ (s : State) (b l : List ℕ) (used n : ℕ) (stated : Bool) (r : Fault)
         let k = at-ready s b l used (does s b (bookIn l used) (openRow n stated)) r mine is own e in
         (good-book l used o (k .book), bounds s (length b) (k .within) .place)
 
-    done : (f : Fault) {h x : List ℕ} {y : Left} → says f ≡ (inBook (find n (bookIn l used)) then λ _ _. fine) → h ≡ word 4 2 ++ word 4 n → x ≡ lengthImage stated 0
-        → y ≡ restLeaves s b l used (put s wants.Element (says f) (h ++ (x ++ [])) wants.Value 0 (s .place)) → y ≡ callLeaves s b l used (openRow n stated)
+    done : (f : Fault) {h x : List ℕ} {y : Left} → f ≡ inBook (find n (bookIn l used)) (λ _. fine) → h ≡ word 4 2 ++ word 4 n → x ≡ lengthImage stated 0
+        → y ≡ restLeaves s b l used (put s wants.Element f (h ++ (x ++ [])) wants.Value 0 (s .place)) → y ≡ callLeaves s b l used (openRow n stated)
     unfolding callLeaves does
     done f i j k g =
         g ∙ (ap (restLeaves s b l used) (same-put s wants.Element (s .place) i (rw (j, k, append-nil (lengthImage stated 0)) refl) refl refl)
