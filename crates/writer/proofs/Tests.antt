@@ -90,15 +90,15 @@ module _ (s : State) (buffer lent : List ℕ) (used : ℕ) (d : Deed) where
       leaves-put e = leaves-done nothing-new e ∙ rw (o, over-nil lent used, add-zero used) refl
 
   -- The same, from what the code was answered about 17 and 20.
-  module _ (r : Fault) (mine : Bool) (is : r ≡ early s (length buffer) lent used mine) (turn : mine ≡ d .in-turn) where
+  module _ (r : Fault) (is : r ≡ early s (length buffer) lent used (d .in-turn)) where
     pub stopped : (n : ℕ) → r ≡ faults.Refused n → left (Refused n (s .place)) buffer lent ≡ deedLeaves s buffer lent used d
-    stopped n e = sym (leaves-early n (rw (← turn) (sym is ∙ e)))
+    stopped n e = sym (leaves-early n (sym is ∙ e))
 
     pub passed : r ≡ fine → deedLeaves s buffer lent used d ≡ restLeaves s buffer lent used d
-    passed e = leaves-ready (rw (← turn) (sym is ∙ e))
+    passed e = leaves-ready (sym is ∙ e)
 
-    pub at-ready : r ≡ fine → Ready s (length buffer) lent used mine
-    at-ready e = ready s (length buffer) lent used mine (sym is ∙ e)
+    pub at-ready : r ≡ fine → Ready s (length buffer) lent used (d .in-turn)
+    at-ready e = ready s (length buffer) lent used (d .in-turn) (sym is ∙ e)
 
 -- One deed by its parts.
 pub same-put : (s : State) (turn : Wanted) (start : ℕ) {f g : Fault} {xs ys : List ℕ} {t u : Wanted} {n m : ℕ} → f ≡ g → xs ≡ ys → t ≡ u → n ≡ m

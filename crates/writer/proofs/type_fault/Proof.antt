@@ -1,9 +1,9 @@
--- `giving::type_fault` meets its contract: what the type number means. Assumes nothing.
+-- `writer::type_fault` meets its contract: what the type number means. Assumes nothing.
 use borrow.Author.Needs.{needs}
 use mathlib.Core.Path.{refl, sym, ap, _∙_}
 use Rattle.kinds.specs.Answers.{kinds}
-use Rattle.giving.proofs.type_fault.Statement.{statement}
-use Rattle.giving.proofs.type_fault.Tie as tie
+use Rattle.writer.proofs.type_fault.Statement.{statement}
+use Rattle.writer.proofs.type_fault.Tie as tie
 
 returns : tie.Need-returns
 returns c = λ at next. let m = c .before in rw (sym (m .before .before .kind-of .ensures at next) ∙ ap (kinds at next) (m .typed .given .1)) refl
