@@ -4,51 +4,34 @@ use mathlib.Core.Path.{_≡_, refl, sym, ap, _∙_}
 use mathlib.Core.List.{List, []}
 use Rattle.octets.specs.Contracts.{Once}
 use Rattle.octets.proofs.Alike.{_also_}
-use Rattle.writing_parts.proofs.Contracts.{says-once}
 use Rattle.writer.specs.declared.Wanted.the-variants as wants
 use Rattle.writer.specs.declared.Answer.{Answer}
 use Rattle.writer.specs.Answers.{Left, left}
-use Rattle.giving.proofs.same_turn as same-turn
 use Rattle.giving.proofs.ready as ready
+use Rattle.giving.proofs.in_turn as in-turn
 use Rattle.giving.proofs.give_on as give-on
 use Rattle.giving.proofs.give as give
 use Rattle.giving.proofs.give_text as give-text
 use Rattle.giving.proofs.give_number as give-number
 use Rattle.giving.proofs.give_pair as give-pair
-use Rattle.giving.proofs.at_most as at-most
-use Rattle.giving.proofs.sixteen as sixteen
 use Rattle.giving.proofs.less_one as less-one
 use Rattle.giving.proofs.give_count as give-count
 use Rattle.giving.proofs.give_item as give-item
 use Rattle.giving.proofs.give_attribute as give-attribute
-use Rattle.giving.proofs.type_fault as type-fault
-use Rattle.giving.proofs.layout_fault as layout-fault
-use Rattle.giving.proofs.suits_number as suits-number
-use Rattle.giving.proofs.width_of as width-of
-use Rattle.giving.proofs.suits_octets as suits-octets
-use Rattle.giving.proofs.close_fault as close-fault
 use Rattle.giving.proofs.is_open as is-open
 
 pub record Contracts : Type 0 where
-  pub of-same-turn : Once same-turn.Kinds.ps same-turn.Kinds.r same-turn.Reads.Pre same-turn.Reads.Post
   pub of-ready : Once ready.Kinds.ps ready.Kinds.r ready.Reads.Pre ready.Reads.Post
+  pub of-in-turn : Once in-turn.Kinds.ps in-turn.Kinds.r in-turn.Reads.Pre in-turn.Reads.Post
   pub of-give-on : Once give-on.Kinds.ps give-on.Kinds.r give-on.Reads.Pre give-on.Reads.Post
   pub of-give : Once give.Kinds.ps give.Kinds.r give.Reads.Pre give.Reads.Post
   pub of-give-text : Once give-text.Kinds.ps give-text.Kinds.r give-text.Reads.Pre give-text.Reads.Post
   pub of-give-number : Once give-number.Kinds.ps give-number.Kinds.r give-number.Reads.Pre give-number.Reads.Post
   pub of-give-pair : Once give-pair.Kinds.ps give-pair.Kinds.r give-pair.Reads.Pre give-pair.Reads.Post
-  pub of-at-most : Once at-most.Kinds.ps at-most.Kinds.r at-most.Reads.Pre at-most.Reads.Post
-  pub of-sixteen : Once sixteen.Kinds.ps sixteen.Kinds.r sixteen.Reads.Pre sixteen.Reads.Post
   pub of-less-one : Once less-one.Kinds.ps less-one.Kinds.r less-one.Reads.Pre less-one.Reads.Post
   pub of-give-count : Once give-count.Kinds.ps give-count.Kinds.r give-count.Reads.Pre give-count.Reads.Post
   pub of-give-item : Once give-item.Kinds.ps give-item.Kinds.r give-item.Reads.Pre give-item.Reads.Post
   pub of-give-attribute : Once give-attribute.Kinds.ps give-attribute.Kinds.r give-attribute.Reads.Pre give-attribute.Reads.Post
-  pub of-type-fault : Once type-fault.Kinds.ps type-fault.Kinds.r type-fault.Reads.Pre type-fault.Reads.Post
-  pub of-layout-fault : Once layout-fault.Kinds.ps layout-fault.Kinds.r layout-fault.Reads.Pre layout-fault.Reads.Post
-  pub of-suits-number : Once suits-number.Kinds.ps suits-number.Kinds.r suits-number.Reads.Pre suits-number.Reads.Post
-  pub of-width-of : Once width-of.Kinds.ps width-of.Kinds.r width-of.Reads.Pre width-of.Reads.Post
-  pub of-suits-octets : Once suits-octets.Kinds.ps suits-octets.Kinds.r suits-octets.Reads.Pre suits-octets.Reads.Post
-  pub of-close-fault : Once close-fault.Kinds.ps close-fault.Kinds.r close-fault.Reads.Pre close-fault.Reads.Post
   pub of-is-open : Once is-open.Kinds.ps is-open.Kinds.r is-open.Reads.Pre is-open.Reads.Post
 
 -- Two answers that one statement allows, with what they leave, are the same.
@@ -60,24 +43,16 @@ one-answer {r} {q} {b} {c} {k} {l} e f =
 pub contracts : Contracts
 contracts =
     record {
-      of-same-turn = λ κs a p x y u v e f. (e ∙ sym f, refl);
-      of-ready = λ κs a p x y u v e f. (says-once x y (e ∙ sym f), refl);
+      of-ready = λ κs a p x y u v e f. (e ∙ sym f, refl);
+      of-in-turn = λ κs a p x y u v e f. (e ∙ sym f, refl);
       of-give-on = λ κs a p x y u v e f. let q = one-answer (e wants.Recorder []) (f wants.Recorder []) in (q .0, refl also q .1 also refl);
       of-give = λ κs a p x y u v e f. let q = one-answer e f in (q .0, refl also q .1 also refl);
       of-give-text = λ κs a p x y u v e f. let q = one-answer e f in (q .0, refl also q .1 also refl);
       of-give-number = λ κs a p x y u v e f. let q = one-answer e f in (q .0, refl also q .1 also refl);
       of-give-pair = λ κs a p x y u v e f. let q = one-answer e f in (q .0, refl also q .1 also refl);
-      of-at-most = λ κs a p x y u v e f. (says-once x y (e ∙ sym f), refl);
-      of-sixteen = λ κs a p x y u v e f. (says-once x y (e ∙ sym f), refl);
       of-less-one = λ κs a p x y u v e f. (e ∙ sym f, refl);
       of-give-count = λ κs a p x y u v e f. let q = one-answer e f in (q .0, refl also q .1 also refl);
       of-give-item = λ κs a p x y u v e f. let q = one-answer e f in (q .0, refl also q .1 also refl);
       of-give-attribute = λ κs a p x y u v e f. let q = one-answer e f in (q .0, refl also q .1 also q .2 also refl);
-      of-type-fault = λ κs a p x y u v e f. (says-once x y (e ∙ sym f), refl);
-      of-layout-fault = λ κs a p x y u v e f. (says-once x y (e ∙ sym f), refl);
-      of-suits-number = λ κs a p x y u v e f. (e ∙ sym f, refl);
-      of-width-of = λ κs a p x y u v e f. (e .0 ∙ sym (f .0), refl);
-      of-suits-octets = λ κs a p x y u v e f. (e [] ∙ sym (f []), refl);
-      of-close-fault = λ κs a p x y u v e f. (says-once x y (e ∙ sym f), refl);
       of-is-open = λ κs a p x y u v e f. (e ∙ sym f, refl);
     }

@@ -1,4 +1,4 @@
-// What every call of the writer goes through: the bounds and the turn of a state, the own faults of a call, and its octets given.
+// What every call of the writer goes through: the bounds and the turn of a state, and the octets of a call given.
 // What a call does is defined in writer Writer; the calls themselves are in writing.
 
 ghost use mathlib.Core.Path.{_≡_};
@@ -6,27 +6,19 @@ ghost use mathlib.Core.Bool.{true};
 ghost use mathlib.Core.List.{List, _++_};
 ghost use Prim.Native.Nat.{ℕ, _-_, _≤_};
 ghost use lib.ListN.{length};
-ghost use lib.Dec.{leb, eqb};
-ghost use Rattle.octets.specs.Reading.{_then_};
 ghost use Rattle.octets.specs.Writing.{word, ledImage};
-ghost use Rattle.kinds.specs.Kinds.{formBy, kindOf};
-ghost use Rattle.layouts.specs.Book.{find, bookIn, IsBook};
-ghost use Rattle.kinds.specs.Forms.{Value, bits, held, valueImage};
-ghost use Rattle.writing_parts.specs.Answers.{says};
-ghost use Rattle.writer.specs.Writer.{room, rule, orderOf, sameTurn, single, listed, isOpen, bounded, fine, unless, put, puts, attributes, turnAt, counts, lists, inBook, suits, early, value};
-ghost use Rattle.writer.specs.Answers.{left, deedLeaves, restLeaves, callLeaves};
-ghost use Rattle.giving.specs.Answers.{widthOf, valueFault, closeFault};
+ghost use Rattle.kinds.specs.Kinds.{formBy};
+ghost use Rattle.kinds.specs.Forms.{Value, valueImage};
+ghost use Rattle.writing_parts.specs.Faults.{fine};
+ghost use Rattle.writer.specs.Writer.{room, rule, orderOf, sameTurn, single, listed, isOpen, bounded, put, puts, attributes, turnAt, counts, lists, suits, value};
+ghost use Rattle.writer.specs.Answers.{left, early, deedLeaves, restLeaves, callLeaves};
 use kinds::Basic;
-use kinds::Form;
-use kinds::Typed;
-use layouts::Looked;
 use writer::Answer;
 use writer::Rule;
 use writer::State;
 use writer::Wanted;
 use writing_parts::Completed;
 use writing_parts::Fault;
-use writing_parts::Next;
 use writing_parts::Put;
 
 // The first octets of an open layout, its kind and number; of an open row its length too.
@@ -104,7 +96,7 @@ fn order_of(t: Wanted) -> u32
 }
 
 // Whether two turns are the same.
-pub fn same_turn(t: Wanted, u: Wanted) -> bool
+fn same_turn(t: Wanted, u: Wanted) -> bool
     ensures { λ r. ⌜ r ≡ sameTurn t u ⌝ }
 {
     order_of(t) == order_of(u)
@@ -147,7 +139,7 @@ fn in_bounds(s: State, len: usize) -> bool
 
 // 17 for the book, then 20 for a state out of its bounds or a call out of turn.
 pub fn ready(s: State, len: usize, book: &[u8], used: usize, mine: bool) -> Fault
-    ensures { λ r. ⌜ says r ≡ early s len (now (book .entry)) used mine ⌝ }
+    ensures { λ r. ⌜ r ≡ early s len (now (book .entry)) used mine ⌝ }
 {
     if !layouts::is_book(book, used) {
         return Fault::Refused(17);
@@ -160,6 +152,15 @@ pub fn ready(s: State, len: usize, book: &[u8], used: usize, mine: bool) -> Faul
     } else {
         Fault::Refused(20)
     }
+}
+
+// The same for a call that has one turn.
+pub fn in_turn(s: State, len: usize, book: &[u8], used: usize, turn: Wanted) -> Fault
+    ensures { λ r. ⌜ r ≡ early s len (now (book .entry)) used (sameTurn (s .turn) turn) ⌝ }
+{
+    let wanted = s.turn;
+    let mine = same_turn(wanted, turn);
+    ready(s, len, book, used, mine)
 }
 
 // Behind 17 and 20, octets that complete no layout: the call's own fault, 23, and the octets behind those written. What follows is a turn, a count, and where the open element starts.
@@ -176,7 +177,7 @@ pub fn give_on(
     start: usize,
 ) -> Answer
     requires { ⌜ s .place ≤ room (length (now buf)) ⌝ }
-    ensures { λ r. ⌜ ((turn : Wanted) (lent : List ℕ) → left r (now (buf .exit)) lent ≡ restLeaves s (now (buf .entry)) lent used (put s turn (says fault) (now (head .entry) ++ (now (body .entry) ++ now (tail .entry))) next count start)) ⌝ }
+    ensures { λ r. ⌜ ((turn : Wanted) (lent : List ℕ) → left r (now (buf .exit)) lent ≡ restLeaves s (now (buf .entry)) lent used (put s turn fault (now (head .entry) ++ (now (body .entry) ++ now (tail .entry))) next count start)) ⌝ }
 {
     let place = s.place;
     let rows = s.rows;
@@ -214,12 +215,10 @@ pub fn give(
     count: u32,
     start: usize,
 ) -> Answer
-    ensures { λ r. ⌜ left r (now (buf .exit)) (now (book .entry)) ≡ deedLeaves s (now (buf .entry)) (now (book .entry)) used (put s turn (says fault) (now (head .entry) ++ (now (body .entry) ++ now (tail .entry))) next count start) ⌝ }
+    ensures { λ r. ⌜ left r (now (buf .exit)) (now (book .entry)) ≡ deedLeaves s (now (buf .entry)) (now (book .entry)) used (put s turn fault (now (head .entry) ++ (now (body .entry) ++ now (tail .entry))) next count start) ⌝ }
 {
     let place = s.place;
-    let wanted = s.turn;
-    let mine = same_turn(wanted, turn);
-    let first = ready(s, buf.len(), book, used, mine);
+    let first = in_turn(s, buf.len(), book, used, turn);
     if let Fault::Refused(n) = first {
         return Answer::Refused(n, place);
     }
@@ -270,7 +269,7 @@ pub fn give_number(
     count: u32,
 ) -> Answer
     requires { ⌜ w ≤ 8 ⌝ }
-    ensures { λ r. ⌜ left r (now (buf .exit)) (now (book .entry)) ≡ deedLeaves s (now (buf .entry)) (now (book .entry)) used (puts s turn (says fault) (word w n) next count) ⌝ }
+    ensures { λ r. ⌜ left r (now (buf .exit)) (now (book .entry)) ≡ deedLeaves s (now (buf .entry)) (now (book .entry)) used (puts s turn fault (word w n) next count) ⌝ }
 {
     let head = writing_parts::word8(n);
     let from = 8 - w;
@@ -322,28 +321,6 @@ pub fn give_pair(
     )
 }
 
-// 4 for a count over its limit.
-pub fn at_most(n: u32, most: u32) -> Fault
-    ensures { λ r. ⌜ says r ≡ unless (leb n most) 4 ⌝ }
-{
-    if n <= most {
-        Fault::None
-    } else {
-        Fault::Refused(4)
-    }
-}
-
-// 5 for a document id of another length.
-pub fn sixteen(n: usize) -> Fault
-    ensures { λ r. ⌜ says r ≡ unless (eqb n 16) 5 ⌝ }
-{
-    if n == 16 {
-        Fault::None
-    } else {
-        Fault::Refused(5)
-    }
-}
-
 // The turn of a list with something still to come, else the turn behind it.
 fn turn_at(n: u32, more: Wanted, behind: Wanted) -> Wanted
     ensures { λ r. ⌜ r ≡ turnAt n more behind ⌝ }
@@ -371,7 +348,7 @@ pub fn give_count(
 ) -> Answer
     ensures { λ r. ⌜ left r (now (buf .exit)) (now (book .entry)) ≡ deedLeaves s (now (buf .entry)) (now (book .entry)) used (counts s turn n more behind) ⌝ }
 {
-    let fault = at_most(n, octets::MOST_LISTED);
+    let fault = writer::at_most(n, octets::MOST_LISTED);
     let next = turn_at(n, more, behind);
     give_number(s, buf, book, used, turn, fault, 4, n as u64, next, n)
 }
@@ -405,14 +382,12 @@ fn complete(
     last: &[u8],
 ) -> Answer
     requires { ⌜ 8 ≤ rule turn .head ⌝ }
-    ensures { λ r. ⌜ left r (now (buf .exit)) (now (book .exit)) ≡ deedLeaves s (now (buf .entry)) (now (book .entry)) used (attributes s turn (says fault) (now (last .entry)) 0) ⌝ }
+    ensures { λ r. ⌜ left r (now (buf .exit)) (now (book .exit)) ≡ deedLeaves s (now (buf .entry)) (now (book .entry)) used (attributes s turn fault (now (last .entry)) 0) ⌝ }
 {
     let place = s.place;
     let start = s.start;
     let rows = s.rows;
-    let wanted = s.turn;
-    let mine = same_turn(wanted, turn);
-    let first = ready(s, buf.len(), book, used, mine);
+    let first = in_turn(s, buf.len(), book, used, turn);
     if let Fault::Refused(n) = first {
         return Answer::Refused(n, place);
     }
@@ -448,7 +423,7 @@ pub fn give_attribute(
     more: u32,
 ) -> Answer
     requires { ⌜ 8 ≤ rule turn .head ⌝ }
-    ensures { λ r. ⌜ left r (now (buf .exit)) (now (book .exit)) ≡ deedLeaves s (now (buf .entry)) (now (book .entry)) used (attributes s turn (says fault) (word 4 n) more) ⌝ }
+    ensures { λ r. ⌜ left r (now (buf .exit)) (now (book .exit)) ≡ deedLeaves s (now (buf .entry)) (now (book .entry)) used (attributes s turn fault (word 4 n) more) ⌝ }
 {
     if more == 0 {
         let last = writing_parts::word4(n as u64);
@@ -468,49 +443,6 @@ pub fn give_attribute(
     )
 }
 
-// 8 or 9 for a type number that means no type.
-pub fn type_fault(t: u32) -> Fault
-    ensures { λ r. ⌜ says r ≡ (kindOf 0 t 0 then λ _ _. fine) ⌝ }
-{
-    let typed = kinds::kind_of(t);
-    match typed {
-        Typed::Is(kind) => Fault::None,
-        Typed::Refused(n) => Fault::Refused(n),
-    }
-}
-
-// 12 for a layout that is not in the book.
-pub fn layout_fault(book: &[u8], used: usize, n: u32) -> Fault
-    requires { ⌜ IsBook (now book) used ⌝ }
-    ensures { λ r. ⌜ says r ≡ (inBook (find n (bookIn (now (book .entry)) used)) then λ _ _. fine) ⌝ }
-{
-    let looked = layouts::find(book, used, n);
-    match looked {
-        Looked::There(p) => Fault::None,
-        Looked::Missing(k) => Fault::Refused(12),
-    }
-}
-
-// 12 for a row whose layout is not in the book; 21 with no field left, or for a value that is not of the next field's type.
-fn value_fault(next: Next, b: Basic, fits: bool) -> Fault
-    ensures { λ r. ⌜ says r ≡ valueFault next b fits ⌝ }
-{
-    match next {
-        Next::Unknown => Fault::Refused(12),
-        Next::Missing => Fault::Refused(21),
-        Next::Of(a) => {
-            if kinds::code_of(a) != kinds::code_of(b) {
-                return Fault::Refused(21);
-            }
-            if fits {
-                Fault::None
-            } else {
-                Fault::Refused(21)
-            }
-        }
-    }
-}
-
 // A value of a basic type, of which it is known whether it has an image there, and which.
 pub fn give_value(
     s: State,
@@ -527,14 +459,12 @@ pub fn give_value(
     let place = s.place;
     let start = s.start;
     let count = s.count;
-    let wanted = s.turn;
-    let mine = same_turn(wanted, Wanted::Value);
-    let first = ready(s, buf.len(), book, used, mine);
+    let first = in_turn(s, buf.len(), book, used, Wanted::Value);
     if let Fault::Refused(n) = first {
         return Answer::Refused(n, place);
     }
     let next = writing_parts::row_next(buf, start, book, used, count);
-    let fault = value_fault(next, b, fits);
+    let fault = writer::value_fault(next, b, fits);
     give_on(
         s,
         buf,
@@ -547,53 +477,6 @@ pub fn give_value(
         count + 1,
         start,
     )
-}
-
-// Whether a number is a value of a basic type.
-pub fn suits_number(b: Basic, n: u64) -> bool
-    ensures { λ r. ⌜ r ≡ suits (formBy b) (bits n) ⌝ }
-{
-    let form = kinds::form_by(b);
-    match form {
-        Form::Fixed(w) => writing_parts::fits_octets(n, w),
-        Form::Truth => n <= 1,
-        Form::Led => false,
-    }
-}
-
-// How many octets a number of a basic type has.
-pub fn width_of(b: Basic) -> usize
-    ensures { λ r. ⌜ (r ≡ widthOf (formBy b)) × (r ≤ 8) ⌝ }
-{
-    let form = kinds::form_by(b);
-    match form {
-        Form::Fixed(w) => w,
-        Form::Truth => 1,
-        Form::Led => 0,
-    }
-}
-
-// Whether octets are a value of a basic type.
-pub fn suits_octets(b: Basic) -> bool
-    ensures { λ r. ⌜ ((xs : List ℕ) → r ≡ suits (formBy b) (held xs)) ⌝ }
-{
-    let form = kinds::form_by(b);
-    match form {
-        Form::Fixed(w) => false,
-        Form::Truth => false,
-        Form::Led => true,
-    }
-}
-
-// 12 for a row whose layout is not in the book; 22 for one whose next field is not given.
-pub fn close_fault(next: Next) -> Fault
-    ensures { λ r. ⌜ says r ≡ closeFault next ⌝ }
-{
-    match next {
-        Next::Unknown => Fault::Refused(12),
-        Next::Missing => Fault::None,
-        Next::Of(a) => Fault::Refused(22),
-    }
 }
 
 // Whether a layout or a row is open.

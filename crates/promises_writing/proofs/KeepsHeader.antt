@@ -11,15 +11,17 @@ use borrow.Author.Tests.{eqb-true, leb-true}
 use Rattle.octets.specs.Limits.{longest, mostListed}
 use Rattle.octets.specs.Writing.{word, ledImage, images, Each, Octet, GoodLed}
 use Rattle.octets.proofs.Spans.{each-join}
-use Rattle.octets.proofs.Ends.{chosen-ok}
 use Rattle.headers.specs.Header.{Namespace, Header, headerImage, GoodNamespace, GoodHeader}
+use Rattle.writing_parts.specs.Faults.{fine, unless}
+use Rattle.writing_parts.proofs.Faults.{holds}
 use Rattle.writer.specs.declared.Wanted.{Wanted}
 use Rattle.writer.specs.declared.Wanted.the-variants as wants
-use Rattle.writer.specs.Writer.{Call, recorder, startTime, defaultNamespace, namespaceCount, uri, shortName, serviceCount, service, documentId, fine, unless, turnAt, does}
+use Rattle.writer.specs.Writer.{Call, recorder, startTime, defaultNamespace, namespaceCount, uri, shortName, serviceCount, service, documentId, turnAt, does}
+use Rattle.writer.proofs.Kept.{at-turn}
 use Rattle.promises_writing.specs.Promise.{namespaceCalls, serviceCalls, headerCalls, Told, adds, tell}
 use Rattle.promises_writing.proofs.Standing.{Spot, spot, stateAt, behind}
 use Rattle.promises_writing.proofs.Put.{octetsOf, images-snoc, each-snoc, header-octets}
-use Rattle.promises_writing.proofs.Shapes.{InHeader, namespaced, served, Shape, Stand, rest, Inv, at-turn, PassesHere, leftHere, put-keeps}
+use Rattle.promises_writing.proofs.Shapes.{InHeader, namespaced, served, Shape, Stand, rest, Inv, PassesHere, leftHere, put-keeps}
 
 -- A string whose octets were put fits a length.
 pub is-text : (xs : List ℕ) → Each Octet xs → length (ledImage xs) ≤ longest → GoodLed xs
@@ -58,12 +60,12 @@ on {told = told} c u j i h n name good text counts said =
 module _ {buffer lent : List ℕ} {told : Told} (now : Stand buffer lent told) where
   -- What a call keeps, where it is accepted here.
   abbrev pub Keeps : Call → Type 0
-  Keeps c = (new : List ℕ) → PassesHere now (does (stateAt (now .done) (now .at)) (now .done ++ rest now) (now .at .book) c) new
-      → Inv buffer lent (tell told c) (leftHere now (does (stateAt (now .done) (now .at)) (now .done ++ rest now) (now .at .book) c) new)
+  Keeps c = PassesHere now (does (stateAt (now .done) (now .at)) (now .done ++ rest now) (now .at .book) c)
+      → Inv buffer lent (tell told c) (leftHere now (does (stateAt (now .done) (now .at)) (now .done ++ rest now) (now .at .book) c))
 
   pub keep-recorder : (xs : List ℕ) → Each Octet xs → Keeps (recorder xs)
   unfolding does
-  keep-recorder xs o new p =
+  keep-recorder xs o p =
       put-keeps now (adds told (recorder xs)) wants.Recorder wants.StartTime fine (word 4 4 ++ ledImage xs) 0 (now .at .start) p λ i _ small.
       let h = i .h in
       let g = i .good in
@@ -73,7 +75,7 @@ module _ {buffer lent : List ℕ} {told : Told} (now : Stand buffer lent told) w
 
   pub keep-start : (n : ℕ) → n < 2 ^ 64 → Keeps (startTime n)
   unfolding does
-  keep-start n small new p =
+  keep-start n small p =
       put-keeps now (adds told (startTime n)) wants.StartTime wants.DefaultNamespace fine (word 8 n) 0 (now .at .start) p λ i _ _.
       let h = i .h in
       let g = i .good in
@@ -82,7 +84,7 @@ module _ {buffer lent : List ℕ} {told : Told} (now : Stand buffer lent told) w
 
   pub keep-default : (xs : List ℕ) → Each Octet xs → Keeps (defaultNamespace xs)
   unfolding does
-  keep-default xs o new p =
+  keep-default xs o p =
       put-keeps now (adds told (defaultNamespace xs)) wants.DefaultNamespace wants.NamespaceCount fine (ledImage xs) 0 (now .at .start) p λ i _ small.
       let h = i .h in
       let g = i .good in
@@ -92,11 +94,11 @@ module _ {buffer lent : List ℕ} {told : Told} (now : Stand buffer lent told) w
   -- The count is that of the namespaces to come: none are given yet.
   pub keep-namespaces : (n : ℕ) → Keeps (namespaceCount n)
   unfolding does
-  keep-namespaces n new p =
+  keep-namespaces n p =
       put-keeps now (adds told (namespaceCount n)) wants.NamespaceCount (turnAt n wants.Uri wants.ServiceCount) (unless (leb n mostListed) 4) (word 4 n) n (now .at .start) p λ i _ _.
       let h = i .h in
       let g = i .good in
-      let most : n ≤ 16 = leb-true n mostListed (chosen-ok (leb n mostListed) (λ _. fine) 4 0 (p .faultless)) in
+      let most : n ≤ 16 = leb-true n mostListed (holds (leb n mostListed) 4 (p .faultless)) in
       let h₁ : Header = header (h .recorder) (h .start) (h .default) [] (h .services) (h .id) in
       let g₁ : GoodHeader h₁ = good-header (g .recorder) (g .start) (g .default) (omega arith) tt (g .few-services) (g .services) (g .id-length) (g .id) in
       at-turn (λ u. Shape u (spot (now .at .book) u n (now .at .start) (now .at .rows)) (now .done ++ word 4 n) (adds told (namespaceCount n))) n wants.Uri wants.ServiceCount
@@ -105,13 +107,13 @@ module _ {buffer lent : List ℕ} {told : Told} (now : Stand buffer lent told) w
 
   pub keep-uri : (xs : List ℕ) → Each Octet xs → Keeps (uri xs)
   unfolding does
-  keep-uri xs o new p =
+  keep-uri xs o p =
       put-keeps now (adds told (uri xs)) wants.Uri wants.ShortName fine (ledImage xs) (now .at .count) (now .at .start) p λ i _ small.
       on (uri xs) wants.ShortName (now .at .count) i (i .h) (i .n) xs (i .good) (is-text xs o small) (i .counts) refl
 
   pub keep-short : (xs : List ℕ) → Each Octet xs → Keeps (shortName xs)
   unfolding does
-  keep-short xs o new p =
+  keep-short xs o p =
       let left : ℕ = now .at .count - 1 in
       put-keeps now (adds told (shortName xs)) wants.ShortName (turnAt left wants.Uri wants.ServiceCount) fine (ledImage xs) left (now .at .start) p λ i one small.
       let h = i .h in
@@ -134,11 +136,11 @@ module _ {buffer lent : List ℕ} {told : Told} (now : Stand buffer lent told) w
   -- The count is that of the services to come: none are given yet.
   pub keep-services : (n : ℕ) → Keeps (serviceCount n)
   unfolding does
-  keep-services n new p =
+  keep-services n p =
       put-keeps now (adds told (serviceCount n)) wants.ServiceCount (turnAt n wants.Service wants.DocumentId) (unless (leb n mostListed) 4) (word 4 n) n (now .at .start) p λ i _ _.
       let h = i .h in
       let g = i .good in
-      let most : n ≤ 16 = leb-true n mostListed (chosen-ok (leb n mostListed) (λ _. fine) 4 0 (p .faultless)) in
+      let most : n ≤ 16 = leb-true n mostListed (holds (leb n mostListed) 4 (p .faultless)) in
       let h₁ : Header = header (h .recorder) (h .start) (h .default) (h .others) [] (h .id) in
       let g₁ : GoodHeader h₁ = good-header (g .recorder) (g .start) (g .default) (g .few-others) (g .others) (omega arith) tt (g .id-length) (g .id) in
       at-turn (λ u. Shape u (spot (now .at .book) u n (now .at .start) (now .at .rows)) (now .done ++ word 4 n) (adds told (serviceCount n))) n wants.Service wants.DocumentId
@@ -147,7 +149,7 @@ module _ {buffer lent : List ℕ} {told : Told} (now : Stand buffer lent told) w
 
   pub keep-service : (xs : List ℕ) → Each Octet xs → Keeps (service xs)
   unfolding does
-  keep-service xs o new p =
+  keep-service xs o p =
       let left : ℕ = now .at .count - 1 in
       put-keeps now (adds told (service xs)) wants.Service (turnAt left wants.Service wants.DocumentId) fine (ledImage xs) left (now .at .start) p λ i one small.
       let h = i .h in
@@ -167,11 +169,11 @@ module _ {buffer lent : List ℕ} {told : Told} (now : Stand buffer lent told) w
 
   pub keep-id : (xs : List ℕ) → Each Octet xs → Keeps (documentId xs)
   unfolding does headerCalls images
-  keep-id xs o new p =
+  keep-id xs o p =
       put-keeps now (adds told (documentId xs)) wants.DocumentId wants.Element (unless (eqb (length xs) 16) 5) (octetsOf (documentId xs)) 0 (now .at .start) p λ i _ _.
       let h = i .h in
       let g = i .good in
-      let size : length xs ≡ 16 = eqb-true (length xs) 16 (chosen-ok (eqb (length xs) 16) (λ _. fine) 5 0 (p .faultless)) in
+      let size : length xs ≡ 16 = eqb-true (length xs) 16 (holds (eqb (length xs) 16) 5 (p .faultless)) in
       let h₁ : Header = header (h .recorder) (h .start) (h .default) (h .others) (h .services) xs in
       let all : told .latest ++ documentId xs ∷ [] ≡ headerCalls h₁ = ap (λ (z : List Call). z ++ documentId xs ∷ []) (i .said) ∙ simp append-assoc in (
         record {

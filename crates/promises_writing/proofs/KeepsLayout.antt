@@ -10,11 +10,10 @@ use lib.ListN.{length, length-append}
 use lib.Dec.{leb, ltb, eqb, lit<}
 use borrow.Author.Tests.{eqb-true, eqb-false, leb-true, ltb-true}
 use Rattle.octets.specs.Limits.{mostAttributes}
-use Rattle.octets.specs.Reading.{Read, ok, no, _then_, isOk}
+use Rattle.octets.specs.Reading.{ok}
 use Rattle.octets.specs.Writing.{word, ledImage, images, Each, Octet}
 use Rattle.octets.proofs.Spans.{each-join}
-use Rattle.octets.proofs.Inverse.{ok-value, no-ok, chosen, refused}
-use Rattle.octets.proofs.Ends.{chosen-ok}
+use Rattle.octets.proofs.Inverse.{chosen, refused}
 use Rattle.kinds.specs.declared.Kind.{Kind}
 use Rattle.kinds.specs.Kinds.{numberOf, basicOf, known, kindOf}
 use Rattle.kinds.proofs.Table.{known-ok, code-of-basic}
@@ -30,8 +29,11 @@ use Rattle.elements.specs.Document.{itemImage}
 use Rattle.writer.specs.declared.Wanted.{Wanted}
 use Rattle.writer.specs.declared.Wanted.the-variants as wants
 use Rattle.writer.specs.declared.State.{State}
-use Rattle.writer.specs.Writer.{Call, openLayout, typeName, attributeCount, attributeName, attributeType, rule, fine, unless, Deed, put, attributes, does, addition}
-use Rattle.writing_parts.specs.Answers.{refusal, added}
+use Rattle.writer.specs.Writer.{Call, openLayout, typeName, attributeCount, attributeName, attributeType, rule, Deed, put, attributes, does}
+use Rattle.writing_parts.specs.declared.Fault.{Fault}
+use Rattle.writing_parts.specs.Faults.{fine, unless, refusedBy}
+use Rattle.writing_parts.specs.Answers.{learningOf, refusal}
+use Rattle.writing_parts.proofs.Faults.{fine-not, holds, is-read}
 use Rattle.writer.proofs.Bounds.{turn-count, open-head}
 use Rattle.promises_writing.specs.Promise.{attributeCalls, itemCalls, withLayout, Told, adds, opens}
 use Rattle.promises_writing.proofs.Standing.{Spot, spot, stateAt, behind, so-far, number-first, takes-learnt, complete-leaves}
@@ -42,33 +44,30 @@ use Rattle.promises_writing.proofs.Items.{next-item, same-between, open
 use Rattle.promises_writing.proofs.KeepsHeader.{is-text, Keeps}
 
 -- A type that is accepted is a good one's.
-kind-is : (t : ℕ) (k : Kind) (n : ℕ) → kindOf 0 t 0 ≡ ok k n → (numberOf k ≡ t) × (k .derived < 256)
-kind-is t k n e =
-    let (t₁, e₁) = refused (leb (2 ^ 31) t) 9 0 _ e in
-    let (t₂, e₂) = chosen (ltb t 0x10000) (λ _. known 0 t 0 (basicOf (t % 256))) 8 0 e₁ in
-    let (b, f, e₃) = known-ok 0 t 0 (basicOf (t % 256)) e₂ in
+kind-is : (t at next : ℕ) → refusedBy (kindOf at t next) ≡ fine → (k : Kind) × (numberOf k ≡ t) × (k .derived < 256)
+kind-is t at next fault =
+    let (_, _, e) = is-read (kindOf at t next) fault in
+    let (t₁, e₁) = refused (leb (2 ^ 31) t) 9 at _ e in
+    let (t₂, e₂) = chosen (ltb t 0x10000) (λ _. known at t next (basicOf (t % 256))) 8 at e₁ in
+    let (b, f, _) = known-ok at t next (basicOf (t % 256)) e₂ in
     let small : t < 65536 = ltb-true t 65536 t₂ in
     let code = code-of-basic (t % 256) b f in
-    let is : record { derived = t / 256; basic = b } ≡ k = cc in
-    subst (λ (x : Kind). (numberOf x ≡ t) × (x .derived < 256)) is (omega arith, omega arith)
+    (record { derived = t / 256; basic = b }, omega arith, omega arith)
 
 -- What a book takes of a layout, it learns.
 record Learns (b : Book) (l : Layout) : Type 0 where
   next : Book
   learns : learn b l 0 ≡ ok next 0
 
-abbrev Takes : Layout → List ℕ → ℕ → Learning → Type 0
-Takes l new q x = (refusal x then λ _ _. ok (added x (layoutImage l)) 0) ≡ ok new q
-
-learns-of : (b : Book) (l : Layout) (new : List ℕ) (q : ℕ) → GoodLayout l → addition true b (length (bookImage b)) (layoutImage l) ≡ ok new q → Learns b l
-learns-of b l new q g e =
+learns-of : (b : Book) (l : Layout) → GoodLayout l → refusal (learningOf b (length (bookImage b)) (layoutImage l)) ≡ fine → Learns b l
+learns-of b l g e =
     go (learning b (length (bookImage b)) (l .number) (layoutImage l)) (judges b l 0)
-    (subst (λ (n : ℕ). Takes l new q (learning b (length (bookImage b)) n (layoutImage l))) (number-first l g) e)
+    (subst (λ (n : ℕ). refusal (learning b (length (bookImage b)) n (layoutImage l)) ≡ fine) (number-first l g) e)
   where
-    go : (x : Learning) → Judges (length (bookImage b)) b l 0 x → Takes l new q x → Learns b l
+    go : (x : Learning) → Judges (length (bookImage b)) b l 0 x → refusal x ≡ fine → Learns b l
     go Known w h = record { next = b; learns = w }
     go (New v) w h = record { next = b ++ l ∷ []; learns = w .0 }
-    go (Refused n) w h = absurd (no-ok refl h)
+    go (Refused n) w h = absurd (fine-not refl h)
 
 -- A call that makes the open layout whole.
 record Completes (c : Call) (x : Spot) (done : List ℕ) (told : Told) : Type 0 where
@@ -79,13 +78,13 @@ record Completes (c : Call) (x : Spot) (done : List ℕ) (told : Told) : Type 0 
 
 module _ {buffer lent : List ℕ} {told : Told} (now : Stand buffer lent told) where
   -- Octets of the open layout with so many attributes behind them.
-  abbrev part : Wanted → Read (Unit {0}) → Call → ℕ → Deed
+  abbrev part : Wanted → Fault → Call → ℕ → Deed
   part t fault c left = attributes (stateAt (now .done) (now .at)) t fault (octetsOf c) left
 
-  complete-keeps : (c : Call) (t : Wanted) (fault : Read (Unit {0})) (new : List ℕ) → PassesHere now (part t fault c 0) new
+  complete-keeps : (c : Call) (t : Wanted) (fault : Fault) → PassesHere now (part t fault c 0)
       → Completes c (now .at) (now .done) told → now .at .start + 8 ≤ length (now .done)
-      → Inv buffer lent (adds told c) (leftHere now (part t fault c 0) new)
-  complete-keeps c t fault new p i head =
+      → Inv buffer lent (adds told c) (leftHere now (part t fault c 0))
+  complete-keeps c t fault p i head =
       let x = now .at in
       let o = i .opened in
       let l = i .l in
@@ -93,9 +92,8 @@ module _ {buffer lent : List ℕ} {told : Told} (now : Stand buffer lent told) w
       let more : List ℕ = images octetsOf (told .latest) in
       let whole : more ++ xs ≡ word 4 1 ++ layoutImage l = sym (images-snoc octetsOf (told .latest) c) ∙ (ap (images octetsOf) (i .said) ∙ layout-octets l) in
       let low : 4 ≤ length more = omega (arith, o .start, ap length (o .is), length-append (o .before) more) in
-      let taken : addition true (x .book) (length (bookImage (x .book))) (layoutImage l) ≡ ok new (p .end) =
-      rw (so-far (o .before) more (rest now) xs (now .done) x l (o .is) (o .start) low whole) at (p .takes) in
-      let found = learns-of (x .book) l new (p .end) (i .good) taken in
+      let so-far-is = so-far (o .before) more (rest now) xs (now .done) x l (o .is) (o .start) low whole in
+      let found = learns-of (x .book) l (i .good) (rw so-far-is at (p .learnt)) in
       let next : Book = found .next in
       let takes = takes-learnt lent (x .book) l next (i .good) (learnt (x .book) l 0 next 0 (found .learns)) in
       let calls : List Call = told .settled ++ itemCalls (layout l) in
@@ -104,34 +102,34 @@ module _ {buffer lent : List ℕ} {told : Told} (now : Stand buffer lent told) w
       let between : Between next (x .rows) (now .done ++ xs) (told .settled ++ (told .latest ++ c ∷ [])) =
       same-between item (sym (learn-with (x .book) l next 0 0 (found .learns))) (add-zero (x .rows)) (sym all) (ap (λ (z : List Call). told .settled ++ z) (sym (i .said))) in
       let (stand, is) = put-stand now (adds told c) xs (spot next wants.Element 0 0 (x .rows)) (p .fits) (grown (x .book) l 0 next 0 (now .good) (i .good) (found .learns) .good) (between, refl) in
-      record { stand = stand; is = complete-leaves lent (now .done) (rest now) x t fault xs new l next takes (ok-value taken (takes .takes)) ∙ is }
+      record { stand = stand; is = complete-leaves lent (now .done) (rest now) x t fault xs l next takes so-far-is ∙ is }
 
   -- A call whose octets have so many attributes behind them: it puts its octets, or completes the layout.
-  attributes-keep : (c : Call) (t : Wanted) (fault : Read (Unit {0})) (left : ℕ) (new : List ℕ) → rule t .head ≡ 8
-      → PassesHere now (part t fault c left) new
+  attributes-keep : (c : Call) (t : Wanted) (fault : Fault) (left : ℕ) → rule t .head ≡ 8
+      → PassesHere now (part t fault c left)
       → (Shape t (now .at) (now .done) told → rule t .least ≤ now .at .count → (left ≡ 0 → ⊥)
       → Shape wants.AttributeName (spot (now .at .book) wants.AttributeName left (now .at .start) (now .at .rows)) (now .done ++ octetsOf c) (adds told c))
       → (Shape t (now .at) (now .done) told → rule t .least ≤ now .at .count → left ≡ 0 → Completes c (now .at) (now .done) told)
-      → Inv buffer lent (adds told c) (leftHere now (part t fault c left) new)
-  attributes-keep c t fault left new eight p more last = go (eqb left 0) refl
+      → Inv buffer lent (adds told c) (leftHere now (part t fault c left))
+  attributes-keep c t fault left eight p more last = go (eqb left 0) refl
     where
-      go : (e : Bool) → eqb left 0 ≡ e → Inv buffer lent (adds told c) (leftHere now (part t fault c left) new)
+      go : (e : Bool) → eqb left 0 ≡ e → Inv buffer lent (adds told c) (leftHere now (part t fault c left))
       go false e =
           let is : part t fault c left ≡ put (stateAt (now .done) (now .at)) t fault (octetsOf c) wants.AttributeName left (now .at .start) = rw e in
-          subst (λ (d : Deed). Inv buffer lent (adds told c) (leftHere now d new)) (sym is)
-          (put-keeps now (adds told c) t wants.AttributeName fault (octetsOf c) left (now .at .start) (subst (λ (d : Deed). PassesHere now d new) is p)
+          subst (λ (d : Deed). Inv buffer lent (adds told c) (leftHere now d)) (sym is)
+          (put-keeps now (adds told c) t wants.AttributeName fault (octetsOf c) left (now .at .start) (subst (λ (d : Deed). PassesHere now d) is p)
           (λ i least _. more i least (eqb-false left 0 e)))
       go true e =
           let none : left ≡ 0 = eqb-true left 0 e in
           let s : State = stateAt (now .done) (now .at) in
           let size : ℕ = length (now .done ++ rest now) in
           let head = open-head s size (p .inside) t (p .in-turn) (omega arith) in
-          subst (λ (n : ℕ). Inv buffer lent (adds told c) (leftHere now (part t fault c n) new)) (sym none)
-          (complete-keeps c t fault new (subst (λ (n : ℕ). PassesHere now (part t fault c n) new) none p) (last (here now t (p .in-turn)) (turn-count s size (p .inside) t (p .in-turn) .0) none) (omega arith))
+          subst (λ (n : ℕ). Inv buffer lent (adds told c) (leftHere now (part t fault c n))) (sym none)
+          (complete-keeps c t fault (subst (λ (n : ℕ). PassesHere now (part t fault c n)) none p) (last (here now t (p .in-turn)) (turn-count s size (p .inside) t (p .in-turn) .0) none) (omega arith))
 
   pub keep-layout : (n : ℕ) → n < 2 ^ 32 → Keeps now (openLayout n)
   unfolding does
-  keep-layout n small new p =
+  keep-layout n small p =
       put-keeps now (opens told (openLayout n)) wants.Element wants.TypeName fine (octetsOf (openLayout n)) 0 (length (now .done)) p λ i _ _.
       record {
         opened = opening (now .at) (now .done) told (openLayout n) wants.TypeName i;
@@ -146,7 +144,7 @@ module _ {buffer lent : List ℕ} {told : Told} (now : Stand buffer lent told) w
 
   pub keep-name : (xs : List ℕ) → Each Octet xs → Keeps now (typeName xs)
   unfolding does
-  keep-name xs o new p =
+  keep-name xs o p =
       put-keeps now (adds told (typeName xs)) wants.TypeName wants.AttributeCount fine (ledImage xs) 0 (now .at .start) p λ i _ small.
       record {
         opened = longer (typeName xs) wants.AttributeCount 0 (i .opened);
@@ -161,8 +159,8 @@ module _ {buffer lent : List ℕ} {told : Told} (now : Stand buffer lent told) w
 
   pub keep-attributes : (n : ℕ) → Keeps now (attributeCount n)
   unfolding does
-  keep-attributes n new p =
-      attributes-keep (attributeCount n) wants.AttributeCount (unless (leb n mostAttributes) 4) n new refl p
+  keep-attributes n p =
+      attributes-keep (attributeCount n) wants.AttributeCount (unless (leb n mostAttributes) 4) n refl p
       (λ i _ _.
       record {
         opened = longer (attributeCount n) wants.AttributeName n (i .opened);
@@ -171,7 +169,7 @@ module _ {buffer lent : List ℕ} {told : Told} (now : Stand buffer lent told) w
         name = [];
         good = record { number = i .good .number; type-name = i .good .type-name; few = omega arith; attributes = tt };
         text = (tt, lit< tt);
-        counts = (zero-add n, leb-true n mostAttributes (chosen-ok (leb n mostAttributes) (λ _. fine) 4 0 (p .faultless)));
+        counts = (zero-add n, leb-true n mostAttributes (holds (leb n mostAttributes) 4 (p .faultless)));
         said = one-more (attributeCount n) (i .said);
       })
       (λ i _ none.
@@ -184,7 +182,7 @@ module _ {buffer lent : List ℕ} {told : Told} (now : Stand buffer lent told) w
 
   pub keep-attribute : (xs : List ℕ) → Each Octet xs → Keeps now (attributeName xs)
   unfolding does
-  keep-attribute xs o new p =
+  keep-attribute xs o p =
       put-keeps now (adds told (attributeName xs)) wants.AttributeName wants.AttributeType fine (ledImage xs) (now .at .count) (now .at .start) p λ i _ small.
       record {
         opened = longer (attributeName xs) wants.AttributeType (now .at .count) (i .opened);
@@ -198,38 +196,34 @@ module _ {buffer lent : List ℕ} {told : Told} (now : Stand buffer lent told) w
       }
 
   -- A type that is taken, with the name before it, is one attribute more.
-  typed : (t left : ℕ) → isOk (kindOf 0 t 0 then λ _ _. fine) ≡ true → left ≡ now .at .count - 1 → 1 ≤ now .at .count → (i : Shape wants.AttributeType (now .at) (now .done) told)
+  typed : (t at next left : ℕ) → refusedBy (kindOf at t next) ≡ fine → left ≡ now .at .count - 1 → 1 ≤ now .at .count → (i : Shape wants.AttributeType (now .at) (now .done) told)
       → (l : Layout) × GoodLayout l × (length (l .attributes) + left ≡ i .n) × (told .latest ++ attributeType t ∷ [] ≡ attributed l (i .n))
-  typed t left e less one i = go (kindOf 0 t 0) refl e
-    where
-      go : (r : Read Kind) → kindOf 0 t 0 ≡ r → isOk (r then λ _ _. fine) ≡ true
-          → (l : Layout) × GoodLayout l × (length (l .attributes) + left ≡ i .n) × (told .latest ++ attributeType t ∷ [] ≡ attributed l (i .n))
-      go (ok k n) f _ =
-          let (is, small) = kind-is t k n f in
-          let l = i .l in
-          let a : Attribute = record { name = i .name; kind = k } in
-          let given : List Attribute = l .attributes ++ a ∷ [] in
-          let long : length given ≡ length (l .attributes) + 1 = length-append (l .attributes) (a ∷ []) in
-          let sum = i .counts in (
-            record { number = l .number; type-name = l .type-name; attributes = given },
-            record {
-              number = i .good .number;
-              type-name = i .good .type-name;
-              few = omega arith;
-              attributes = each-join GoodAttribute (l .attributes) (a ∷ []) (i .good .attributes) (record { name = i .text; derived = small }, tt);
-            },
-            omega arith,
-            one-more (attributeType t) (i .said) ∙ rw (each-snoc attributeCalls (l .attributes) a, is) (simp append-assoc),
-          )
-      go (no n p) f h = absurd (let z : _≡_ {A = ℕ} 0 1 = cc in omega arith)
+  typed t at next left e less one i =
+      let (k, is, small) = kind-is t at next e in
+      let l = i .l in
+      let a : Attribute = record { name = i .name; kind = k } in
+      let given : List Attribute = l .attributes ++ a ∷ [] in
+      let long : length given ≡ length (l .attributes) + 1 = length-append (l .attributes) (a ∷ []) in
+      let sum = i .counts in (
+        record { number = l .number; type-name = l .type-name; attributes = given },
+        record {
+          number = i .good .number;
+          type-name = i .good .type-name;
+          few = omega arith;
+          attributes = each-join GoodAttribute (l .attributes) (a ∷ []) (i .good .attributes) (record { name = i .text; derived = small }, tt);
+        },
+        omega arith,
+        one-more (attributeType t) (i .said) ∙ rw (each-snoc attributeCalls (l .attributes) a, is) (simp append-assoc),
+      )
 
   pub keep-type : (t : ℕ) → Keeps now (attributeType t)
   unfolding does
-  keep-type t new p =
+  keep-type t p =
       let left : ℕ = now .at .count - 1 in
-      attributes-keep (attributeType t) wants.AttributeType (kindOf 0 t 0 then λ _ _. fine) left new refl p
+      let place : ℕ = length (now .done) in
+      attributes-keep (attributeType t) wants.AttributeType (refusedBy (kindOf place t (place + 4))) left refl p
       (λ i one _.
-      let (l, good, sum, said) = typed t left (p .faultless) refl one i in
+      let (l, good, sum, said) = typed t place (place + 4) left (p .faultless) refl one i in
       record {
         opened = longer (attributeType t) wants.AttributeName left (i .opened);
         l = l;
@@ -241,6 +235,6 @@ module _ {buffer lent : List ℕ} {told : Told} (now : Stand buffer lent told) w
         said = said;
       })
       (λ i one none.
-      let (l, good, sum, said) = typed t left (p .faultless) refl one i in
+      let (l, good, sum, said) = typed t place (place + 4) left (p .faultless) refl one i in
       let all : i .n ≡ length (l .attributes) = omega arith in
       record { opened = i .opened; l = l; good = good; said = said ∙ ap (attributed l) all })

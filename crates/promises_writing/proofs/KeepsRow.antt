@@ -4,32 +4,34 @@ use Prim.Native.Nat.{ℕ, _+_, _-_, _^_, _≤_, _<_}
 use mathlib.Core.Path.{_≡_, refl, sym, ap, _∙_, subst}
 use mathlib.Core.List.{List, [], _∷_, _++_, append-assoc, append-nil}
 use mathlib.Core.Bool.{true}
-use mathlib.Core.Option.{Option, some, none}
+use mathlib.Core.Option.{some}
 use native.Mathlib.Omega.{arith}
 use lib.ListN.{length, take, drop, replicate, length-append, length-drop}
 use lib.Seq.{take-add, take-all}
 use lib.Dec.{leb, eqb}
 use borrow.Author.Tests.{eqb-true, leb-true, ltb-true}
 use Rattle.octets.specs.Limits.{longest}
-use Rattle.octets.specs.Reading.{Read, ok, _then_, isOk}
 use Rattle.octets.specs.Writing.{word, images}
 use Rattle.octets.proofs.Copies.{both-true}
-use Rattle.octets.proofs.Ends.{chosen-ok}
 use Rattle.kinds.specs.declared.Basic.{Basic}
 use Rattle.kinds.specs.declared.Form.{Form}
 use Rattle.kinds.specs.declared.Form.the-variants as form
 use Rattle.kinds.specs.Kinds.{codeOf, formBy, formOf}
 use Rattle.kinds.proofs.Table.{code-once}
-use Rattle.layouts.specs.Layout.{Attribute, Layout}
+use Rattle.layouts.specs.Layout.{Attribute}
 use Rattle.layouts.specs.Book.{find}
 use Rattle.rows.specs.Row.{Field, fieldImage, lengthImage, FieldsOf}
 use Rattle.kinds.specs.Forms.{Value, bits, held, valueImage, GoodValue}
 use Rattle.headers.specs.Header.{headerImage}
 use Rattle.elements.specs.Element.{row}
 use Rattle.elements.specs.Document.{Document, itemImage, image}
+use Rattle.writing_parts.specs.declared.Fault.{Fault}
+use Rattle.writing_parts.specs.Faults.{fine, unless}
+use Rattle.writing_parts.proofs.Faults.{holds}
 use Rattle.writer.specs.declared.Wanted.{Wanted}
 use Rattle.writer.specs.declared.Wanted.the-variants as wants
-use Rattle.writer.specs.Writer.{Call, openRow, value, closeRow, giveUp, finish, isOpen, fine, unless, inBook, rowLayout, suits, isNext, does}
+use Rattle.writer.specs.Writer.{Call, openRow, value, closeRow, giveUp, finish, isOpen, inBook, rowLayout, suits, isNext, does}
+use Rattle.writer.proofs.Kept.{in-book}
 use Rattle.promises_writing.specs.Promise.{each, fieldCalls, itemCalls, headerCalls, callsOf, GivenValue, Told, adds, opens, tell}
 use Rattle.promises_writing.proofs.Standing.{Spot, spot, stateAt, standing, behind, row-layout, close-leaves, give-up-leaves}
 use Rattle.promises_writing.proofs.Writes.{image-parts}
@@ -37,11 +39,6 @@ use Rattle.promises_writing.proofs.Put.{octetsOf, each-snoc, row-octets
 use Rattle.promises_writing.proofs.Shapes.{Opened, InRow, Shape, Stand, rest, Inv, room-small, PassesHere, leftHere, here, put-keeps}
 use Rattle.promises_writing.proofs.KeepsHeader.{is-text, Keeps}
 use Rattle.promises_writing.proofs.Items.{next-item, same-between, opening, longer, one-more}
-
--- A layout that is looked up without fault is there.
-in-book : (o : Option Layout) → isOk (inBook o then λ _ _. fine) ≡ true → (l : Layout) × (o ≡ some l)
-in-book (some l) e = (l, refl)
-in-book none e = absurd (let z : _≡_ {A = ℕ} 0 1 = cc in omega arith)
 
 -- A value that is taken is the next field's.
 record Next (attributes : List Attribute) (b : Basic) (v : Value) : Type 0 where
@@ -98,15 +95,15 @@ opened-at wants.Nothing told i e = absurd (let z : _≡_ {A = ℕ} 0 1 = cc in o
 
 module _ {buffer lent : List ℕ} {told : Told} (now : Stand buffer lent told) where
   -- The layout that an open row's number names is the row's.
-  row-here : (i : Shape wants.Value (now .at) (now .done) told) → rowLayout (stateAt (now .done) (now .at)) (now .done ++ rest now) (now .at .book) ≡ ok (i .l) 0
+  row-here : (i : Shape wants.Value (now .at) (now .done) told) → rowLayout (stateAt (now .done) (now .at)) (now .done ++ rest now) (now .at .book) ≡ some (i .l)
   row-here i =
       row-layout (i .opened .before) (lengthImage (i .r .is-stated) 0 ++ images fieldImage (i .r .fields)) (rest now) (now .done) (now .at) (i .r .number) (i .l) (row-form i) (i .opened .start) (i .small) (i .found)
 
   pub keep-row : (n : ℕ) (stated : _) → n < 2 ^ 32 → Keeps now (openRow n stated)
   unfolding does
-  keep-row n stated small new p =
-      let found = in-book (find n (now .at .book)) (p .faultless) in
-      put-keeps now (opens told (openRow n stated)) wants.Element wants.Value (inBook (find n (now .at .book)) then λ _ _. fine) (octetsOf (openRow n stated)) 0 (length (now .done)) p λ i _ _.
+  keep-row n stated small p =
+      let found = in-book (find n (now .at .book)) (λ _. fine) (p .faultless) in
+      put-keeps now (opens told (openRow n stated)) wants.Element wants.Value (inBook (find n (now .at .book)) λ _. fine) (octetsOf (openRow n stated)) 0 (length (now .done)) p λ i _ _.
       record {
         opened = opening (now .at) (now .done) told (openRow n stated) wants.Value i;
         r = record { number = n; is-stated = stated; fields = [] };
@@ -143,26 +140,26 @@ module _ {buffer lent : List ℕ} {told : Told} (now : Stand buffer lent told) w
 
   pub keep-value : (b : Basic) (v : Value) → GivenValue v → Keeps now (value b v)
   unfolding does
-  keep-value b v g new p =
-      let fault : Read (Unit {0}) =
-      rowLayout (stateAt (now .done) (now .at)) (now .done ++ rest now) (now .at .book) then λ l _. unless (isNext (drop (now .at .count) (l .attributes)) b v) 21 in
-      let faultless : isOk fault ≡ true = p .faultless in
+  keep-value b v g p =
+      let fault : Fault =
+      inBook (rowLayout (stateAt (now .done) (now .at)) (now .done ++ rest now) (now .at .book)) λ l. unless (isNext (drop (now .at .count) (l .attributes)) b v) 21 in
+      let faultless : fault ≡ fine = p .faultless in
       put-keeps now (adds told (value b v)) wants.Value wants.Value fault (valueImage (formBy b) v) (now .at .count + 1) (now .at .start) p λ i _ small.
-      let next = next-is (drop (now .at .count) (i .l .attributes)) b v (chosen-ok (isNext (drop (now .at .count) (i .l .attributes)) b v) (λ _. fine) 21 0 (rw (row-here i) at faultless)) in
+      let next = next-is (drop (now .at .count) (i .l .attributes)) b v (holds (isNext (drop (now .at .count) (i .l .attributes)) b v) 21 (rw (row-here i) at faultless)) in
       valued b v g small i next
 
   pub keep-close : Keeps now closeRow
   unfolding does
-  keep-close new p =
+  keep-close p =
       let x = now .at in
-      let fault : Read (Unit {0}) = rowLayout (stateAt (now .done) x) (now .done ++ rest now) (x .book) then λ l _. unless (leb (length (l .attributes)) (x .count)) 22 in
-      let faultless : isOk fault ≡ true = p .faultless in
+      let fault : Fault = inBook (rowLayout (stateAt (now .done) x) (now .done ++ rest now) (x .book)) λ l. unless (leb (length (l .attributes)) (x .count)) 22 in
+      let faultless : fault ≡ fine = p .faultless in
       let i = here now wants.Value (p .in-turn) in
       let attributes : List Attribute = i .l .attributes in
-      let all : length attributes ≤ x .count = leb-true (length attributes) (x .count) (chosen-ok (leb (length attributes) (x .count)) (λ _. fine) 22 0 (rw (row-here i) at faultless)) in
+      let all : length attributes ≤ x .count = leb-true (length attributes) (x .count) (holds (leb (length attributes) (x .count)) 22 (rw (row-here i) at faultless)) in
       let fields : FieldsOf attributes (i .r .fields) = subst (λ (z : List Attribute). FieldsOf z (i .r .fields)) (take-all (x .count) attributes all) (i .fields) in
       let before : List ℕ = i .opened .before in
-      let (leaves, place) = close-leaves lent before (rest now) (now .done) x (i .r) (row-form i) (i .opened .start) (p .takes) in
+      let (leaves, place) = close-leaves lent before (rest now) (now .done) x (i .r) (row-form i) (i .opened .start) in
       let said : told .latest ++ closeRow ∷ [] ≡ itemCalls (row (i .r)) = one-more closeRow (i .said) in
       let item = next-item (i .opened .between) (row (i .r)) (i .small, (i .l, i .found, fields), tt) in
       record {
@@ -178,12 +175,12 @@ module _ {buffer lent : List ℕ} {told : Told} (now : Stand buffer lent told) w
       }
 
   -- Giving up: all stands over a buffer that has zeroes where the element was.
-  pub keep-given-up : (next new : List ℕ) → length next ≡ length buffer
+  pub keep-given-up : (next : List ℕ) → length next ≡ length buffer
       → drop (now .at .start) next ≡ replicate (length (now .done) - now .at .start) 0 ++ rest now
-      → PassesHere now (does (stateAt (now .done) (now .at)) (now .done ++ rest now) (now .at .book) giveUp) new
-      → Inv next lent (tell told giveUp) (leftHere now (does (stateAt (now .done) (now .at)) (now .done ++ rest now) (now .at .book) giveUp) new)
+      → PassesHere now (does (stateAt (now .done) (now .at)) (now .done ++ rest now) (now .at .book) giveUp)
+      → Inv next lent (tell told giveUp) (leftHere now (does (stateAt (now .done) (now .at)) (now .done ++ rest now) (now .at .book) giveUp))
   unfolding does
-  keep-given-up next new long zeroed p =
+  keep-given-up next long zeroed p =
       let x = now .at in
       let o = opened-at (x .turn) told (now .shape) (p .in-turn) in
       let more : List ℕ = images octetsOf (told .latest) in
@@ -202,13 +199,13 @@ module _ {buffer lent : List ℕ} {told : Told} (now : Stand buffer lent told) w
               good = now .good;
               shape = (same-between (o .between) refl refl refl (sym (append-nil (told .settled))), refl);
             };
-        is = give-up-leaves lent (o .before) more (rest now) (now .done) x (o .is) (o .start) (p .takes)
+        is = give-up-leaves lent (o .before) more (rest now) (now .done) x (o .is) (o .start)
             ∙ ap (λ (z : List ℕ). standing lent (o .before) z (spot (x .book) wants.Element 0 0 (x .rows))) covers;
       }
 
   pub keep-finish : (n : ℕ) → n < 2 ^ 64 → Keeps now (finish n)
   unfolding does callsOf
-  keep-finish n small new p =
+  keep-finish n small p =
       let x = now .at in
       let xs : List ℕ = word 4 3 ++ word 4 (x .rows) ++ word 8 n in
       let fits = p .fits in

@@ -17,9 +17,10 @@ use Rattle.kinds.specs.Forms.{bits, held}
 use Rattle.promises.specs.Specimen.{specimen, layoutBook, emptyBook}
 use Rattle.promises.specs.Refusals.{Only, refusalsOf}
 use Rattle.promises.proofs.Given.{layouts}
+use Rattle.writing_parts.specs.Faults.{fine}
 use Rattle.writer.specs.declared.Wanted.{Wanted}
 use Rattle.writer.specs.declared.Wanted.the-variants as wants
-use Rattle.writer.specs.Writer.{Call, fine, room, bounded, rowLayout, does, layoutSoFar, early, tried, deedAnswer, call}
+use Rattle.writer.specs.Writer.{Call, room, bounded, rowLayout, does, layoutSoFar, faultOf, deedAnswer, call}
 use Rattle.writer.specs.Writer as writer
 use Rattle.promises_writing.specs.Numbers.{Made, Opening, Typed, Handed, fieldNumbers, countNumbers, idNumbers, attributesNumbers, typeNumbers, rowNumbers, valueNumbers, closeNumbers, giveUpNumbers, Numbers}
 use Rattle.promises_writing.proofs.Only.{plain-only, namespaces-only, services-only, id-only, attributes-only, type-only, open-row-only, value-only, close-only, give-up-only}
@@ -104,18 +105,18 @@ fields-each :
     × (refusals writer.typeName (fieldInputs wants.TypeName []) ≡ fieldNumbers)
     × (refusals writer.attributeName (fieldInputs wants.AttributeName []) ≡ fieldNumbers)
     × (refusals writer.finish (fieldInputs wants.Element 0) ≡ fieldNumbers)
-unfolding emptyBook numberIn ledIn be part word ledImage layoutsAt bookOf bookIn room bounded does layoutSoFar early tried deedAnswer call
+unfolding emptyBook numberIn ledIn be part word ledImage layoutsAt bookOf bookIn room bounded does layoutSoFar faultOf deedAnswer call
 fields-each = (refl, refl, refl, refl, refl, refl, refl, refl, refl, refl)
 
 counts-each :
     (refusals writer.namespaceCount (countInputs wants.NamespaceCount) ≡ countNumbers)
     × (refusals writer.serviceCount (countInputs wants.ServiceCount) ≡ countNumbers)
     × (refusals writer.documentId idInputs ≡ idNumbers)
-unfolding idInputs emptyBook be part word layoutsAt bookOf bookIn room bounded does layoutSoFar early tried deedAnswer call
+unfolding idInputs emptyBook be part word layoutsAt bookOf bookIn room bounded does layoutSoFar faultOf deedAnswer call
 counts-each = (refl, refl, refl)
 
 layouts-each : (refusals writer.attributeCount attributesInputs ≡ attributesNumbers) × (refusals writer.attributeType typeInputs ≡ typeNumbers)
-unfolding attributesInputs typeInputs specimen layoutBook emptyBook be part numberIn ledIn count run word ledImage images over among basicOf kindAt attributeAt layoutAt attributeImage layoutImage find layoutsAt bookOf bookIn room bounded does layoutSoFar early tried deedAnswer call
+unfolding attributesInputs typeInputs specimen layoutBook emptyBook be part numberIn ledIn count run word ledImage images over among basicOf kindAt attributeAt layoutAt attributeImage layoutImage find layoutsAt bookOf bookIn room bounded does layoutSoFar faultOf deedAnswer call
 layouts-each = (refl, refl)
 
 rows-each :
@@ -125,7 +126,7 @@ rows-each :
     × (refusals (λ (a : Handed). writer.valueCall (a .value) (a .octets)) handedInputs ≡ valueNumbers)
     × (refusals (λ (a : Unit {0}). writer.closeRow) closeInputs ≡ closeNumbers)
     × (refusals (λ (a : Unit {0}). writer.giveUp) (anyhow tt []) ≡ giveUpNumbers)
-unfolding rowInputs closeInputs specimen layoutBook emptyBook be part numberIn ledIn count run word ledImage images over among basicOf kindAt unsigned attributeAt layoutAt find layoutsAt bookOf bookIn room bounded rowLayout does layoutSoFar early tried deedAnswer call
+unfolding rowInputs closeInputs specimen layoutBook emptyBook be part numberIn ledIn count run word ledImage images over among basicOf kindAt unsigned attributeAt layoutAt find layoutsAt bookOf bookIn room bounded rowLayout does layoutSoFar faultOf deedAnswer call
 rows-each = (refl, refl, refl, refl, refl, refl)
 
 -- A field with nothing of its own to refuse.

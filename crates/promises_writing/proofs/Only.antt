@@ -1,7 +1,7 @@
 -- A call gives no refusal number but those listed for it: 17, 20, those of its own fault, 10 and 11 where it may complete a layout, and 23 where it puts octets behind the place. Assumes nothing.
 use Prim.Native.Nat.{ℕ, _+_, _-_, _^_, _%_, _≤_}
 use mathlib.Core.Path.{_≡_, refl, sym, subst}
-use mathlib.Core.List.{List, []}
+use mathlib.Core.List.{List}
 use mathlib.Core.Bool.{Bool, true, false, _&&_}
 use mathlib.Core.Option.{Option, some, none}
 use mathlib.Core.Logic.{inl, inr}
@@ -10,8 +10,7 @@ use lib.ListN.{length, drop, length-replicate}
 use lib.Dec.{leb, ltb, eqb}
 use borrow.Author.Tests.{le-leb}
 use Rattle.octets.specs.Limits.{mostAttributes, mostListed}
-use Rattle.octets.specs.Reading.{Read, ok, no, be}
-use Rattle.octets.proofs.Inverse.{after, chosen}
+use Rattle.octets.specs.Reading.{Read, ok, no, choose, isOk, be}
 use Rattle.octets.proofs.Copies.{both-true}
 use Rattle.kinds.specs.declared.Basic.{Basic}
 use Rattle.kinds.specs.Kinds.{basicOf, kindOf}
@@ -19,41 +18,64 @@ use Rattle.kinds.specs.Kinds as kinds
 use Rattle.layouts.specs.Layout.{Layout}
 use Rattle.layouts.specs.Book.{find, bookOf, bookIn}
 use Rattle.layouts.specs.declared.Learning.{Learning}
-use Rattle.layouts.specs.declared.Learning.the-variants.{Known, New, Refused}
+use Rattle.layouts.specs.declared.Learning.the-variants as learning
 use Rattle.layouts.proofs.Judging.{Learned, learned}
+use Rattle.writing_parts.specs.declared.Fault.{Fault}
+use Rattle.writing_parts.specs.declared.Fault.the-variants.{None, Refused}
+use Rattle.writing_parts.specs.Faults.{fine, unless, refusedBy, _or_}
 use Rattle.writing_parts.specs.Answers.{learningOf, refusal}
+use Rattle.writing_parts.proofs.Faults.{fine-not, same-number, both-fine, holds}
 use Rattle.kinds.specs.Forms.{Value}
 use Rattle.promises.specs.Refusals.{Only}
-use Rattle.promises.proofs.Numbers.{taken, given, In, only-with, only-then, only-choose, book-17}
+use Rattle.promises.proofs.Numbers.{taken, given, In, only-choose}
 use Rattle.writer.specs.declared.Wanted.the-variants as wants
 use Rattle.writer.specs.declared.State.{State}
-use Rattle.writer.specs.Writer.{Call, namespaceCount, serviceCount, documentId, attributeCount, attributeType, openRow, value, closeRow, giveUp, room, bounded, fine, unless, Deed, inBook, rowLayout, isNext, does, addition, layoutSoFar, early, tried, placed, deedAnswer, call}
+use Rattle.writer.specs.Writer.{Call, namespaceCount, serviceCount, documentId, attributeCount, attributeType, openRow, value, closeRow, giveUp, Written, room, bounded, Deed, inBook, rowLayout, isNext, does, layoutSoFar, learns, faultOf, answerBy, deedAnswer, call}
 use Rattle.writer.proofs.Bounds.{Bounds, bounds, open-head}
 use Rattle.writer.proofs.Tests.{length-size}
 
+-- A fault of no other number.
+record OnlyFault (ns : List ℕ) (f : Fault) : Type 0 where
+  number : (n : ℕ) → f ≡ Refused n → In ns n
+
 module _ {ns : List ℕ} where
-  unless-only : (t : Bool) (n : ℕ) → In ns n → Only ns (unless t n)
-  unless-only t n h = only-choose t _ _ (taken tt 0) (given n 0 h)
+  fine-only : OnlyFault ns fine
+  fine-only = record { number = λ n e. absurd (fine-not e refl) }
 
-  in-book-only : In ns 12 → (o : Option Layout) → Only ns (inBook o)
-  in-book-only h (some l) = taken l 0
-  in-book-only h none = given 12 0 h
+  refused-only : (n : ℕ) → In ns n → OnlyFault ns (Refused n)
+  refused-only n h = record { number = λ m e. subst (In ns) (same-number e) h }
 
-  kind-only : In ns 9 → In ns 8 → (t : ℕ) → Only ns (kindOf 0 t 0)
-  kind-only nine eight t = only-choose (leb (2 ^ 31) t) _ _ (given 9 0 nine) (only-choose (ltb t 0x10000) _ _ (go (basicOf (t % 256))) (given 8 0 eight))
+  unless-only : (t : Bool) (n : ℕ) → In ns n → OnlyFault ns (unless t n)
+  unless-only true n h = fine-only
+  unless-only false n h = refused-only n h
+
+  or-only : (f g : Fault) → OnlyFault ns f → (f ≡ fine → OnlyFault ns g) → OnlyFault ns (f or g)
+  or-only None g h k = k refl
+  or-only (Refused n) g h k = h
+
+  in-book-only : In ns 12 → (o : Option Layout) (ask : Layout → Fault) → ((l : Layout) → OnlyFault ns (ask l)) → OnlyFault ns (inBook o ask)
+  in-book-only h (some l) ask k = k l
+  in-book-only h none ask k = refused-only 12 h
+
+  read-only : {A : Type 0} (r : Read A) → Only ns r → OnlyFault ns (refusedBy r)
+  read-only (ok a next) h = fine-only
+  read-only (no n p) h = refused-only n (h .number n p refl)
+
+  kind-only : In ns 9 → In ns 8 → (at t next : ℕ) → Only ns (kindOf at t next)
+  kind-only nine eight at t next = only-choose (leb (2 ^ 31) t) _ _ (given 9 at nine) (only-choose (ltb t 0x10000) _ _ (go (basicOf (t % 256))) (given 8 at eight))
     where
-      go : (o : Option Basic) → Only ns (kinds.known 0 t 0 o)
-      go (some b) = taken _ 0
-      go none = given 8 0 eight
+      go : (o : Option Basic) → Only ns (kinds.known at t next o)
+      go (some b) = taken _ next
+      go none = given 8 at eight
 
-  placed-only : {A : Type 0} (at : ℕ) (r : Read A) → Only ns r → Only ns (placed at r)
-  placed-only at (ok a next) h = taken a next
-  placed-only at (no n p) h = given n at (h .number n p refl)
+  answer-only : (f : Fault) (at : ℕ) (w : Written) → OnlyFault ns f → Only ns (answerBy f at w)
+  answer-only None at w h = taken w (w .state .place)
+  answer-only (Refused n) at w h = given n at (h .number n refl)
 
 module _ (s : State) (buffer lent : List ℕ) (used : ℕ) where
-  -- What the book makes of a deed's octets, and whether these have room.
-  abbrev takes : Deed → Read (List ℕ)
-  takes d = addition (d .completes) (bookIn lent used) used (layoutSoFar s buffer (d .octets))
+  -- What the book makes of a deed, and whether its octets have room.
+  abbrev learnt : Deed → Fault
+  learnt d = refusal (learns s buffer (bookIn lent used) used d)
 
   abbrev fits : Deed → Bool
   fits d = leb (d .at + length (d .octets)) (room (length buffer))
@@ -63,47 +85,47 @@ module _ (s : State) (buffer lent : List ℕ) (used : ℕ) where
 
   module _ {ns : List ℕ} (no-book : In ns 17) (no-turn : In ns 20) where
     -- A deed by its tests in their order.
-    deed-only : (d : Deed) → Only ns (d .fault) → Only ns (takes d) → (Bounds s (length buffer) → d .in-turn ≡ true → Only ns (unless (fits d) 23)) → Only ns (deedAnswer s buffer lent used d)
-    unfolding deedAnswer early tried
+    deed-only : (d : Deed) → OnlyFault ns (d .fault) → OnlyFault ns (learnt d) → (Bounds s (length buffer) → d .in-turn ≡ true → OnlyFault ns (unless (fits d) 23)) → Only ns (deedAnswer s buffer lent used d)
+    unfolding deedAnswer faultOf
     deed-only d own new room-for =
-        placed-only (s .place) _
-        (only-with (early s (length buffer) lent used (d .in-turn)) _
-        (only-then (bookOf lent used) _ (book-17 no-book lent used) λ _ _. unless-only (bounded s (length buffer) && d .in-turn) 20 no-turn) λ _ _ e.
-        after (bookOf lent used) _ e λ _ _ _ f.
-        let (within, turn) = both-true _ _ (chosen (bounded s (length buffer) && d .in-turn) (λ _. fine) 20 0 f .0) in
-        only-then (d .fault) _ own λ _ _.
-        only-then (takes d) _ new λ _ _.
-        only-then (unless (fits d) 23) _ (room-for (bounds s (length buffer) within) turn) λ _ _. taken _ _)
+        answer-only _ (s .place) _
+        (or-only _ (unless (fits d) 23)
+        (or-only _ (learnt d)
+        (or-only _ (d .fault)
+        (or-only (unless (isOk (bookOf lent used)) 17) _ (unless-only (isOk (bookOf lent used)) 17 no-book) (λ _. unless-only (bounded s (length buffer) && d .in-turn) 20 no-turn))
+        (λ _. own)) (λ _. new))
+        (λ e.
+        let (e₁, _) = both-fine _ (learnt d) e in
+        let (e₂, _) = both-fine _ (d .fault) e₁ in
+        let (_, e₃) = both-fine (unless (isOk (bookOf lent used)) 17) _ e₂ in
+        let (within, turn) = both-true _ _ (holds (bounded s (length buffer) && d .in-turn) 20 e₃) in
+        room-for (bounds s (length buffer) within) turn))
 
     -- A call that completes no layout, and one that may.
-    field-only : In ns 23 → (c : Call) → Only ns (deed c .fault) → deed c .completes ≡ false → Only ns (call s buffer lent used c)
+    field-only : In ns 23 → (c : Call) → OnlyFault ns (deed c .fault) → deed c .completes ≡ false → Only ns (call s buffer lent used c)
     unfolding call
-    field-only full c own none-done = deed-only (deed c) own (rw none-done (taken [] 0)) (λ _ _. unless-only (fits (deed c)) 23 full)
+    field-only full c own none-done = deed-only (deed c) own (rw none-done fine-only) (λ _ _. unless-only (fits (deed c)) 23 full)
 
-    layout-only : In ns 23 → In ns 10 → In ns 11 → (c : Call) → Only ns (deed c .fault) → Only ns (call s buffer lent used c)
+    layout-only : In ns 23 → In ns 10 → In ns 11 → (c : Call) → OnlyFault ns (deed c .fault) → Only ns (call s buffer lent used c)
     unfolding call
-    layout-only full ten eleven c own = deed-only (deed c) own (go (deed c .completes) (layoutSoFar s buffer (deed c .octets))) (λ _ _. unless-only (fits (deed c)) 23 full)
+    layout-only full ten eleven c own = deed-only (deed c) own (go (deed c .completes)) (λ _ _. unless-only (fits (deed c)) 23 full)
       where
-        made : (xs : List ℕ) (x : Learning) → Learned (bookIn lent used) used (be 4 xs 0) xs x → Only ns (refusal x)
-        made xs Known w = taken tt 0
-        made xs (New v) w = taken tt 0
-        made xs (Refused n) (inl e) = given n 0 (subst (In ns) (sym e) ten)
-        made xs (Refused n) (inr e) = given n 0 (subst (In ns) (sym e) eleven)
+        xs : List ℕ
+        xs = layoutSoFar s buffer (deed c .octets)
 
-        go : (t : Bool) (xs : List ℕ) → Only ns (addition t (bookIn lent used) used xs)
-        go false xs = taken [] 0
-        go true xs =
-            only-then (refusal (learningOf (bookIn lent used) used xs)) _
-            (made xs (learningOf (bookIn lent used) used xs) (learned (bookIn lent used) used (be 4 xs 0) xs)) λ _ _. taken _ 0
+        made : (x : Learning) → Learned (bookIn lent used) used (be 4 xs 0) xs x → OnlyFault ns (refusal x)
+        made learning.Known w = fine-only
+        made (learning.New v) w = fine-only
+        made (learning.Refused n) (inl e) = refused-only n (subst (In ns) (sym e) ten)
+        made (learning.Refused n) (inr e) = refused-only n (subst (In ns) (sym e) eleven)
 
-    -- The open row's layout.
-    row-only : In ns 12 → Only ns (rowLayout s buffer (bookIn lent used))
-    unfolding rowLayout
-    row-only h = in-book-only h (find (be 4 buffer (s .start + 4)) (bookIn lent used))
+        go : (t : Bool) → OnlyFault ns (refusal (choose t (λ _. learningOf (bookIn lent used) used xs) (λ _. learning.Known)))
+        go false = fine-only
+        go true = made (learningOf (bookIn lent used) used xs) (learned (bookIn lent used) used (be 4 xs 0) xs)
 
     -- A field with nothing of its own to refuse.
     pub plain-only : In ns 23 → (c : Call) → deed c .fault ≡ fine → deed c .completes ≡ false → Only ns (call s buffer lent used c)
-    plain-only full c own none-done = field-only full c (rw own (taken tt 0)) none-done
+    plain-only full c own none-done = field-only full c (rw own fine-only) none-done
 
     module _ (full : In ns 23) where
       pub namespaces-only : In ns 4 → (n : ℕ) → Only ns (call s buffer lent used (namespaceCount n))
@@ -124,35 +146,35 @@ module _ (s : State) (buffer lent : List ℕ) (used : ℕ) where
 
       pub type-only : In ns 9 → In ns 8 → In ns 10 → In ns 11 → (t : ℕ) → Only ns (call s buffer lent used (attributeType t))
       unfolding does
-      type-only nine eight ten eleven t = layout-only full ten eleven (attributeType t) (only-then (kindOf 0 t 0) _ (kind-only nine eight t) λ _ _. taken tt 0)
+      type-only nine eight ten eleven t = layout-only full ten eleven (attributeType t) (read-only (kindOf (s .place) t (s .place + 4)) (kind-only nine eight (s .place) t (s .place + 4)))
 
       pub open-row-only : In ns 12 → (n : ℕ) (stated : Bool) → Only ns (call s buffer lent used (openRow n stated))
       unfolding does
       open-row-only twelve n stated =
-          field-only full (openRow n stated) (only-then (inBook (find n (bookIn lent used))) _ (in-book-only twelve (find n (bookIn lent used))) λ _ _. taken tt 0) refl
+          field-only full (openRow n stated) (in-book-only twelve (find n (bookIn lent used)) _ λ _. fine-only) refl
 
       pub value-only : In ns 12 → In ns 21 → (b : Basic) (v : Value) → Only ns (call s buffer lent used (value b v))
       unfolding does
       value-only twelve other b v =
           field-only full (value b v)
-          (only-then (rowLayout s buffer (bookIn lent used)) _ (row-only twelve) λ l _. unless-only (isNext (drop (s .count) (l .attributes)) b v) 21 other) refl
+          (in-book-only twelve (rowLayout s buffer (bookIn lent used)) _ λ l. unless-only (isNext (drop (s .count) (l .attributes)) b v) 21 other) refl
 
     -- A call that puts its octets over some that stand: there is room.
-    inside-only : (c : Call) → Only ns (deed c .fault) → deed c .completes ≡ false
+    inside-only : (c : Call) → OnlyFault ns (deed c .fault) → deed c .completes ≡ false
         → (Bounds s (length buffer) → deed c .in-turn ≡ true → deed c .at + length (deed c .octets) ≤ s .place) → Only ns (call s buffer lent used c)
     unfolding call
     inside-only c own none-done low =
-        deed-only (deed c) own (rw none-done (taken [] 0)) λ w turn.
+        deed-only (deed c) own (rw none-done fine-only) λ w turn.
         let place = w .place in
         let under = low w turn in
         let yes : fits (deed c) ≡ true = le-leb (deed c .at + length (deed c .octets)) (room (length buffer)) (omega arith) in
-        rw yes (taken tt 0)
+        rw yes fine-only
 
     pub close-only : In ns 12 → In ns 22 → Only ns (call s buffer lent used closeRow)
     unfolding does
     close-only twelve missing =
         inside-only closeRow
-        (only-then (rowLayout s buffer (bookIn lent used)) _ (row-only twelve) λ l _. unless-only (leb (length (l .attributes)) (s .count)) 22 missing) refl
+        (in-book-only twelve (rowLayout s buffer (bookIn lent used)) _ λ l. unless-only (leb (length (l .attributes)) (s .count)) 22 missing) refl
         (λ w turn.
         let stated : Bool = ltb (be 4 buffer (s .start + 8)) 0xffffffff in
         let four = length-size stated (s .place - (s .start + 12)) in
@@ -162,7 +184,7 @@ module _ (s : State) (buffer lent : List ℕ) (used : ℕ) where
     pub give-up-only : Only ns (call s buffer lent used giveUp)
     unfolding does
     give-up-only =
-        inside-only giveUp (taken tt 0) refl
+        inside-only giveUp fine-only refl
         (λ w turn.
         let head = w .head turn in
         let long = length-replicate {A = ℕ} (s .place - s .start) 0 in

@@ -1,16 +1,13 @@
 -- What stands at each turn where every call was accepted since the fresh state, by what was told; and that a call which puts octets keeps it so.
 -- The octets of an element are those of the calls from its opening on; behind the place all is as in a buffer that the run could have begun with. Assumes nothing.
 use Prim.Native.Nat.{ℕ, _+_, _^_, _≤_, _<_}
-use mathlib.Core.Path.{_≡_, refl, _∙_, subst}
+use mathlib.Core.Path.{_≡_, _∙_, subst}
 use mathlib.Core.List.{List, [], _∷_, _++_}
-use mathlib.Core.Bool.{Bool, true, false}
+use mathlib.Core.Bool.{true}
 use mathlib.Core.Option.{some}
 use native.Mathlib.Omega.{arith}
 use lib.ListN.{length, take, drop, length-append, length-drop}
-use lib.Dec.{eqb}
-use borrow.Author.Tests.{eqb-true, eqb-false}
 use Rattle.octets.specs.Limits.{longest}
-use Rattle.octets.specs.Reading.{Read, choose}
 use Rattle.octets.specs.Writing.{images, GoodLed}
 use Rattle.layouts.specs.Layout.{Layout, GoodLayout}
 use Rattle.layouts.specs.Book.{Book, find, bookImage, GoodBook}
@@ -18,13 +15,14 @@ use Rattle.rows.specs.Row.{Row, FieldsOf}
 use Rattle.headers.specs.Header.{Header, headerImage, GoodHeader}
 use Rattle.elements.specs.Element.{Item}
 use Rattle.elements.specs.Document.{Document, itemImage, rowCount, image, GoodItems, Good}
+use Rattle.writing_parts.specs.declared.Fault.{Fault}
 use Rattle.writer.specs.declared.Wanted.{Wanted}
 use Rattle.writer.specs.declared.Wanted.the-variants as wants
-use Rattle.writer.specs.Writer.{Call, recorder, startTime, defaultNamespace, namespaceCount, uri, serviceCount, openLayout, typeName, attributeCount, attributeName, openRow, Written, room, rule, sameTurn, turnAt, Deed, put}
+use Rattle.writer.specs.Writer.{Call, recorder, startTime, defaultNamespace, namespaceCount, uri, serviceCount, openLayout, typeName, attributeCount, attributeName, openRow, Written, room, rule, sameTurn, Deed, put}
 use Rattle.writer.proofs.Bounds.{same-turn, turn-count}
-use Rattle.promises_writing.specs.Promise.{each, namespaceCalls, serviceCalls, attributeCalls, fieldCalls, itemCalls, headerCalls, callsOf, bookBehind, onto, Told}
-use Rattle.promises_writing.proofs.Calls.{Passes, leftBy}
-use Rattle.promises_writing.proofs.Standing.{Spot, spot, stateAt, standing, drop-on, put-leaves}
+use Rattle.writer.proofs.Calls.{Passes}
+use Rattle.promises_writing.specs.Promise.{each, namespaceCalls, serviceCalls, attributeCalls, fieldCalls, itemCalls, headerCalls, callsOf, bookBehind, Told}
+use Rattle.promises_writing.proofs.Standing.{Spot, spot, stateAt, standing, leftAt, drop-on, put-leaves}
 use Rattle.promises_writing.proofs.WritesHeader.{room-long}
 use Rattle.promises_writing.proofs.Put.{octetsOf}
 
@@ -144,21 +142,13 @@ pub room-small : (size : ℕ) → room size ≤ longest
 unfolding room
 room-small size = omega arith
 
--- Where a list's turn leads.
-pub at-turn : (P : Wanted → Type 0) (n : ℕ) (more behind : Wanted) → ((n ≡ 0 → ⊥) → P more) → (n ≡ 0 → P behind) → P (turnAt n more behind)
-at-turn P n more behind f g = go (eqb n 0) refl
-  where
-    go : (t : Bool) → eqb n 0 ≡ t → P (choose t (λ _. behind) (λ _. more))
-    go true e = g (eqb-true n 0 e)
-    go false e = f (eqb-false n 0 e)
-
 module _ {buffer lent : List ℕ} {told : Told} (now : Stand buffer lent told) where
   -- What a deed has to pass here, and what it leaves.
-  abbrev pub PassesHere : Deed → List ℕ → Type 0
-  PassesHere d new = Passes (stateAt (now .done) (now .at)) (now .done ++ rest now) (length (bookImage (now .at .book))) (now .at .book) d new
+  abbrev pub PassesHere : Deed → Type 0
+  PassesHere d = Passes (stateAt (now .done) (now .at)) (now .done ++ rest now) (length (bookImage (now .at .book))) (now .at .book) d
 
-  abbrev pub leftHere : Deed → List ℕ → Written
-  leftHere d new = leftBy (now .done ++ rest now) (onto lent (bookImage (now .at .book))) (length (bookImage (now .at .book))) d new
+  abbrev pub leftHere : Deed → Written
+  leftHere d = leftAt lent (now .done) (rest now) (now .at) d
 
   -- What stands where octets were put that fit: the place moves behind them, and what lay there is covered.
   pub put-stand : (next : Told) (xs : List ℕ) (y : Spot) → length (now .done) + length xs ≤ room (length (now .done ++ rest now)) → GoodBook (y .book) → Shape (y .turn) y (now .done ++ xs) next
@@ -182,12 +172,12 @@ module _ {buffer lent : List ℕ} {told : Told} (now : Stand buffer lent told) w
   here t e = subst (λ (v : Wanted). Shape v (now .at) (now .done) told) (same-turn (now .at .turn) t e) (now .shape)
 
   -- A call that puts octets, by what stands at its turn.
-  pub put-keeps : (next : Told) (t u : Wanted) (fault : Read (Unit {0})) (xs : List ℕ) (j i : ℕ) {new : List ℕ} → PassesHere (put (stateAt (now .done) (now .at)) t fault xs u j i) new
+  pub put-keeps : (next : Told) (t u : Wanted) (fault : Fault) (xs : List ℕ) (j i : ℕ) → PassesHere (put (stateAt (now .done) (now .at)) t fault xs u j i)
       → (Shape t (now .at) (now .done) told → rule t .least ≤ now .at .count → length xs ≤ longest
       → Shape u (spot (now .at .book) u j i (now .at .rows)) (now .done ++ xs) next)
-      → Inv buffer lent next (leftHere (put (stateAt (now .done) (now .at)) t fault xs u j i) new)
+      → Inv buffer lent next (leftHere (put (stateAt (now .done) (now .at)) t fault xs u j i))
   put-keeps next t u fault xs j i p step =
       let fits = p .fits in
       let small : length xs ≤ longest = omega (arith, room-small (length (now .done ++ rest now))) in
       let (stand, is) = put-stand next xs (spot (now .at .book) u j i (now .at .rows)) fits (now .good) (step (here t (p .in-turn)) (turn-count (stateAt (now .done) (now .at)) (length (now .done ++ rest now)) (p .inside) t (p .in-turn) .0) small) in
-      record { stand = stand; is = put-leaves lent (now .done) (rest now) (now .at) t u fault xs j i (p .takes) ∙ is }
+      record { stand = stand; is = put-leaves lent (now .done) (rest now) (now .at) t u fault xs j i ∙ is }

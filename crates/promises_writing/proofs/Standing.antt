@@ -1,8 +1,8 @@
 -- What stands between two calls, and what each kind of deed makes of it: octets put behind those written, a layout completed, a row closed, an element given up.
 -- Each is an equation on lists: what is laid over falls on the seam behind the octets written, or inside them. Assumes nothing.
 use Prim.Native.Nat.{ℕ, _+_, _-_, _^_, _≤_, _<_}
-use mathlib.Core.Path.{_≡_, refl, sym, ap, _∙_}
-use mathlib.Core.List.{List, [], _++_, append-assoc}
+use mathlib.Core.Path.{_≡_, sym, ap, _∙_}
+use mathlib.Core.List.{List, _++_, append-assoc}
 use mathlib.Core.Bool.{Bool, true, false}
 use mathlib.Core.Option.{some}
 use mathlib.Core.Logic.{inl, inr}
@@ -13,13 +13,13 @@ use lib.Seq.{take-append-seam, drop-append-seam, drop-append-add, drop-append-le
 use lib.Dec.{ltb, lit<}
 use borrow.Author.Tests.{le-leb, lt-ltb}
 use Rattle.octets.specs.Limits.{bookRoom, mostLayouts}
-use Rattle.octets.specs.Reading.{Read, ok, be, part}
+use Rattle.octets.specs.Reading.{be, part}
 use Rattle.octets.specs.Writing.{word, images, over}
 use Rattle.octets.proofs.Spans.{all-spans, length-word, be-word}
-use Rattle.octets.proofs.Inverse.{ok-value}
 use Rattle.octets.proofs.Copies.{same-refl}
 use Rattle.layouts.specs.Layout.{Layout, layoutImage, GoodLayout}
 use Rattle.layouts.specs.Book.{Book, find, bookImage}
+use Rattle.layouts.specs.declared.Learning.the-variants.{Known, New}
 use Rattle.layouts.proofs.Layouts.{layout-inverse}
 use Rattle.layouts.proofs.Parts.{layout-number}
 use Rattle.layouts.proofs.Books.{image-snoc}
@@ -27,14 +27,16 @@ use Rattle.layouts.proofs.Growing.{Learnt}
 use Rattle.rows.specs.Row.{Row, fieldImage, lengthImage, rowImage}
 use Rattle.elements.specs.Element.{row}
 use Rattle.elements.specs.Document.{itemImage}
+use Rattle.writing_parts.specs.declared.Fault.{Fault}
+use Rattle.writing_parts.specs.Faults.{fine}
+use Rattle.writing_parts.specs.Answers.{learningOf, refusal, added}
 use Rattle.writer.specs.declared.Wanted.{Wanted}
 use Rattle.writer.specs.declared.Wanted.the-variants as wants
 use Rattle.writer.specs.declared.State.{State}
-use Rattle.writer.specs.Writer.{closeRow, giveUp, Written, put, attributes, rowLayout, does, addition, layoutSoFar}
+use Rattle.writer.specs.Writer.{closeRow, giveUp, Written, Deed, put, attributes, rowLayout, does, layoutSoFar, leftBy}
 use Rattle.writer.proofs.Tests.{length-size}
 use Rattle.writing_parts.proofs.Over.{over-nil}
 use Rattle.promises_writing.specs.Promise.{onto}
-use Rattle.promises_writing.proofs.Calls.{leftBy}
 
 -- The book that was learnt, and a state but for its place.
 pub record Spot : Type 0 where
@@ -54,6 +56,10 @@ stateAt done x = record { place = length done; turn = x .turn; count = x .count;
 abbrev pub standing : (lent done rest : List ℕ) → Spot → Written
 standing lent done rest x =
     record { state = stateAt done x; buffer = done ++ rest; book = onto lent (bookImage (x .book)); used = length (bookImage (x .book)) }
+
+-- What a deed leaves there.
+abbrev pub leftAt : (lent done rest : List ℕ) → Spot → Deed → Written
+leftAt lent done rest x d = leftBy (stateAt done x) (done ++ rest) (onto lent (bookImage (x .book))) (length (bookImage (x .book))) (x .book) d
 
 pub onto-length : (lent xs : List ℕ) → length xs ≤ length lent → length (onto lent xs) ≡ length lent
 onto-length lent xs h = simp (length-append, length-drop) (omega arith)
@@ -83,13 +89,10 @@ be-at : (w n at : ℕ) (pre post : List ℕ) → n < 256 ^ w → at ≡ length p
 be-at w n at pre post h e = rw e (be-word w n pre post h)
 
 -- Octets put behind those that stand; the book takes nothing.
-pub put-leaves : (lent done rest : List ℕ) (x : Spot) (t u : Wanted) (fault : Read (Unit {0})) (xs : List ℕ) (j i : ℕ) {new : List ℕ} {q : ℕ}
-    → _≡_ {A = Read (List ℕ)} (ok [] 0) (ok new q)
-    → leftBy (done ++ rest) (onto lent (bookImage (x .book))) (length (bookImage (x .book))) (put (stateAt done x) t fault xs u j i) new
-    ≡ standing lent (done ++ xs) (drop (length xs) rest) (spot (x .book) u j i (x .rows))
-put-leaves lent done rest x t u fault xs j i e =
+pub put-leaves : (lent done rest : List ℕ) (x : Spot) (t u : Wanted) (fault : Fault) (xs : List ℕ) (j i : ℕ)
+    → leftAt lent done rest x (put (stateAt done x) t fault xs u j i) ≡ standing lent (done ++ xs) (drop (length xs) rest) (spot (x .book) u j i (x .rows))
+put-leaves lent done rest x t u fault xs j i =
     rw (
-      ← ok-value refl e,
       over-nil (onto lent (bookImage (x .book))) (length (bookImage (x .book))),
       add-zero (length (bookImage (x .book))),
       over-seam done rest xs,
@@ -114,36 +117,36 @@ number-first l g = let s : List ℕ = layoutImage l in layout-number s 0 (layout
 
 -- What a book takes of a layout that it learns, and what stands in the lent octets then.
 pub record Takes (lent : List ℕ) (b : Book) (l : Layout) (next : Book) : Type 0 where
-  pub new : List ℕ
-  pub takes : addition true b (length (bookImage b)) (layoutImage l) ≡ ok new 0
-  pub book : over (onto lent (bookImage b)) (length (bookImage b)) new ≡ onto lent (bookImage next)
-  pub used : length (bookImage b) + length new ≡ length (bookImage next)
+  pub learnt : refusal (learningOf b (length (bookImage b)) (layoutImage l)) ≡ fine
+  pub book : over (onto lent (bookImage b)) (length (bookImage b)) (added (learningOf b (length (bookImage b)) (layoutImage l)) (layoutImage l)) ≡ onto lent (bookImage next)
+  pub used : length (bookImage b) + length (added (learningOf b (length (bookImage b)) (layoutImage l)) (layoutImage l)) ≡ length (bookImage next)
 
 pub takes-learnt : (lent : List ℕ) (b : Book) (l : Layout) (next : Book) → GoodLayout l → Learnt b l next → Takes lent b l next
 takes-learnt lent b l next g (inl h) =
+    let is : learningOf b (length (bookImage b)) (layoutImage l) ≡ Known = rw (number-first l g, h .1, h .2, same-refl (layoutImage l)) in
     record {
-      new = [];
-      takes = rw (number-first l g, h .1, h .2, same-refl (layoutImage l));
-      book = rw (h .3) (over-nil (onto lent (bookImage b)) (length (bookImage b)));
-      used = rw (h .3) (add-zero (length (bookImage b)));
+      learnt = rw is;
+      book = rw (is, h .3) (over-nil (onto lent (bookImage b)) (length (bookImage b)));
+      used = rw (is, h .3) (add-zero (length (bookImage b)));
     }
 takes-learnt lent b l next g (inr h) =
+    let is : learningOf b (length (bookImage b)) (layoutImage l) ≡ New (length (bookImage b) + length (layoutImage l)) =
+    rw (number-first l g, h .0, lt-ltb (length b) mostLayouts (h .1), le-leb (length (bookImage b) + length (layoutImage l)) bookRoom (h .2)) in
     record {
-      new = layoutImage l;
-      takes = rw (number-first l g, h .0, lt-ltb (length b) mostLayouts (h .1), le-leb (length (bookImage b) + length (layoutImage l)) bookRoom (h .2));
-      book = rw (h .3, image-snoc b l) (over-onto lent (bookImage b) (layoutImage l));
-      used = rw (h .3, image-snoc b l, length-append (bookImage b) (layoutImage l));
+      learnt = rw is;
+      book = rw (is, h .3, image-snoc b l) (over-onto lent (bookImage b) (layoutImage l));
+      used = rw (is, h .3, image-snoc b l, length-append (bookImage b) (layoutImage l));
     }
 
 -- The last octets of a layout put; the book takes it.
-pub complete-leaves : (lent done rest : List ℕ) (x : Spot) (t : Wanted) (fault : Read (Unit {0})) (xs new : List ℕ) (l : Layout) (next : Book) (takes : Takes lent (x .book) l next) → new ≡ takes .new
-    → leftBy (done ++ rest) (onto lent (bookImage (x .book))) (length (bookImage (x .book))) (attributes (stateAt done x) t fault xs 0) new
-    ≡ standing lent (done ++ xs) (drop (length xs) rest) (spot next wants.Element 0 0 (x .rows))
-complete-leaves lent done rest x t fault xs new l next takes e = rw (e, takes .book, takes .used, over-seam done rest xs, length-append done xs)
+pub complete-leaves : (lent done rest : List ℕ) (x : Spot) (t : Wanted) (fault : Fault) (xs : List ℕ) (l : Layout) (next : Book) → Takes lent (x .book) l next
+    → layoutSoFar (stateAt done x) (done ++ rest) xs ≡ layoutImage l
+    → leftAt lent done rest x (attributes (stateAt done x) t fault xs 0) ≡ standing lent (done ++ xs) (drop (length xs) rest) (spot next wants.Element 0 0 (x .rows))
+complete-leaves lent done rest x t fault xs l next takes e = rw (e, takes .book, takes .used, over-seam done rest xs, length-append done xs)
 
 -- The open row's layout is the one that its number names.
 pub row-layout : (before post rest done : List ℕ) (x : Spot) (n : ℕ) (l : Layout) → done ≡ before ++ (word 4 2 ++ (word 4 n ++ post)) → x .start ≡ length before
-    → n < 2 ^ 32 → find n (x .book) ≡ some l → rowLayout (stateAt done x) (done ++ rest) (x .book) ≡ ok l 0
+    → n < 2 ^ 32 → find n (x .book) ≡ some l → rowLayout (stateAt done x) (done ++ rest) (x .book) ≡ some l
 unfolding rowLayout
 row-layout before post rest done x n l e start small found =
     let form : done ++ rest ≡ (before ++ word 4 2) ++ (word 4 n ++ (post ++ rest)) = behind rest e ∙ simp append-assoc in
@@ -176,14 +179,13 @@ closing before values rest done n st stated e f =
 
 pub close-leaves : (lent before rest done : List ℕ) (x : Spot) (r : Row)
     → done ≡ before ++ (word 4 2 ++ (word 4 (r .number) ++ (lengthImage (r .is-stated) 0 ++ images fieldImage (r .fields)))) → x .start ≡ length before
-    → {new : List ℕ} {q : ℕ} → _≡_ {A = Read (List ℕ)} (ok [] 0) (ok new q)
-    → (leftBy (done ++ rest) (onto lent (bookImage (x .book))) (length (bookImage (x .book))) (does (stateAt done x) (done ++ rest) (x .book) closeRow) new
+    → (leftAt lent done rest x (does (stateAt done x) (done ++ rest) (x .book) closeRow)
     ≡ standing lent (before ++ itemImage (row r)) rest (spot (x .book) wants.Element 0 0 (x .rows + 1)))
     × (length done ≡ length (before ++ itemImage (row r)))
 unfolding does rowImage
-close-leaves lent before rest done x r form start e =
+close-leaves lent before rest done x r form start =
     let (buffer, place) = closing before (images fieldImage (r .fields)) rest done (r .number) (x .start) (r .is-stated) form start in (
-      rw (← ok-value refl e, over-nil (onto lent (bookImage (x .book))) (length (bookImage (x .book))), add-zero (length (bookImage (x .book))), buffer, place),
+      rw (over-nil (onto lent (bookImage (x .book))) (length (bookImage (x .book))), add-zero (length (bookImage (x .book))), buffer, place),
       place,
     )
 
@@ -194,13 +196,12 @@ giving-up before more rest done st e f =
     let size : length done - st ≡ length more = omega (arith, ap length e, length-append before more) in
     rw (size, behind rest e ∙ append-assoc before more rest) (over-middle before more (replicate (length more) 0) rest st f (sym (length-replicate {A = ℕ} (length more) 0)))
 
-pub give-up-leaves : (lent before more rest done : List ℕ) (x : Spot) → done ≡ before ++ more → x .start ≡ length before → {new : List ℕ} {q : ℕ} → _≡_ {A = Read (List ℕ)} (ok [] 0) (ok new q)
-    → leftBy (done ++ rest) (onto lent (bookImage (x .book))) (length (bookImage (x .book))) (does (stateAt done x) (done ++ rest) (x .book) giveUp) new
+pub give-up-leaves : (lent before more rest done : List ℕ) (x : Spot) → done ≡ before ++ more → x .start ≡ length before
+    → leftAt lent done rest x (does (stateAt done x) (done ++ rest) (x .book) giveUp)
     ≡ standing lent before (replicate (length more) 0 ++ rest) (spot (x .book) wants.Element 0 0 (x .rows))
 unfolding does
-give-up-leaves lent before more rest done x form start e =
+give-up-leaves lent before more rest done x form start =
     rw (
-      ← ok-value refl e,
       over-nil (onto lent (bookImage (x .book))) (length (bookImage (x .book))),
       add-zero (length (bookImage (x .book))),
       giving-up before more rest done (x .start) form start,

@@ -26,7 +26,8 @@ use Rattle.elements.specs.Reading.{reading}
 use Rattle.elements.specs.Document.{Document, itemImage, rowCount, image, GoodItems, Good, readingOf}
 use Rattle.promises.proofs.Documents.{complete, few}
 use Rattle.writer.specs.declared.Wanted.the-variants as wants
-use Rattle.writer.specs.Writer.{finish, room, fine, does, runCalls, Call, serviceCount, documentId}
+use Rattle.writing_parts.specs.Faults.{fine}
+use Rattle.writer.specs.Writer.{finish, room, does, runCalls, Call, serviceCount, documentId}
 use Rattle.promises_writing.specs.Promise.{each, itemCalls, callsOf, withLayout, bookBehind, begun, finished, namespaceCalls, serviceCalls, headerCalls, attributeCalls, fieldCalls, GivenValue, Given}
 use Rattle.promises_writing.proofs.Standing.{spot}
 use Rattle.promises_writing.proofs.WritesHeader.{Puts, puts-none, puts-both, puts-as, put-one, header-put}

@@ -3,23 +3,24 @@
 use Prim.Native.Nat.{ℕ, suc, _+_, _-_, _≤_}
 use mathlib.Core.Path.{_≡_, refl, ap, subst}
 use mathlib.Core.List.{List, [], _∷_, _++_, append-assoc, append-nil}
-use mathlib.Core.Bool.{true}
 use native.Mathlib.Omega.{arith}
 use lib.ListN.{length, drop, length-append}
 use lib.Dec.{leb, eqb, eqb·suc-zero}
 use borrow.Author.Tests.{le-leb, eq-eqb}
 use Rattle.octets.specs.Limits.{mostRows, bookRoom}
-use Rattle.octets.specs.Reading.{Read, isOk}
 use Rattle.octets.specs.Writing.{word, ledImage, images}
 use Rattle.layouts.specs.Book.{Book, bookImage, GoodBook}
 use Rattle.headers.specs.Header.{Namespace, Header, namespaceImage, headerImage, GoodHeader}
 use Rattle.elements.proofs.Behind.{holding-of}
+use Rattle.writing_parts.specs.declared.Fault.{Fault}
+use Rattle.writing_parts.specs.Faults.{fine, unless}
 use Rattle.writer.specs.declared.Wanted.{Wanted}
 use Rattle.writer.specs.declared.Wanted.the-variants as wants
-use Rattle.writer.specs.Writer.{Call, recorder, startTime, defaultNamespace, namespaceCount, uri, shortName, serviceCount, service, documentId, Written, room, rule, orderOf, fine, unless, put, turnAt, does}
+use Rattle.writer.specs.Writer.{Call, recorder, startTime, defaultNamespace, namespaceCount, uri, shortName, serviceCount, service, documentId, Written, room, rule, orderOf, put, turnAt, does}
 use Rattle.writer.proofs.Bounds.{Bounds}
+use Rattle.writer.proofs.Calls.{Passes, accepted}
 use Rattle.promises_writing.specs.Promise.{each, namespaceCalls, serviceCalls, headerCalls, onto}
-use Rattle.promises_writing.proofs.Calls.{Passes, accepted, Runs, runs-both, runs-none, runs-one}
+use Rattle.promises_writing.proofs.Calls.{Runs, runs-both, runs-none, runs-one}
 use Rattle.promises_writing.proofs.Standing.{Spot, spot, stateAt, standing, onto-length, drop-on, put-leaves}
 
 -- What stands in a lent buffer whose first octets were written, all behind them as lent.
@@ -68,25 +69,24 @@ ready-bounds buffer done x r h =
 
 module _ (buffer lent : List ℕ) (long : bookRoom ≤ length lent) where
   -- One call that puts octets and has no fault.
-  pub put-one : (c : Call) (done xs : List ℕ) (x : Spot) (u : Wanted) (j i : ℕ) (fault : Read (Unit {0})) → GoodBook (x .book)
-      → does (stateAt done x) (onto buffer done) (x .book) c ≡ put (stateAt done x) (x .turn) fault xs u j i → isOk fault ≡ true → Ready x (length done)
+  pub put-one : (c : Call) (done xs : List ℕ) (x : Spot) (u : Wanted) (j i : ℕ) (fault : Fault) → GoodBook (x .book)
+      → does (stateAt done x) (onto buffer done) (x .book) c ≡ put (stateAt done x) (x .turn) fault xs u j i → fault ≡ fine → Ready x (length done)
       → Puts buffer lent (c ∷ []) xs done x (spot (x .book) u j i (x .rows))
   put-one c done xs x u j i fault good e f r =
       record {
         runs = λ h.
             let sum = length-append done xs in
-            let p : Passes (stateAt done x) (onto buffer done) (length (bookImage (x .book))) (x .book) (put (stateAt done x) (x .turn) fault xs u j i) [] =
+            let p : Passes (stateAt done x) (onto buffer done) (length (bookImage (x .book))) (x .book) (put (stateAt done x) (x .turn) fault xs u j i) =
             record {
               inside = ready-bounds buffer done x r (omega arith);
               in-turn = eq-eqb (orderOf (x .turn)) (orderOf (x .turn)) refl;
               faultless = f;
-              end = 0;
-              takes = refl;
+              learnt = refl;
               fits = rw (room-same buffer done (omega arith)) (omega arith);
             } in
             runs-one c (stand buffer lent done x)
-            (rw (e, put-leaves lent done (drop (length done) buffer) x (x .turn) u fault xs j i refl, drop-on buffer done xs) at
-            (accepted (stateAt done x) (onto buffer done) (onto lent (bookImage (x .book))) (length (bookImage (x .book))) (holding-of (x .book) lent good long) c [] (rw e p)));
+            (rw (e, put-leaves lent done (drop (length done) buffer) x (x .turn) u fault xs j i, drop-on buffer done xs) at
+            (accepted (stateAt done x) (onto buffer done) (onto lent (bookImage (x .book))) (length (bookImage (x .book))) (holding-of (x .book) lent good long) c (rw e p)));
       }
 
   module _ (b : Book) (good : GoodBook b) where

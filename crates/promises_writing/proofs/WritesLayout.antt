@@ -1,16 +1,15 @@
 -- The calls of a layout that can be learnt put its image, and the book takes it.
 -- Up to the last call octets are put behind those written; that one completes the layout. Assumes nothing.
-use Prim.Native.Nat.{ℕ, suc, _-_, _≤_, _<_}
+use Prim.Native.Nat.{ℕ, suc, _+_, _-_, _≤_, _<_}
 use mathlib.Core.Path.{_≡_, refl, sym, ap, _∙_}
 use mathlib.Core.List.{List, [], _∷_, _++_, append-assoc, append-nil}
-use mathlib.Core.Bool.{true}
 use native.Mathlib.Omega.{arith}
 use lib.ListN.{length, drop, length-append}
 use lib.Dec.{leb, eqb·suc-zero}
 use lib.Arith.{digits-mod}
 use borrow.Author.Tests.{le-leb, eq-eqb}
 use Rattle.octets.specs.Limits.{mostRows, bookRoom, mostAttributes}
-use Rattle.octets.specs.Reading.{Read, ok, _then_, isOk}
+use Rattle.octets.specs.Reading.{ok}
 use Rattle.octets.specs.Writing.{word, ledImage, images, Each}
 use Rattle.octets.proofs.Spans.{length-word}
 use Rattle.kinds.specs.declared.Kind.{Kind}
@@ -22,19 +21,22 @@ use Rattle.layouts.proofs.Growing.{learnt}
 use Rattle.elements.specs.Element.{layout}
 use Rattle.elements.specs.Document.{itemImage}
 use Rattle.elements.proofs.Behind.{holding-of}
+use Rattle.writing_parts.specs.declared.Fault.{Fault}
+use Rattle.writing_parts.specs.Faults.{fine, unless, refusedBy}
 use Rattle.writer.specs.declared.Wanted.{Wanted}
 use Rattle.writer.specs.declared.Wanted.the-variants as wants
-use Rattle.writer.specs.Writer.{Call, openLayout, typeName, attributeCount, attributeName, attributeType, orderOf, fine, unless, attributes, does}
+use Rattle.writer.specs.Writer.{Call, openLayout, typeName, attributeCount, attributeName, attributeType, orderOf, attributes, does}
+use Rattle.writer.proofs.Calls.{Passes, accepted}
 use Rattle.promises_writing.specs.Promise.{each, attributeCalls, itemCalls, onto}
-use Rattle.promises_writing.proofs.Calls.{Passes, accepted, runs-one}
+use Rattle.promises_writing.proofs.Calls.{runs-one}
 use Rattle.promises_writing.proofs.Standing.{Spot, spot, stateAt, drop-on, behind, so-far, takes-learnt, complete-leaves}
 use Rattle.promises_writing.proofs.WritesHeader.{stand, room-same, Puts, puts-both, puts-as, Ready, ready-bounds, put-one}
 
 -- A good type is no fault.
-kind-taken : (k : Kind) → k .derived < 256 → isOk (kindOf 0 (numberOf k) 0 then λ _ _. fine) ≡ true
-kind-taken k g =
+kind-taken : (k : Kind) → k .derived < 256 → (at next : ℕ) → refusedBy (kindOf at (numberOf k) next) ≡ fine
+kind-taken k g at next =
     let c = code-known (k .basic) .1 in
-    rw (kind-some 0 (numberOf k) 0 (k .basic) (omega arith) (sym (digits-mod (k .derived) (omega arith))))
+    rw (kind-some at (numberOf k) next (k .basic) (omega arith) (sym (digits-mod (k .derived) (omega arith))))
 
 layout-starts : (l : Layout)
     → layoutImage l ≡ word 4 (l .number) ++ (ledImage (l .type-name) ++ (word 4 (length (l .attributes)) ++ images attributeImage (l .attributes)))
@@ -44,29 +46,29 @@ layout-starts l = simp append-assoc
 module _ (buffer lent : List ℕ) (long : bookRoom ≤ length lent) (b : Book) (good : GoodBook b) (rows : ℕ) (few : rows ≤ mostRows)
     (before : List ℕ) (l : Layout) (next : Book) (inside : GoodLayout l) (learns : learn b l 0 ≡ ok next 0) where
   -- The call that completes the layout.
-  complete-one : (c : Call) (done more xs : List ℕ) (t : Wanted) (k : ℕ) (fault : Read (Unit {0})) → done ≡ before ++ more → 4 ≤ length more
+  complete-one : (c : Call) (done more xs : List ℕ) (t : Wanted) (k : ℕ) (fault : Fault) → done ≡ before ++ more → 4 ≤ length more
       → more ++ xs ≡ word 4 1 ++ layoutImage l
       → does (stateAt done (spot b t k (length before) rows)) (onto buffer done) b c ≡ attributes (stateAt done (spot b t k (length before) rows)) t fault xs 0
-      → isOk fault ≡ true → Ready (spot b t k (length before) rows) (length done)
+      → fault ≡ fine → Ready (spot b t k (length before) rows) (length done)
       → Puts buffer lent (c ∷ []) xs done (spot b t k (length before) rows) (spot next wants.Element 0 0 rows)
   complete-one c done more xs t k fault form low whole e f r =
       record {
         runs = λ h.
             let x : Spot = spot b t k (length before) rows in
             let sum = length-append done xs in
+            let is = so-far before more (drop (length done) buffer) xs done x l form refl low whole in
             let found = takes-learnt lent b l next inside (learnt b l 0 next 0 learns) in
-            let p : Passes (stateAt done x) (onto buffer done) (length (bookImage b)) b (attributes (stateAt done x) t fault xs 0) (found .new) =
+            let p : Passes (stateAt done x) (onto buffer done) (length (bookImage b)) b (attributes (stateAt done x) t fault xs 0) =
             record {
               inside = ready-bounds buffer done x r (omega arith);
               in-turn = eq-eqb (orderOf t) (orderOf t) refl;
               faultless = f;
-              end = 0;
-              takes = rw (so-far before more (drop (length done) buffer) xs done x l form refl low whole) (found .takes);
+              learnt = rw is (found .learnt);
               fits = rw (room-same buffer done (omega arith)) (omega arith);
             } in
             runs-one c (stand buffer lent done x)
-            (rw (e, complete-leaves lent done (drop (length done) buffer) x t fault xs (found .new) l next found refl, drop-on buffer done xs) at
-            (accepted (stateAt done x) (onto buffer done) (onto lent (bookImage b)) (length (bookImage b)) (holding-of b lent good long) c (found .new) (rw e p)));
+            (rw (e, complete-leaves lent done (drop (length done) buffer) x t fault xs l next found is, drop-on buffer done xs) at
+            (accepted (stateAt done x) (onto buffer done) (onto lent (bookImage b)) (length (bookImage b)) (holding-of b lent good long) c (rw e p)));
       }
 
   attributes-put : (rest : List Attribute) (a : Attribute) (done more : List ℕ) → done ≡ before ++ more → 8 ≤ length more → length rest < 64
@@ -76,17 +78,19 @@ module _ (buffer lent : List ℕ) (long : bookRoom ≤ length lent) (b : Book) (
   attributes-put [] a done more form low h g whole =
       let t : ℕ = numberOf (a .kind) in
       let size = ap length form ∙ length-append before more in
-      let fault : Read (Unit {0}) = kindOf 0 t 0 then λ _ _. fine in
+      let place : ℕ = length (done ++ ledImage (a .name)) in
+      let fault : Fault = refusedBy (kindOf place t (place + 4)) in
       puts-as (sym (append-nil (ledImage (a .name) ++ word 4 t)))
       (puts-both {a = attributeName (a .name) ∷ []} {b = attributeType t ∷ []}
       (put-one buffer lent long (attributeName (a .name)) done (ledImage (a .name)) (spot b wants.AttributeName 1 (length before) rows) wants.AttributeType 1 (length before) fine good refl refl (omega arith))
       (complete-one (attributeType t) (done ++ ledImage (a .name)) (more ++ ledImage (a .name)) (word 4 t) wants.AttributeType 1 fault
       (behind (ledImage (a .name)) form ∙ append-assoc before more (ledImage (a .name))) (rw length-append (omega arith)) (simp append-assoc (simp (append-assoc, append-nil) at whole)) refl
-      (kind-taken (a .kind) (g .0 .derived)) (rw (length-append done (ledImage (a .name))) (omega arith))))
+      (kind-taken (a .kind) (g .0 .derived) place (place + 4)) (rw (length-append done (ledImage (a .name))) (omega arith))))
   attributes-put (a₂ ∷ rest) a done more form low h g whole =
       let t : ℕ = numberOf (a .kind) in
       let size = ap length form ∙ length-append before more in
-      let fault : Read (Unit {0}) = kindOf 0 t 0 then λ _ _. fine in
+      let place : ℕ = length (done ++ ledImage (a .name)) in
+      let fault : Fault = refusedBy (kindOf place t (place + 4)) in
       let less : suc (suc (length rest)) - 1 ≡ suc (length rest) = omega arith in
       let image : List ℕ = ledImage (a .name) ++ word 4 t in
       puts-both {a = attributeCalls a}
@@ -94,7 +98,7 @@ module _ (buffer lent : List ℕ) (long : bookRoom ≤ length lent) (b : Book) (
       (put-one buffer lent long (attributeName (a .name)) done (ledImage (a .name)) (spot b wants.AttributeName (suc (suc (length rest))) (length before) rows) wants.AttributeType (suc (suc (length rest))) (length before)
       fine good refl refl (omega arith))
       (put-one buffer lent long (attributeType t) (done ++ ledImage (a .name)) (word 4 t) (spot b wants.AttributeType (suc (suc (length rest))) (length before) rows) wants.AttributeName (suc (length rest)) (length before)
-      fault good (rw (less, eqb·suc-zero (length rest))) (kind-taken (a .kind) (g .0 .derived)) (rw (length-append done (ledImage (a .name))) (omega arith))))
+      fault good (rw (less, eqb·suc-zero (length rest))) (kind-taken (a .kind) (g .0 .derived) place (place + 4)) (rw (length-append done (ledImage (a .name))) (omega arith))))
       (attributes-put rest a₂ (done ++ image) (more ++ image) (behind image form ∙ append-assoc before more image) (rw length-append (omega arith)) (omega arith) (g .1)
       (simp append-assoc (simp append-assoc at whole)))
 

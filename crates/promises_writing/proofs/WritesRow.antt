@@ -11,7 +11,6 @@ use lib.ListN.{length, drop, length-append}
 use lib.Seq.{drop-drop}
 use borrow.Author.Tests.{le-leb, lt-ltb, eq-eqb}
 use Rattle.octets.specs.Limits.{mostRows, bookRoom, mostAttributes}
-use Rattle.octets.specs.Reading.{Read, _then_, isOk}
 use Rattle.octets.specs.Writing.{word, images}
 use Rattle.octets.proofs.Spans.{length-word}
 use Rattle.kinds.specs.declared.Form.{Form}
@@ -25,11 +24,14 @@ use Rattle.kinds.specs.Forms.{Value, bits, held, valueImage, GoodValue}
 use Rattle.elements.specs.Element.{row}
 use Rattle.elements.specs.Document.{itemImage}
 use Rattle.elements.proofs.Behind.{holding-of}
+use Rattle.writing_parts.specs.declared.Fault.{Fault}
+use Rattle.writing_parts.specs.Faults.{fine, unless}
 use Rattle.writer.specs.declared.Wanted.the-variants as wants
-use Rattle.writer.specs.Writer.{openRow, value, closeRow, room, fine, unless, inBook, rowLayout, suits, isNext, does}
+use Rattle.writer.specs.Writer.{openRow, value, closeRow, room, inBook, rowLayout, suits, isNext, does}
 use Rattle.writer.proofs.Tests.{length-size}
+use Rattle.writer.proofs.Calls.{Passes, accepted}
 use Rattle.promises_writing.specs.Promise.{each, fieldCalls, itemCalls, onto}
-use Rattle.promises_writing.proofs.Calls.{Passes, accepted, Runs, runs-both, runs-one}
+use Rattle.promises_writing.proofs.Calls.{Runs, runs-both, runs-one}
 use Rattle.promises_writing.proofs.Standing.{Spot, spot, stateAt, standing, row-layout, close-leaves}
 use Rattle.promises_writing.proofs.WritesHeader.{stand, room-same, Puts, puts-none, puts-both, ready-bounds, put-one}
 
@@ -73,9 +75,8 @@ module _ (buffer lent : List ℕ) (long : bookRoom ≤ length lent) (b : Book) (
       let xs : List ℕ = valueImage (formOf (x .attribute .kind)) (x .value) in
       let more : drop (k + 1) (l .attributes) ≡ rest = sym (drop-drop 1 k (l .attributes)) ∙ ap (drop 1) e in
       let last : k + suc (length rest) ≡ (k + 1) + length rest = omega arith in
-      let fault : Read (Unit {0}) =
-      rowLayout (stateAt done at) (onto buffer done) b then λ m _. unless (isNext (drop k (m .attributes)) (x .attribute .kind .basic) (x .value)) 21 in
-      let fine-next : isOk fault ≡ true =
+      let fault : Fault = inBook (rowLayout (stateAt done at) (onto buffer done) b) λ m. unless (isNext (drop k (m .attributes)) (x .attribute .kind .basic) (x .value)) 21 in
+      let fine-next : fault ≡ fine =
       rw (row-layout before (lengthImage (r .is-stated) 0 ++ got) (drop (length done) buffer) done at (r .number) l (top-opens got) refl small found, e, good-next a rest x (g .0) (g .1)) in
       rw last
       (puts-both {a = fieldCalls x}
@@ -95,28 +96,27 @@ module _ (buffer lent : List ℕ) (long : bookRoom ≤ length lent) (b : Book) (
       let opens = top-opens (images fieldImage (r .fields)) in
       let long-top = top-length in
       let size : length whole ≡ length before + (12 + length (images fieldImage (r .fields))) = simp (length-append, top-length) refl in
-      let (leaves, place) = close-leaves lent before rest whole at r opens refl refl in
-      let p : Passes (stateAt whole at) (onto buffer whole) (length (bookImage b)) b (does (stateAt whole at) (onto buffer whole) b closeRow) [] =
+      let (leaves, place) = close-leaves lent before rest whole at r opens refl in
+      let p : Passes (stateAt whole at) (onto buffer whole) (length (bookImage b)) b (does (stateAt whole at) (onto buffer whole) b closeRow) =
       record {
         inside = ready-bounds buffer whole at (omega arith) f;
         in-turn = refl;
         faultless = rw (row-layout before (lengthImage (r .is-stated) 0 ++ images fieldImage (r .fields)) rest whole at (r .number) l opens refl small found, le-leb (length (l .attributes)) (length (l .attributes)) (le-refl (length (l .attributes))));
-        end = 0;
-        takes = refl;
+        learnt = refl;
         fits = rw (room-same buffer whole f, length-size) (omega arith);
       } in
       let stands = leaves ∙ ap (λ (n : ℕ). standing lent (before ++ itemImage (row r)) (drop n buffer) (spot b wants.Element 0 0 (rows + 1))) place in
       runs-one closeRow (stand buffer lent whole at)
       (rw stands at
-      (accepted (stateAt whole at) (onto buffer whole) (onto lent (bookImage b)) (length (bookImage b)) (holding-of b lent good long) closeRow [] p))
+      (accepted (stateAt whole at) (onto buffer whole) (onto lent (bookImage b)) (length (bookImage b)) (holding-of b lent good long) closeRow p))
 
   pub row-put : FieldsOf (l .attributes) (r .fields) → Puts buffer lent (itemCalls (row r)) (itemImage (row r)) before (spot b wants.Element 0 0 rows) (spot b wants.Element 0 0 (rows + 1))
   unfolding does top whole
   row-put g =
       let many : length (l .attributes) ≤ mostAttributes = each-find GoodLayout (r .number) b l (good .good) found .few in
-      let place = close-leaves lent before [] whole (spot b wants.Value 0 (length before) rows) r (top-opens (images fieldImage (r .fields))) refl refl .1 in
+      let place = close-leaves lent before [] whole (spot b wants.Value 0 (length before) rows) r (top-opens (images fieldImage (r .fields))) refl .1 in
       let opens : Puts buffer lent (openRow (r .number) (r .is-stated) ∷ []) top before (spot b wants.Element 0 0 rows) (spot b wants.Value 0 (length before) rows) =
-      put-one buffer lent long (openRow (r .number) (r .is-stated)) before top (spot b wants.Element 0 0 rows) wants.Value 0 (length before) (inBook (find (r .number) b) then λ _ _. fine) good refl (rw found) (omega arith) in
+      put-one buffer lent long (openRow (r .number) (r .is-stated)) before top (spot b wants.Element 0 0 rows) wants.Value 0 (length before) (inBook (find (r .number) b) λ _. fine) good refl (rw found) (omega arith) in
       let values : Puts buffer lent (each fieldCalls (r .fields)) (images fieldImage (r .fields)) (before ++ top) (spot b wants.Value 0 (length before) rows) (spot b wants.Value (length (l .attributes)) (length before) rows) =
       rw (append-nil top, zero-add (length (l .attributes))) at (values-put (l .attributes) (r .fields) 0 [] refl (omega arith) g) in
       let all = append-assoc before top (images fieldImage (r .fields)) in

@@ -24,7 +24,8 @@ use Rattle.writer.specs.declared.Wanted.{Wanted}
 use Rattle.writer.specs.declared.Wanted.the-variants as wants
 use Rattle.writer.specs.Writer.{Call, recorder, startTime, defaultNamespace, namespaceCount, uri, shortName, serviceCount, service, documentId, openLayout, typeName, attributeCount, attributeName, attributeType, openRow, value, closeRow, giveUp, finish, Written, Deed, does, call, runCalls}
 use Rattle.promises_writing.specs.Promise.{bookBehind, onto, begun, finished, Given, Bearing, more, opening, back, bearing, Told, nothing-told, tell, tellAll, told, Run, Forward, fartherAs, farther, answering, goesOn, begins, ran, cleared, Going, Wrote}
-use Rattle.promises_writing.proofs.Calls.{passed-all, Runs, runs-both, runs-none, runs-one}
+use Rattle.writer.proofs.Calls.{passed-all}
+use Rattle.promises_writing.proofs.Calls.{Runs, runs-both, runs-none, runs-one}
 use Rattle.promises_writing.proofs.Standing.{Spot, spot, stateAt, standing, onto-length}
 use Rattle.promises_writing.proofs.Writes.{image-stands, reads}
 use Rattle.promises_writing.proofs.Shapes.{Ended, Shape, Stand, rest, Inv, PassesHere, leftHere}
@@ -87,9 +88,9 @@ module _ (buffer lent : List ℕ) (long : bookRoom ≤ length lent) where
     same-far : {told : Told} {w : Written} → Inv (cleared buffer far) lent told w → Held told far w
     same-far i = record { low = low; inv = i }
 
-    given-up : (new : List ℕ) → PassesHere now (deed giveUp) new → Held (tell so-far giveUp) (max far (length (now .done))) (leftHere now (deed giveUp) new)
+    given-up : PassesHere now (deed giveUp) → Held (tell so-far giveUp) (max far (length (now .done))) (leftHere now (deed giveUp))
     unfolding does
-    given-up new p =
+    given-up p =
         let place : ℕ = length (now .done) in
         let room : length (cleared buffer far) ≡ length buffer = cleared-length buffer far low in
         let inside = now .inside in
@@ -97,30 +98,30 @@ module _ (buffer lent : List ℕ) (long : bookRoom ≤ length lent) where
         let head = p .inside .head (p .in-turn) in
         record {
           low = most;
-          inv = keep-given-up now (cleared buffer (max far place)) new (cleared-length buffer (max far place) most ∙ sym room) (clears buffer far place (now .at .start) (omega arith)) p;
+          inv = keep-given-up now (cleared buffer (max far place)) (cleared-length buffer (max far place) most ∙ sym room) (clears buffer far place (now .at .start) (omega arith)) p;
         }
 
     -- Every call that can be given.
-    keep : (c : Call) → Given c → (new : List ℕ) → PassesHere now (deed c) new → Held (tell so-far c) (farther far (stateAt (now .done) (now .at)) c) (leftHere now (deed c) new)
-    keep (recorder xs) g new p = same-far (keep-recorder now xs g new p)
-    keep (startTime n) g new p = same-far (keep-start now n g new p)
-    keep (defaultNamespace xs) g new p = same-far (keep-default now xs g new p)
-    keep (namespaceCount n) g new p = same-far (keep-namespaces now n new p)
-    keep (uri xs) g new p = same-far (keep-uri now xs g new p)
-    keep (shortName xs) g new p = same-far (keep-short now xs g new p)
-    keep (serviceCount n) g new p = same-far (keep-services now n new p)
-    keep (service xs) g new p = same-far (keep-service now xs g new p)
-    keep (documentId xs) g new p = same-far (keep-id now xs g new p)
-    keep (openLayout n) g new p = same-far (keep-layout now n g new p)
-    keep (typeName xs) g new p = same-far (keep-name now xs g new p)
-    keep (attributeCount n) g new p = same-far (keep-attributes now n new p)
-    keep (attributeName xs) g new p = same-far (keep-attribute now xs g new p)
-    keep (attributeType t) g new p = same-far (keep-type now t new p)
-    keep (openRow n stated) g new p = same-far (keep-row now n stated g new p)
-    keep (value b v) g new p = same-far (keep-value now b v g new p)
-    keep closeRow g new p = same-far (keep-close now new p)
-    keep giveUp g new p = given-up new p
-    keep (finish n) g new p = same-far (keep-finish now n g new p)
+    keep : (c : Call) → Given c → PassesHere now (deed c) → Held (tell so-far c) (farther far (stateAt (now .done) (now .at)) c) (leftHere now (deed c))
+    keep (recorder xs) g p = same-far (keep-recorder now xs g p)
+    keep (startTime n) g p = same-far (keep-start now n g p)
+    keep (defaultNamespace xs) g p = same-far (keep-default now xs g p)
+    keep (namespaceCount n) g p = same-far (keep-namespaces now n p)
+    keep (uri xs) g p = same-far (keep-uri now xs g p)
+    keep (shortName xs) g p = same-far (keep-short now xs g p)
+    keep (serviceCount n) g p = same-far (keep-services now n p)
+    keep (service xs) g p = same-far (keep-service now xs g p)
+    keep (documentId xs) g p = same-far (keep-id now xs g p)
+    keep (openLayout n) g p = same-far (keep-layout now n g p)
+    keep (typeName xs) g p = same-far (keep-name now xs g p)
+    keep (attributeCount n) g p = same-far (keep-attributes now n p)
+    keep (attributeName xs) g p = same-far (keep-attribute now xs g p)
+    keep (attributeType t) g p = same-far (keep-type now t p)
+    keep (openRow n stated) g p = same-far (keep-row now n stated g p)
+    keep (value b v) g p = same-far (keep-value now b v g p)
+    keep closeRow g p = same-far (keep-close now p)
+    keep giveUp g p = given-up p
+    keep (finish n) g p = same-far (keep-finish now n g p)
 
   -- One call that is accepted.
   call-keeps : (so-far : Told) (far : ℕ) (w : Written) (c : Call) → Held so-far far w → Given c → {v : Written} {n : ℕ}
@@ -129,10 +130,10 @@ module _ (buffer lent : List ℕ) (long : bookRoom ≤ length lent) where
       let i = h .inv in
       let now = i .stand in
       let b : Book = now .at .book in
-      let here = passed-all (stateAt (now .done) (now .at)) (now .done ++ rest now) (onto lent (bookImage b)) (length (bookImage b)) (holding-of b lent (now .good) long) c
-      (subst (λ (x : Written). call (x .state) (x .buffer) (x .book) (x .used) c ≡ ok v n) (i .is) e) in
+      let here = passed-all (stateAt (now .done) (now .at)) (now .done ++ rest now) (onto lent (bookImage b)) (length (bookImage b)) c
+      (subst (λ (x : Written). call (x .state) (x .buffer) (x .book) (x .used) c ≡ ok v n) (i .is) e) (holding-of b lent (now .good) long) in
       subst (λ (x : Written). Held (tell so-far c) (farther far (x .state) c) v) (sym (i .is))
-      (subst (Held (tell so-far c) (farther far (stateAt (now .done) (now .at)) c)) (sym (here .is)) (keep (h .low) now c g (here .new) (here .passes)))
+      (subst (Held (tell so-far c) (farther far (stateAt (now .done) (now .at)) c)) (sym (here .left)) (keep (h .low) now c g (here .passes)))
 
   -- A run as far as it went.
   record Kept (r : Run) : Type 0 where

@@ -11,30 +11,33 @@ use lib.ListN.{length, drop, length-append, length-drop, length-replicate}
 use lib.Dec.{leb, ltb, eqb}
 use borrow.Author.Tests.{leb-true, leb-false, eqb-true, eqb-false, ltb-true}
 use Rattle.octets.specs.Limits.{mostRows, bookRoom, mostAttributes, mostListed}
-use Rattle.octets.specs.Reading.{Read, ok, _then_, choose, isOk, be}
+use Rattle.octets.specs.Reading.{ok, choose, isOk, be}
 use Rattle.octets.specs.Writing.{word, ledImage, Each, Octet}
 use Rattle.octets.proofs.Spans.{length-word}
-use Rattle.octets.proofs.Inverse.{after, chosen}
 use Rattle.kinds.specs.declared.Basic.{Basic}
 use Rattle.kinds.specs.Kinds.{kindOf}
 use Rattle.layouts.specs.Layout.{Attribute, Layout, GoodLayout}
-use Rattle.layouts.specs.Book.{Book, find, bookOf}
+use Rattle.layouts.specs.Book.{Book, find, bookOf, bookIn}
+use Rattle.layouts.specs.declared.Learning.the-variants.{Known}
 use Rattle.layouts.proofs.Books.{book-forth}
 use Rattle.layouts.proofs.Finding.{each-find}
 use Rattle.layouts.proofs.Checks.{book-short, book-over}
 use Rattle.rows.specs.Row.{lengthImage}
 use Rattle.kinds.specs.Forms.{Value}
-use Rattle.writing_parts.specs.Answers.{learningOf, refusal, added}
+use Rattle.writing_parts.specs.declared.Fault.{Fault}
+use Rattle.writing_parts.specs.Faults.{fine, unless, refusedBy}
+use Rattle.writing_parts.specs.Answers.{learningOf, added}
+use Rattle.writing_parts.proofs.Faults.{fine-not, holds}
 use Rattle.writing_parts.proofs.Over.{over-length, over-behind}
 use Rattle.writing_parts.proofs.Meets.{added-fits}
 use Rattle.writer.specs.declared.Wanted.{Wanted}
 use Rattle.writer.specs.declared.Wanted.the-variants as wants
 use Rattle.writer.specs.declared.State.{State}
 use Rattle.writer.specs.Writer.{Call, recorder, startTime, defaultNamespace, namespaceCount, uri, shortName, serviceCount, service, documentId, openLayout, typeName, attributeCount, attributeName, attributeType, openRow, value, closeRow, giveUp, finish}
-use Rattle.writer.specs.Writer.{Written, room, rule, unless, Deed, attributes, between, turnAt, inBook, rowLayout, isNext, does, addition, layoutSoFar, call}
+use Rattle.writer.specs.Writer.{Written, room, rule, Deed, attributes, between, turnAt, inBook, rowLayout, isNext, does, layoutSoFar, taken, leftBy, call}
 use Rattle.writer.proofs.Bounds.{Bounds, turn-count, open-head}
 use Rattle.writer.proofs.Tests.{length-size}
-use Rattle.writer.proofs.Calls.{done, accepted-is}
+use Rattle.writer.proofs.Calls.{accepted-is}
 
 true-false : true ≡ false → ⊥
 true-false e = let z : _≡_ {A = ℕ} 0 1 = cc in omega arith
@@ -43,7 +46,7 @@ true-false e = let z : _≡_ {A = ℕ} 0 1 = cc in omega arith
 abbrev Puts : State → Deed → Type 0
 Puts s d = ((d .at ≡ s .place) × (d .next .place ≡ d .at + length (d .octets))) ⊎ ((d .at + length (d .octets) ≤ s .place) × (d .next .place ≤ s .place))
 
-attributes-put : (s : State) (turn : Wanted) (f : Read (Unit {0})) (xs : List ℕ) (n : ℕ) → Puts s (attributes s turn f xs n)
+attributes-put : (s : State) (turn : Wanted) (f : Fault) (xs : List ℕ) (n : ℕ) → Puts s (attributes s turn f xs n)
 attributes-put s turn f xs n = go (eqb n 0)
   where
     go : (t : Bool) → (_≡_ {A = ℕ} (s .place) (s .place)
@@ -71,7 +74,7 @@ module _ (s : State) (buffer : List ℕ) (book : Book) (w : Bounds s (length buf
   puts (typeName xs) e = inl (refl, refl)
   puts (attributeCount n) e = attributes-put s wants.AttributeCount (unless (leb n mostAttributes) 4) (word 4 n) n
   puts (attributeName xs) e = inl (refl, refl)
-  puts (attributeType t) e = attributes-put s wants.AttributeType (kindOf 0 t 0 then λ _ _. ok tt 0) (word 4 t) (s .count - 1)
+  puts (attributeType t) e = attributes-put s wants.AttributeType (refusedBy (kindOf (s .place) t (s .place + 4))) (word 4 t) (s .count - 1)
   puts (openRow n stated) e = inl (refl, refl)
   puts (value b v) e = inl (refl, refl)
   puts closeRow e =
@@ -98,12 +101,15 @@ book-room lent used e = go (leb bookRoom (length lent)) (leb used bookRoom) refl
     go false u f g = absurd (true-false (ap isOk (sym e) ∙ book-short lent used (leb-false _ _ f)))
     go true false f g = absurd (true-false (ap isOk (sym e) ∙ book-over lent used (leb-true _ _ f) (leb-false _ _ g)))
 
-new-fits : (t : Bool) (book : Book) (used : ℕ) (xs : List ℕ) {new : List ℕ} {q : ℕ} → used ≤ bookRoom → addition t book used xs ≡ ok new q → used + length new ≤ bookRoom
-new-fits false book used xs {new} h e = let none : [] ≡ new = cc in subst (λ (ys : List ℕ). used + length ys ≤ bookRoom) none (omega arith)
-new-fits true book used xs {new} h e =
-    after (refusal (learningOf book used xs)) _ e λ _ _ _ f.
-    let is : added (learningOf book used xs) xs ≡ new = cc in
-    subst (λ (ys : List ℕ). used + length ys ≤ bookRoom) is (added-fits book used xs h)
+new-fits : (s : State) (buffer : List ℕ) (book : Book) (used : ℕ) (d : Deed) → used ≤ bookRoom → used + length (taken s buffer book used d) ≤ bookRoom
+new-fits s buffer book used d h = go (d .completes)
+  where
+    xs : List ℕ
+    xs = layoutSoFar s buffer (d .octets)
+
+    go : (t : Bool) → used + length (added (choose t (λ _. learningOf book used xs) (λ _. Known)) xs) ≤ bookRoom
+    go false = omega arith
+    go true = added-fits book used xs h
 
 room-long : (size : ℕ) → room size ≤ size
 unfolding room
@@ -120,18 +126,21 @@ pub record Kept (buffer lent : List ℕ) (w : Written) : Type 0 where
 pub kept : (s : State) (buffer lent : List ℕ) (used : ℕ) (c : Call) {w : Written} {at : ℕ} → call s buffer lent used c ≡ ok w at → Kept buffer lent w
 kept s buffer lent used c e =
     let a = accepted-is s buffer lent used c e in
-    let d = does s buffer (a .book) c in
+    let b = bookIn lent used in
+    let d = does s buffer b c in
+    let new = taken s buffer b used d in
     let room = book-room lent used (a .is-book) in
-    let fits = new-fits (d .completes) (a .book) used (layoutSoFar s buffer (d .octets)) (room .1) (a .is-new) in
+    let fits = new-fits s buffer b used d (room .1) in
     let long = room-long (length buffer) in
-    let inside = a .fits in
-    let k : Kept buffer lent (done buffer lent used d (a .new)) = record {
+    let p = a .passes in
+    let inside = p .fits in
+    let k : Kept buffer lent (leftBy s buffer lent used b d) = record {
       buffer-length = over-length buffer (d .at) (d .octets) (omega arith);
-      book-length = over-length lent used (a .new) (omega arith);
-      place = next-place s d _ (a .within .place) inside (puts s buffer (a .book) (a .within) c (a .in-turn));
+      book-length = over-length lent used new (omega arith);
+      place = next-place s d _ (p .inside .place) inside (puts s buffer b (p .inside) c (p .in-turn));
       used = fits;
       behind-room = over-behind buffer (d .at) (d .octets) _ (omega arith) inside;
-      behind-book = over-behind lent used (a .new) bookRoom (omega arith) fits;
+      behind-book = over-behind lent used new bookRoom (omega arith) fits;
     } in
     subst (Kept buffer lent) (sym (a .left)) k
 
@@ -149,9 +158,10 @@ at-turn P n more behind f g = go (eqb n 0) refl
     go true e = g (eqb-true n 0 e)
     go false e = f (eqb-false n 0 e)
 
-pub in-book : (o : Option Layout) {l : Layout} {n : ℕ} → inBook o ≡ ok l n → o ≡ some l
-in-book (some m) {l} e = let same : m ≡ l = cc in ap some same
-in-book none e = let z : _≡_ {A = ℕ} 0 1 = cc in absurd (omega arith)
+-- A layout that is asked without fault is in the book.
+pub in-book : (o : Option Layout) (ask : Layout → Fault) → inBook o ask ≡ fine → (l : Layout) × (o ≡ some l) × (ask l ≡ fine)
+in-book (some l) ask e = (l, refl, e)
+in-book none ask e = absurd (fine-not refl e)
 
 -- A value that is accepted is the next field's: there is one.
 some-left : (xs : List Attribute) (b : Basic) (v : Value) → isNext xs b v ≡ true → 0 < length xs
@@ -163,12 +173,12 @@ module _ (s : State) (buffer : List ℕ) (book : Book) (w : Bounds s (length buf
   abbrev behind : List ℕ → Wanted → ℕ → State
   behind xs turn count = record { place = s .place + length xs; turn = turn; count = count; start = s .start; rows = s .rows }
 
-  row-few : {l : Layout} {m : ℕ} → rowLayout s buffer book ≡ ok l m → length (l .attributes) ≤ mostAttributes
+  row-few : {l : Layout} → rowLayout s buffer book ≡ some l → length (l .attributes) ≤ mostAttributes
   unfolding rowLayout
-  row-few {l} e = few (be 4 buffer (s .start + 4)) l (in-book (find (be 4 buffer (s .start + 4)) book) e)
+  row-few {l} e = few (be 4 buffer (s .start + 4)) l e
 
   -- A layout with so many attributes to come.
-  attributes-inside : (turn : Wanted) (f : Read (Unit {0})) (xs : List ℕ) (n : ℕ) → n ≤ mostAttributes → s .start + 8 ≤ s .place → Inside (attributes s turn f xs n .next)
+  attributes-inside : (turn : Wanted) (f : Fault) (xs : List ℕ) (n : ℕ) → n ≤ mostAttributes → s .start + 8 ≤ s .place → Inside (attributes s turn f xs n .next)
   attributes-inside turn f xs n few₁ head = go (eqb n 0) refl
     where
       go : (t : Bool) → eqb n 0 ≡ t → Inside (choose t (λ _. between (s .place + length xs) (s .rows)) (λ _. behind xs wants.AttributeName n))
@@ -179,20 +189,20 @@ module _ (s : State) (buffer : List ℕ) (book : Book) (w : Bounds s (length buf
           some-to-come zero a b = absurd (b refl)
           some-to-come (suc n) a b = omega arith
 
-  inside : (c : Call) {p : ℕ} → does s buffer book c .in-turn ≡ true → does s buffer book c .fault ≡ ok tt p → Inside (does s buffer book c .next)
+  inside : (c : Call) → does s buffer book c .in-turn ≡ true → does s buffer book c .fault ≡ fine → Inside (does s buffer book c .next)
   unfolding does
   inside (recorder xs) e f = omega arith
   inside (startTime n) e f = omega arith
   inside (defaultNamespace xs) e f = omega arith
   inside (namespaceCount n) e f =
-      let h : n ≤ mostListed = leb-true n mostListed (chosen (leb n mostListed) _ 4 0 f .0) in
+      let h : n ≤ mostListed = leb-true n mostListed (holds (leb n mostListed) 4 f) in
       at-turn (λ u. Inside (behind (word 4 n) u n)) n wants.Uri wants.ServiceCount (λ z. omega arith) (λ z. omega arith)
   inside (uri xs) e f = let h = turn-count s (length buffer) w wants.Uri e in omega arith
   inside (shortName xs) e f =
       let h = turn-count s (length buffer) w wants.ShortName e in
       at-turn (λ u. Inside (behind (ledImage xs) u (s .count - 1))) (s .count - 1) wants.Uri wants.ServiceCount (λ z. omega arith) (λ z. omega arith)
   inside (serviceCount n) e f =
-      let h : n ≤ mostListed = leb-true n mostListed (chosen (leb n mostListed) _ 4 0 f .0) in
+      let h : n ≤ mostListed = leb-true n mostListed (holds (leb n mostListed) 4 f) in
       at-turn (λ u. Inside (behind (word 4 n) u n)) n wants.Service wants.DocumentId (λ z. omega arith) (λ z. omega arith)
   inside (service xs) e f =
       let h = turn-count s (length buffer) w wants.Service e in
@@ -203,7 +213,7 @@ module _ (s : State) (buffer : List ℕ) (book : Book) (w : Bounds s (length buf
       omega arith
   inside (typeName xs) e f = let h = open-head s (length buffer) w wants.TypeName e (omega arith) in omega arith
   inside (attributeCount n) e f =
-      let h : n ≤ mostAttributes = leb-true n mostAttributes (chosen (leb n mostAttributes) _ 4 0 f .0) in
+      let h : n ≤ mostAttributes = leb-true n mostAttributes (holds (leb n mostAttributes) 4 f) in
       attributes-inside wants.AttributeCount (unless (leb n mostAttributes) 4) (word 4 n) n h (open-head s (length buffer) w wants.AttributeCount e (omega arith))
   inside (attributeName xs) e f =
       let h = open-head s (length buffer) w wants.AttributeName e (omega arith) in
@@ -211,7 +221,7 @@ module _ (s : State) (buffer : List ℕ) (book : Book) (w : Bounds s (length buf
       omega arith
   inside (attributeType t) e f =
       let k = turn-count s (length buffer) w wants.AttributeType e in
-      attributes-inside wants.AttributeType (kindOf 0 t 0 then λ _ _. ok tt 0) (word 4 t) (s .count - 1) (omega arith)
+      attributes-inside wants.AttributeType (refusedBy (kindOf (s .place) t (s .place + 4))) (word 4 t) (s .count - 1) (omega arith)
       (open-head s (length buffer) w wants.AttributeType e (omega arith))
   inside (openRow n stated) e f =
       let xs : List ℕ = word 4 2 ++ word 4 n ++ lengthImage stated 0 in
@@ -220,8 +230,8 @@ module _ (s : State) (buffer : List ℕ) (book : Book) (w : Bounds s (length buf
       ∙ omega (arith, length-append (word 4 2) (word 4 n), length-word 4 2, length-word 4 n, length-size stated 0) in
       omega arith
   inside (value b v) e f =
-      after (rowLayout s buffer book) _ f λ l m found g.
-      let left = some-left (drop (s .count) (l .attributes)) b v (chosen (isNext (drop (s .count) (l .attributes)) b v) _ 21 0 g .0) in
+      let (l, found, g) = in-book (rowLayout s buffer book) _ f in
+      let left = some-left (drop (s .count) (l .attributes)) b v (holds (isNext (drop (s .count) (l .attributes)) b v) 21 g) in
       let long = length-drop (s .count) (l .attributes) in
       let most = row-few found in
       let head = open-head s (length buffer) w wants.Value e (omega arith) in
@@ -230,14 +240,15 @@ module _ (s : State) (buffer : List ℕ) (book : Book) (w : Bounds s (length buf
   inside giveUp e f = omega arith
   inside (finish n) e f = omega arith
 
--- An deedAnswer state is inside its bounds, over the buffer that was left.
+-- An answered state is inside its bounds, over the buffer that was left.
 pub answered-within : (s : State) (buffer lent : List ℕ) (used : ℕ) (c : Call) → Each Octet lent → {w : Written} {at : ℕ} → call s buffer lent used c ≡ ok w at
     → w .state .rows ≤ mostRows → Bounds (w .state) (length (w .buffer))
 answered-within s buffer lent used c o {w} e rows =
     let a = accepted-is s buffer lent used c e in
     let k = kept s buffer lent used c e in
+    let p = a .passes in
     let (held, _) = book-forth lent used o (a .is-book) in
-    let i = inside s buffer (a .book) (a .within) (λ n l f. each-find GoodLayout n (a .book) l (held .good .good) f .few) c (a .in-turn) (a .no-fault) in
+    let i = inside s buffer (bookIn lent used) (p .inside) (λ n l f. each-find GoodLayout n (bookIn lent used) l (held .good .good) f .few) c (p .in-turn) (p .faultless) in
     let j : Inside (w .state) = subst (λ (v : Written). Inside (v .state)) (sym (a .left)) i in
     record {
       place = rw (k .buffer-length) (k .place);

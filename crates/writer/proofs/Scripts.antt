@@ -6,9 +6,9 @@ use Rattle.octets.specs.Writing.{word, ledImage, images, over}
 use Rattle.kinds.specs.Kinds.{among, basicOf, kindAt}
 use Rattle.layouts.specs.Layout.{attributeAt, layoutAt, attributeImage, layoutImage}
 use Rattle.layouts.specs.Book.{find, layoutsAt, bookOf, bookIn}
-use Rattle.writer.specs.Writer.{room, bounded, rowLayout, does, layoutSoFar, early, tried, deedAnswer, call}
+use Rattle.writer.specs.Writer.{room, bounded, rowLayout, does, layoutSoFar, faultOf, deedAnswer, call}
 use Rattle.writer.specs.Cases.{play, plays, scripts}
 
 pub all-play : plays scripts ≡ true
-unfolding be part numberIn ledIn count run word ledImage images over among basicOf kindAt attributeAt layoutAt attributeImage layoutImage find layoutsAt bookOf bookIn room bounded rowLayout does layoutSoFar early tried deedAnswer call play plays scripts
+unfolding be part numberIn ledIn count run word ledImage images over among basicOf kindAt attributeAt layoutAt attributeImage layoutImage find layoutsAt bookOf bookIn room bounded rowLayout does layoutSoFar faultOf deedAnswer call play plays scripts
 all-play = refl

@@ -1,3 +1,4 @@
 pub mod Writer
+pub mod Own
 pub mod Answers
 pub mod Cases

@@ -6,7 +6,7 @@ use mathlib.Core.Option.{Option, some, none}
 use lib.ListN.{length, drop, replicate}
 use lib.Dec.{leb, ltb, eqb}
 use Rattle.octets.specs.Limits.{longest, mostRows, mostAttributes, mostListed}
-use Rattle.octets.specs.Reading.{Read, ok, no, _then_, choose, be, part}
+use Rattle.octets.specs.Reading.{Read, ok, no, _then_, choose, isOk, be, part}
 use Rattle.octets.specs.Writing.{word, ledImage, over}
 use Rattle.kinds.specs.declared.Basic.{Basic}
 use Rattle.kinds.specs.declared.Form.{Form}
@@ -18,6 +18,11 @@ use Rattle.layouts.specs.Layout.{Attribute, Layout}
 use Rattle.layouts.specs.Book.{Book, find, bookOf, bookIn}
 use Rattle.rows.specs.Row.{lengthImage}
 use Rattle.kinds.specs.Forms.{Value, bits, held, valueImage}
+use Rattle.layouts.specs.declared.Learning.{Learning}
+use Rattle.layouts.specs.declared.Learning.the-variants as learned
+use Rattle.writing_parts.specs.declared.Fault.{Fault}
+use Rattle.writing_parts.specs.declared.Fault.the-variants as faults
+use Rattle.writing_parts.specs.Faults.{fine, unless, refusedBy, _or_}
 use Rattle.writing_parts.specs.Answers.{learningOf, refusal, added}
 use Rattle.writer.specs.declared.Wanted.{Wanted}
 use Rattle.writer.specs.declared.Wanted.the-variants as wants
@@ -138,24 +143,17 @@ bounded s size =
     leb (s .place) (room size) && leb (rule (s .turn) .least) (s .count) && leb (s .count) (rule (s .turn) .most) && leb (s .rows) mostRows
     && choose (isOpen (s .turn)) (λ _. leb (s .start + rule (s .turn) .head) (s .place)) (λ _. true)
 
--- A test that is passed, or not by a refusal. All refusals of a call have one place, that of writing, so it is given once, by `placed` below; the tests stand at 0.
-abbrev pub fine : Read (Unit {0})
-fine = ok tt 0
-
-abbrev pub unless : Bool → ℕ → Read (Unit {0})
-unless t n = choose t (λ _. fine) (λ _. no n 0)
-
 -- What a call is: whether it is its turn, its own fault, the octets that it puts and where, the state behind it, and whether it completes a layout.
 pub record Deed : Type 0 where
   pub in-turn : Bool
-  pub fault : Read (Unit {0})
+  pub fault : Fault
   pub at : ℕ
   pub octets : List ℕ
   pub next : State
   pub completes : Bool
 
 -- Octets in a turn behind what is already written; the turn and the count that follow, and where the open element starts.
-abbrev pub put : State → Wanted → Read (Unit {0}) → List ℕ → Wanted → ℕ → ℕ → Deed
+abbrev pub put : State → Wanted → Fault → List ℕ → Wanted → ℕ → ℕ → Deed
 put s turn fault xs next count start =
     record {
       in-turn = sameTurn (s .turn) turn;
@@ -167,11 +165,11 @@ put s turn fault xs next count start =
     }
 
 -- A field of what is open, or of the header.
-abbrev pub puts : State → Wanted → Read (Unit {0}) → List ℕ → Wanted → ℕ → Deed
+abbrev pub puts : State → Wanted → Fault → List ℕ → Wanted → ℕ → Deed
 puts s turn fault xs next count = put s turn fault xs next count (s .start)
 
 -- The first octets of an element, which starts at the place.
-abbrev pub opens : State → Read (Unit {0}) → List ℕ → Wanted → Deed
+abbrev pub opens : State → Fault → List ℕ → Wanted → Deed
 opens s fault xs next = put s wants.Element fault xs next 0 (s .place)
 
 -- Between two elements.
@@ -179,7 +177,7 @@ abbrev pub between : ℕ → ℕ → State
 between place rows = record { place = place; turn = wants.Element; count = 0; start = 0; rows = rows }
 
 -- Octets of a layout behind which so many attributes are still to come: a layout is completed by its last type, or by a count of none.
-abbrev pub attributes : State → Wanted → Read (Unit {0}) → List ℕ → ℕ → Deed
+abbrev pub attributes : State → Wanted → Fault → List ℕ → ℕ → Deed
 attributes s turn fault xs left =
     record {
       in-turn = sameTurn (s .turn) turn;
@@ -202,14 +200,14 @@ counts s turn n more behind = puts s turn (unless (leb n mostListed) 4) (word 4 
 abbrev pub lists : State → Wanted → List ℕ → Wanted → Wanted → Deed
 lists s turn xs more behind = puts s turn fine (ledImage xs) (turnAt (s .count - 1) more behind) (s .count - 1)
 
--- Refusal 12: a layout that is not in the book.
-abbrev pub inBook : Option Layout → Read Layout
-inBook (some l) = ok l 0
-inBook none = no 12 0
+-- Refusal 12: a layout that is not in the book; one that is there has the fault that is asked of it.
+abbrev pub inBook : Option Layout → (Layout → Fault) → Fault
+inBook none ask = faults.Refused 12
+inBook (some l) ask = ask l
 
 -- The open row's layout, by the number that stands in the row.
-unfoldable pub rowLayout : State → List ℕ → Book → Read Layout
-rowLayout s buffer book = inBook (find (be 4 buffer (s .start + 4)) book)
+unfoldable pub rowLayout : State → List ℕ → Book → Option Layout
+rowLayout s buffer book = find (be 4 buffer (s .start + 4)) book
 
 -- A value that a form has an image for: a number that fits its octets, a boolean that is 0 or 1, octets behind a length.
 abbrev pub suits : Form → Value → Bool
@@ -243,16 +241,16 @@ does s buffer book (typeName xs) = puts s wants.TypeName fine (ledImage xs) want
 does s buffer book (attributeCount n) = attributes s wants.AttributeCount (unless (leb n mostAttributes) 4) (word 4 n) n
 does s buffer book (attributeName xs) = puts s wants.AttributeName fine (ledImage xs) wants.AttributeType (s .count)
 does s buffer book (attributeType t) =
-    attributes s wants.AttributeType (kindOf 0 t 0 then λ _ _. fine) (word 4 t) (s .count - 1)
+    attributes s wants.AttributeType (refusedBy (kindOf (s .place) t (s .place + 4))) (word 4 t) (s .count - 1)
 does s buffer book (openRow n stated) =
-    opens s (inBook (find n book) then λ _ _. fine) (word 4 2 ++ word 4 n ++ lengthImage stated 0) wants.Value
+    opens s (inBook (find n book) λ _. fine) (word 4 2 ++ word 4 n ++ lengthImage stated 0) wants.Value
 does s buffer book (value b v) =
-    puts s wants.Value (rowLayout s buffer book then λ l _. unless (isNext (drop (s .count) (l .attributes)) b v) 21)
+    puts s wants.Value (inBook (rowLayout s buffer book) λ l. unless (isNext (drop (s .count) (l .attributes)) b v) 21)
     (valueImage (formBy b) v) wants.Value (s .count + 1)
 does s buffer book closeRow =
     record {
       in-turn = sameTurn (s .turn) wants.Value;
-      fault = rowLayout s buffer book then λ l _. unless (leb (length (l .attributes)) (s .count)) 22;
+      fault = inBook (rowLayout s buffer book) λ l. unless (leb (length (l .attributes)) (s .count)) 22;
       at = s .start + 8;
       octets = lengthImage (ltb (be 4 buffer (s .start + 8)) 0xffffffff) (s .place - (s .start + 12));
       next = between (s .place) (s .rows + 1);
@@ -269,36 +267,44 @@ does s buffer book giveUp =
     }
 does s buffer book (finish n) = puts s wants.Element fine (word 4 3 ++ word 4 (s .rows) ++ word 8 n) wants.Nothing 0
 
--- What the book takes of the octets of a layout that a call completes, or its refusal, 10 or 11.
-abbrev pub addition : Bool → Book → ℕ → List ℕ → Read (List ℕ)
-addition false book used xs = ok [] 0
-addition true book used xs = refusal (learningOf book used xs) then λ _ _. ok (added (learningOf book used xs) xs) 0
-
 -- The octets of the open layout from its number on, with those of the call behind them.
 unfoldable pub layoutSoFar : State → List ℕ → List ℕ → List ℕ
 layoutSoFar s buffer xs = part buffer (s .start + 4) (s .place - (s .start + 4)) ++ xs
 
--- First 17, for the book; then 20, for a state out of its bounds or a call out of turn.
-unfoldable pub early : State → ℕ → List ℕ → ℕ → Bool → Read (Unit {0})
-early s size lent used mine = bookOf lent used then λ _ _. unless (bounded s size && mine) 20
+-- What the book makes of the layout that a call completes; one that completes none gives it nothing to learn, as a layout that is known.
+abbrev pub learns : State → List ℕ → Book → ℕ → Deed → Learning
+learns s buffer book used d = choose (d .completes) (λ _. learningOf book used (layoutSoFar s buffer (d .octets))) (λ _. learned.Known)
 
--- Then the call's own fault; 10 and 11 where it completes a layout; last 23, its octets do not fit in the room. All else is accepted.
-unfoldable pub tried : State → List ℕ → List ℕ → ℕ → Deed → Read Written
-tried s buffer lent used d =
-    d .fault then λ _ _.
-    addition (d .completes) (bookIn lent used) used (layoutSoFar s buffer (d .octets)) then λ new _.
-    unless (leb (d .at + length (d .octets)) (room (length buffer))) 23 then λ _ _.
-    ok (record { state = d .next; buffer = over buffer (d .at) (d .octets); book = over lent used new; used = used + length new }) (d .next .place)
+-- The first fault of a call: 17, for the book; 20, for a state out of its bounds or a call out of turn; its own; 10 and 11, where it completes a layout; last 23, its octets do not fit in the room.
+unfoldable pub faultOf : State → List ℕ → List ℕ → ℕ → Deed → Fault
+faultOf s buffer lent used d =
+    unless (isOk (bookOf lent used)) 17
+    or unless (bounded s (length buffer) && d .in-turn) 20
+    or d .fault
+    or refusal (learns s buffer (bookIn lent used) used d)
+    or unless (leb (d .at + length (d .octets)) (room (length buffer))) 23
 
--- A refusal's place is the place of writing.
-abbrev pub placed : {A : Type 0} → ℕ → Read A → Read A
-placed at (ok a next) = ok a next
-placed at (no n p) = no n at
+-- What the book then takes of that layout, and all that a call without fault leaves.
+abbrev pub taken : State → List ℕ → Book → ℕ → Deed → List ℕ
+taken s buffer book used d = added (learns s buffer book used d) (layoutSoFar s buffer (d .octets))
+
+abbrev pub leftBy : State → List ℕ → List ℕ → ℕ → Book → Deed → Written
+leftBy s buffer lent used book d =
+    record {
+      state = d .next;
+      buffer = over buffer (d .at) (d .octets);
+      book = over lent used (taken s buffer book used d);
+      used = used + length (taken s buffer book used d);
+    }
+
+-- A refusal has the place of writing; all else is accepted.
+abbrev pub answerBy : Fault → ℕ → Written → Read Written
+answerBy faults.None at w = ok w (w .state .place)
+answerBy (faults.Refused n) at w = no n at
 
 -- What comes of a deed.
 unfoldable pub deedAnswer : State → List ℕ → List ℕ → ℕ → Deed → Read Written
-deedAnswer s buffer lent used d =
-    placed (s .place) (early s (length buffer) lent used (d .in-turn) then λ _ _. tried s buffer lent used d)
+deedAnswer s buffer lent used d = answerBy (faultOf s buffer lent used d) (s .place) (leftBy s buffer lent used (bookIn lent used) d)
 
 -- One call: the state, the buffer, the lent book and how much of it is used, and what is given.
 unfoldable pub call : State → List ℕ → List ℕ → ℕ → Call → Read Written

@@ -1,4 +1,21 @@
-// The writer's state between two calls, and what a call answers; what each call does is defined in specs Writer.
+// The writer's state between two calls, what a call answers, and what may be against it by its arguments alone; what each call does is defined in specs Writer.
+
+ghost use mathlib.Core.Path.{_≡_};
+ghost use mathlib.Core.List.{List};
+ghost use Prim.Native.Nat.{ℕ, _≤_};
+ghost use lib.Dec.{leb, eqb};
+ghost use Rattle.kinds.specs.Kinds.{formBy, kindOf};
+ghost use Rattle.kinds.specs.Forms.{bits, held};
+ghost use Rattle.layouts.specs.Book.{find, bookIn, IsBook};
+ghost use Rattle.writing_parts.specs.Faults.{fine, unless, refusedBy};
+ghost use Rattle.writer.specs.Writer.{inBook, suits};
+ghost use Rattle.writer.specs.Own.{widthOf, valueFault, closeFault};
+use kinds::Basic;
+use kinds::Form;
+use kinds::Typed;
+use layouts::Looked;
+use writing_parts::Fault;
+use writing_parts::Next;
 
 // What the next call has to give.
 pub enum Wanted {
@@ -40,4 +57,116 @@ pub struct Rule {
     pub least: u32,
     pub most: u32,
     pub head: usize,
+}
+
+// 4 for a count over its limit.
+pub fn at_most(n: u32, most: u32) -> Fault
+    ensures { λ r. ⌜ r ≡ unless (leb n most) 4 ⌝ }
+{
+    if n <= most {
+        Fault::None
+    } else {
+        Fault::Refused(4)
+    }
+}
+
+// 5 for a document id of another length.
+pub fn sixteen(n: usize) -> Fault
+    ensures { λ r. ⌜ r ≡ unless (eqb n 16) 5 ⌝ }
+{
+    if n == 16 {
+        Fault::None
+    } else {
+        Fault::Refused(5)
+    }
+}
+
+// 8 or 9 for a type number that means no type.
+pub fn type_fault(t: u32) -> Fault
+    ensures { λ r. ⌜ ((at next : ℕ) → r ≡ refusedBy (kindOf at t next)) ⌝ }
+{
+    let typed = kinds::kind_of(t);
+    match typed {
+        Typed::Is(kind) => Fault::None,
+        Typed::Refused(n) => Fault::Refused(n),
+    }
+}
+
+// 12 for a layout that is not in the book.
+pub fn layout_fault(book: &[u8], used: usize, n: u32) -> Fault
+    requires { ⌜ IsBook (now book) used ⌝ }
+    ensures { λ r. ⌜ r ≡ inBook (find n (bookIn (now (book .entry)) used)) (λ _. fine) ⌝ }
+{
+    let looked = layouts::find(book, used, n);
+    match looked {
+        Looked::There(p) => Fault::None,
+        Looked::Missing(k) => Fault::Refused(12),
+    }
+}
+
+// 12 for a row whose layout is not in the book; 21 with no field left, or for a value that is not of the next field's type.
+pub fn value_fault(next: Next, b: Basic, fits: bool) -> Fault
+    ensures { λ r. ⌜ r ≡ valueFault next b fits ⌝ }
+{
+    match next {
+        Next::Unknown => Fault::Refused(12),
+        Next::Missing => Fault::Refused(21),
+        Next::Of(a) => {
+            if kinds::code_of(a) != kinds::code_of(b) {
+                return Fault::Refused(21);
+            }
+            if fits {
+                Fault::None
+            } else {
+                Fault::Refused(21)
+            }
+        }
+    }
+}
+
+// 12 for a row whose layout is not in the book; 22 for one whose next field is not given.
+pub fn close_fault(next: Next) -> Fault
+    ensures { λ r. ⌜ r ≡ closeFault next ⌝ }
+{
+    match next {
+        Next::Unknown => Fault::Refused(12),
+        Next::Missing => Fault::None,
+        Next::Of(a) => Fault::Refused(22),
+    }
+}
+
+// Whether a number is a value of a basic type.
+pub fn suits_number(b: Basic, n: u64) -> bool
+    ensures { λ r. ⌜ r ≡ suits (formBy b) (bits n) ⌝ }
+{
+    let form = kinds::form_by(b);
+    match form {
+        Form::Fixed(w) => writing_parts::fits_octets(n, w),
+        Form::Truth => n <= 1,
+        Form::Led => false,
+    }
+}
+
+// Whether octets are a value of a basic type.
+pub fn suits_octets(b: Basic) -> bool
+    ensures { λ r. ⌜ ((xs : List ℕ) → r ≡ suits (formBy b) (held xs)) ⌝ }
+{
+    let form = kinds::form_by(b);
+    match form {
+        Form::Fixed(w) => false,
+        Form::Truth => false,
+        Form::Led => true,
+    }
+}
+
+// How many octets a number of a basic type has.
+pub fn width_of(b: Basic) -> usize
+    ensures { λ r. ⌜ (r ≡ widthOf (formBy b)) × (r ≤ 8) ⌝ }
+{
+    let form = kinds::form_by(b);
+    match form {
+        Form::Fixed(w) => w,
+        Form::Truth => 1,
+        Form::Led => 0,
+    }
 }

@@ -1,5 +1,5 @@
 // The writer: a document given one field at a time, in image order, into a lent buffer.
-// What each call does is defined in writer Writer; the code that they share is in giving and writing_parts.
+// What each call does is defined in writer Writer; the code that they share is in giving, writer and writing_parts.
 
 ghost use mathlib.Core.Path.{_≡_};
 ghost use Rattle.kinds.specs.Kinds.{unsigned};
@@ -162,7 +162,7 @@ pub fn service(s: State, buf: &mut [u8], book: &[u8], used: usize, xs: &[u8]) ->
 pub fn document_id(s: State, buf: &mut [u8], book: &[u8], used: usize, xs: &[u8]) -> Answer
     ensures { λ r. ⌜ left r (now (buf .exit)) (now (book .entry)) ≡ callLeaves s (now (buf .entry)) (now (book .entry)) used (documentId (now (xs .entry))) ⌝ }
 {
-    let fault = giving::sixteen(xs.len());
+    let fault = writer::sixteen(xs.len());
     let head = writing_parts::word4(16);
     giving::give(
         s,
@@ -234,7 +234,7 @@ pub fn attribute_name(s: State, buf: &mut [u8], book: &[u8], used: usize, xs: &[
 pub fn attribute_count(s: State, buf: &mut [u8], book: &mut [u8], used: usize, n: u32) -> Answer
     ensures { λ r. ⌜ left r (now (buf .exit)) (now (book .exit)) ≡ callLeaves s (now (buf .entry)) (now (book .entry)) used (attributeCount n) ⌝ }
 {
-    let fault = giving::at_most(n, octets::MOST_ATTRIBUTES);
+    let fault = writer::at_most(n, octets::MOST_ATTRIBUTES);
     giving::give_attribute(s, buf, book, used, Wanted::AttributeCount, fault, n, n)
 }
 
@@ -242,7 +242,7 @@ pub fn attribute_count(s: State, buf: &mut [u8], book: &mut [u8], used: usize, n
 pub fn attribute_type(s: State, buf: &mut [u8], book: &mut [u8], used: usize, t: u32) -> Answer
     ensures { λ r. ⌜ left r (now (buf .exit)) (now (book .exit)) ≡ callLeaves s (now (buf .entry)) (now (book .entry)) used (attributeType t) ⌝ }
 {
-    let fault = giving::type_fault(t);
+    let fault = writer::type_fault(t);
     let count = giving::less_one(s.count);
     giving::give_attribute(s, buf, book, used, Wanted::AttributeType, fault, t, count)
 }
@@ -252,13 +252,11 @@ pub fn open_row(s: State, buf: &mut [u8], book: &[u8], used: usize, n: u32, stat
     ensures { λ r. ⌜ left r (now (buf .exit)) (now (book .entry)) ≡ callLeaves s (now (buf .entry)) (now (book .entry)) used (openRow n stated) ⌝ }
 {
     let place = s.place;
-    let wanted = s.turn;
-    let mine = giving::same_turn(wanted, Wanted::Element);
-    let first = giving::ready(s, buf.len(), book, used, mine);
+    let first = giving::in_turn(s, buf.len(), book, used, Wanted::Element);
     if let Fault::Refused(k) = first {
         return Answer::Refused(k, place);
     }
-    let fault = giving::layout_fault(book, used, n);
+    let fault = writer::layout_fault(book, used, n);
     let head = writing_parts::pair(2, n as u64);
     let body = writing_parts::length_octets(stated, 0);
     giving::give_on(
@@ -279,8 +277,8 @@ pub fn open_row(s: State, buf: &mut [u8], book: &[u8], used: usize, n: u32, stat
 pub fn value_number(s: State, buf: &mut [u8], book: &[u8], used: usize, b: Basic, n: u64) -> Answer
     ensures { λ r. ⌜ left r (now (buf .exit)) (now (book .entry)) ≡ callLeaves s (now (buf .entry)) (now (book .entry)) used (value b (bits n)) ⌝ }
 {
-    let fits = giving::suits_number(b, n);
-    let from = 8 - giving::width_of(b);
+    let fits = writer::suits_number(b, n);
+    let from = 8 - writer::width_of(b);
     let head = writing_parts::word8(n);
     giving::give_value(s, buf, book, used, b, fits, &head[from..], b"")
 }
@@ -296,7 +294,7 @@ pub fn value_octets(
 ) -> Answer
     ensures { λ r. ⌜ left r (now (buf .exit)) (now (book .entry)) ≡ callLeaves s (now (buf .entry)) (now (book .entry)) used (value b (held (now (xs .entry)))) ⌝ }
 {
-    let fits = giving::suits_octets(b);
+    let fits = writer::suits_octets(b);
     let head = writing_parts::word4(xs.len() as u64);
     giving::give_value(s, buf, book, used, b, fits, &head, xs)
 }
@@ -313,7 +311,7 @@ pub fn value(
     ensures { λ r. ⌜ left r (now (buf .exit)) (now (book .entry)) ≡ callLeaves s (now (buf .entry)) (now (book .entry)) used (valueCall v (now (xs .entry))) ⌝ }
 {
     let b = kinds::basic_of_value(v);
-    if giving::suits_octets(b) {
+    if writer::suits_octets(b) {
         return value_octets(s, buf, book, used, b, xs);
     }
     value_number(s, buf, book, used, b, kinds::bits_of_value(v))
@@ -327,14 +325,12 @@ pub fn close_row(s: State, buf: &mut [u8], book: &[u8], used: usize) -> Answer
     let start = s.start;
     let count = s.count;
     let rows = s.rows;
-    let wanted = s.turn;
-    let mine = giving::same_turn(wanted, Wanted::Value);
-    let first = giving::ready(s, buf.len(), book, used, mine);
+    let first = giving::in_turn(s, buf.len(), book, used, Wanted::Value);
     if let Fault::Refused(n) = first {
         return Answer::Refused(n, place);
     }
     let next = writing_parts::row_next(buf, start, book, used, count);
-    let fault = giving::close_fault(next);
+    let fault = writer::close_fault(next);
     if let Fault::Refused(n) = fault {
         return Answer::Refused(n, place);
     }

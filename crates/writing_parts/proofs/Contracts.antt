@@ -4,17 +4,14 @@ use mathlib.Core.Path.{_≡_, refl, sym, ap, _∙_}
 use mathlib.Core.List.{List}
 use mathlib.Core.Bool.{Bool, true, false}
 use native.Mathlib.Omega.{arith}
-use Rattle.octets.specs.Reading.{Read, no}
 use Rattle.octets.specs.Contracts.{Once}
 use Rattle.octets.proofs.Alike.{_also_}
-use Rattle.octets.proofs.Inverse.{no-ok}
-use Rattle.writing_parts.specs.Answers.{says, Puts, Completes}
-use Rattle.writing_parts.specs.declared.Fault.{Fault}
-use Rattle.writing_parts.specs.declared.Fault.the-variants.{None, Refused}
+use Rattle.writing_parts.specs.Answers.{Puts, Completes}
 use Rattle.writing_parts.specs.declared.Put.{Put}
 use Rattle.writing_parts.specs.declared.Put.the-variants.{To, Full}
 use Rattle.writing_parts.specs.declared.Completed.{Completed}
 use Rattle.writing_parts.specs.declared.Completed.the-variants as completed
+use Rattle.writing_parts.proofs.Faults.{fine-not, same-number}
 use Rattle.writing_parts.proofs.word4 as word4
 use Rattle.writing_parts.proofs.word8 as word8
 use Rattle.writing_parts.proofs.pair as pair
@@ -52,13 +49,6 @@ pub record Contracts : Type 0 where
   pub of-enter : Once enter.Kinds.ps enter.Kinds.r enter.Reads.Pre enter.Reads.Post
   pub of-complete : Once complete.Kinds.ps complete.Kinds.r complete.Reads.Pre complete.Reads.Post
 
--- A test's answer is what it says.
-pub says-once : (x y : Fault) → says x ≡ says y → x ≡ y
-says-once None None e = refl
-says-once None (Refused m) e = cc
-says-once (Refused n) None e = cc
-says-once (Refused n) (Refused m) e = cc
-
 not-both : {C : Type 0} {t : Bool} → t ≡ true → t ≡ false → C
 not-both e f = absurd (let z : _≡_ {A = ℕ} 0 1 = cc in omega arith)
 
@@ -81,16 +71,14 @@ completes-once buffer b c lent k l used from at xs (completed.Done p t) (complet
     endOf (To r) = r
     endOf Full = 0
 completes-once buffer b c lent k l used from at xs (completed.Done p t) completed.Full e f = not-both (e .1 .0) (f .1 .0)
-completes-once buffer b c lent k l used from at xs (completed.Done p t) (completed.Refused m) e f = absurd (no-ok (f .0) (e .0))
+completes-once buffer b c lent k l used from at xs (completed.Done p t) (completed.Refused m) e f = absurd (fine-not (f .0) (e .0))
 completes-once buffer b c lent k l used from at xs completed.Full (completed.Done q u) e f = not-both (f .1 .0) (e .1 .0)
 completes-once buffer b c lent k l used from at xs completed.Full completed.Full e f = (refl, e .1 .1 ∙ sym (f .1 .1), e .2 ∙ sym (f .2))
-completes-once buffer b c lent k l used from at xs completed.Full (completed.Refused m) e f = absurd (no-ok (f .0) (e .0))
-completes-once buffer b c lent k l used from at xs (completed.Refused n) (completed.Done q u) e f = absurd (no-ok (e .0) (f .0))
-completes-once buffer b c lent k l used from at xs (completed.Refused n) completed.Full e f = absurd (no-ok (e .0) (f .0))
+completes-once buffer b c lent k l used from at xs completed.Full (completed.Refused m) e f = absurd (fine-not (f .0) (e .0))
+completes-once buffer b c lent k l used from at xs (completed.Refused n) (completed.Done q u) e f = absurd (fine-not (e .0) (f .0))
+completes-once buffer b c lent k l used from at xs (completed.Refused n) completed.Full e f = absurd (fine-not (e .0) (f .0))
 completes-once buffer b c lent k l used from at xs (completed.Refused n) (completed.Refused m) e f =
-    let same : _≡_ {A = Read (Unit {0})} (no n 0) (no m 0) = sym (e .0) ∙ f .0 in
-    let number : n ≡ m = cc in
-    (ap completed.Refused number, e .1 ∙ sym (f .1), e .2 ∙ sym (f .2))
+    (ap completed.Refused (same-number (sym (e .0) ∙ f .0)), e .1 ∙ sym (f .1), e .2 ∙ sym (f .2))
 
 pub contracts : Contracts
 contracts =
@@ -109,7 +97,7 @@ contracts =
       of-length-octets = λ κs a p x y u v e f. (e ∙ sym f, refl);
       of-lay-length = λ κs a p x y u v e f. (refl, (e ∙ sym f) also refl);
       of-meet = λ κs a p x y u v e f. (e ∙ sym f, refl);
-      of-refusal-of = λ κs a p x y u v e f. (says-once x y (e ∙ sym f), refl);
+      of-refusal-of = λ κs a p x y u v e f. (e ∙ sym f, refl);
       of-enter = λ κs a p x y u v e f. (e .0 ∙ sym (f .0), (e .1 ∙ sym (f .1)) also refl);
       of-complete = λ κs a p x y u v e f. let q = completes-once _ _ _ _ _ _ _ _ _ _ x y e f in (q .0, q .1 also q .2 also refl);
     }

@@ -1,3 +1,4 @@
 pub mod Over
 pub mod Meets
+pub mod Faults
 pub mod Contracts

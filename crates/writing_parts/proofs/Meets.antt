@@ -8,7 +8,7 @@ use lib.Seq.{length-take-le}
 use Rattle.octets.specs.Limits.{longest, bookRoom}
 use Rattle.octets.specs.Reading.{be}
 use Rattle.octets.specs.Writing.{Each, Octet}
-use Rattle.layouts.specs.Book.{Book, bookIn, IsBook}
+use Rattle.layouts.specs.Book.{Book, IsBook}
 use Rattle.layouts.specs.declared.Learning.{Learning}
 use Rattle.layouts.specs.declared.Learning.the-variants.{Known, New, Refused}
 use Rattle.layouts.proofs.Walks.{lent-book}

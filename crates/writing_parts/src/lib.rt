@@ -13,7 +13,7 @@ ghost use Rattle.layouts.specs.Layout.{Layout, layoutAt};
 ghost use Rattle.layouts.specs.Book.{find, bookIn, IsBook};
 ghost use Rattle.layouts.specs.Answers.{Reads};
 ghost use Rattle.rows.specs.Row.{lengthImage};
-ghost use Rattle.writing_parts.specs.Answers.{Puts, Completes, says, firstOf, nextOf, learningOf, refusal, added};
+ghost use Rattle.writing_parts.specs.Answers.{Puts, Completes, firstOf, nextOf, learningOf, refusal, added};
 use kinds::Basic;
 use layouts::Learning;
 use layouts::Looked;
@@ -228,7 +228,7 @@ pub fn meet<'b, 'f, 'l>(book: &'b [u8], used: usize, front: &'f [u8], last: &'l 
 
 // The refusal of a layout, if it is one.
 pub fn refusal_of(learning: Learning) -> Fault
-    ensures { λ r. ⌜ says r ≡ refusal learning ⌝ }
+    ensures { λ r. ⌜ r ≡ refusal learning ⌝ }
 {
     match learning {
         Learning::Known => Fault::None,

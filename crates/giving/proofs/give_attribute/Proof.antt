@@ -6,7 +6,6 @@ use mathlib.Core.Path.{_≡_, refl}
 use mathlib.Core.List.{List}
 use denote.Ref.{now}
 use Rattle.octets.specs.Writing.{word}
-use Rattle.writing_parts.specs.Answers.{says}
 use Rattle.writing_parts.specs.declared.Fault.{Fault}
 use Rattle.writer.specs.declared.Wanted.{Wanted}
 use Rattle.writer.specs.declared.Wanted.the-variants as wants
@@ -17,10 +16,10 @@ use Rattle.giving.proofs.give_attribute.Statement.{statement}
 use Rattle.giving.proofs.give_attribute.Tie as tie
 
 last : (s : State) (turn : Wanted) (f : Fault) (n : ℕ) {more : ℕ} {xs : List ℕ} → more ≡ 0 → xs ≡ word 4 n
-    → attributes s turn (says f) xs 0 ≡ attributes s turn (says f) (word 4 n) more
+    → attributes s turn f xs 0 ≡ attributes s turn f (word 4 n) more
 last s turn f n e h = rw (e, h) refl
 
-other : (s : State) (turn : Wanted) (f : Fault) (n more : ℕ) → (more ≡ 0 → ⊥) → puts s turn (says f) (word 4 n) wants.AttributeName more ≡ attributes s turn (says f) (word 4 n) more
+other : (s : State) (turn : Wanted) (f : Fault) (n more : ℕ) → (more ≡ 0 → ⊥) → puts s turn f (word 4 n) wants.AttributeName more ≡ attributes s turn f (word 4 n) more
 other s turn f n more h = rw (ne-eqb more 0 h) refl
 
 returns : tie.Need-returns

@@ -1,10 +1,10 @@
 -- `giving::give_on` meets its contract: a law of what is left for each way out. Assumes nothing.
 use borrow.Author.Needs.{needs}
 use Prim.Native.Nat.{ℕ}
-use mathlib.Core.Path.{_≡_, refl, sym, ap, subst}
+use mathlib.Core.Path.{_≡_, refl, sym, subst}
 use mathlib.Core.List.{List, _++_}
 use denote.Ref.{now}
-use Rattle.writing_parts.specs.Answers.{Puts, says}
+use Rattle.writing_parts.specs.Answers.{Puts}
 use Rattle.writing_parts.specs.declared.Put.{Put}
 use Rattle.writing_parts.specs.declared.Put.the-variants.{To, Full}
 use Rattle.writing_parts.specs.declared.Fault.{Fault}
@@ -19,22 +19,22 @@ use Rattle.giving.proofs.give_on.Statement.{statement}
 use Rattle.giving.proofs.give_on.Tie as tie
 
 module _ (s : State) (b : List ℕ) (used : ℕ) (f : Fault) (xs : List ℕ) (next : Wanted) (count start : ℕ) where
-  refused : (n : ℕ) → f ≡ faults.Refused n → (turn : Wanted) (l : List ℕ) → left (Refused n (s .place)) b l ≡ restLeaves s b l used (put s turn (says f) xs next count start)
-  refused n e turn l = sym (leaves-fault s b l used (put s turn (says f) xs next count start) n 0 (ap says e))
+  refused : (n : ℕ) → f ≡ faults.Refused n → (turn : Wanted) (l : List ℕ) → left (Refused n (s .place)) b l ≡ restLeaves s b l used (put s turn f xs next count start)
+  refused n e turn l = sym (leaves-fault s b l used (put s turn f xs next count start) n e)
 
   module _ (e : f ≡ faults.None) {r : Put} {y : List ℕ} (p : Puts b y (s .place) xs r) where
-    full : r ≡ Full → (turn : Wanted) (l : List ℕ) → left (Refused 23 (s .place)) y l ≡ restLeaves s b l used (put s turn (says f) xs next count start)
+    full : r ≡ Full → (turn : Wanted) (l : List ℕ) → left (Refused 23 (s .place)) y l ≡ restLeaves s b l used (put s turn f xs next count start)
     unfolding room
     full z turn l =
         let (no-room, same) = subst (Puts b y (s .place) xs) z p in
-        rw same (sym (leaves-full s b l used (put s turn (says f) xs next count start) (ap says e) refl no-room))
+        rw same (sym (leaves-full s b l used (put s turn f xs next count start) e refl no-room))
 
     done : {q : ℕ} → r ≡ To q → (turn : Wanted) (l : List ℕ)
-        → left (Done (record { place = q; turn = next; count = count; start = start; rows = s .rows }) used) y l ≡ restLeaves s b l used (put s turn (says f) xs next count start)
+        → left (Done (record { place = q; turn = next; count = count; start = start; rows = s .rows }) used) y l ≡ restLeaves s b l used (put s turn f xs next count start)
     unfolding room
     done z turn l =
         let (fits, place, laid) = subst (Puts b y (s .place) xs) z p in
-        rw (place, laid) (sym (leaves-put s b l used (put s turn (says f) xs next count start) (ap says e) refl fits))
+        rw (place, laid) (sym (leaves-put s b l used (put s turn f xs next count start) e refl fits))
 
 returns : tie.Need-returns
 returns c =

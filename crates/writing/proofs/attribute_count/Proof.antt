@@ -2,8 +2,8 @@
 use borrow.Author.Needs.{needs}
 use mathlib.Core.Path.{ap}
 use denote.Ref.{now}
-use Rattle.octets.specs.Reading.{Read}
 use Rattle.octets.specs.Writing.{word}
+use Rattle.writing_parts.specs.declared.Fault.{Fault}
 use Rattle.writer.specs.declared.Wanted.the-variants as wants
 use Rattle.writer.specs.Writer.{does, attributes}
 use Rattle.writer.specs.Answers.{callLeaves}
@@ -18,7 +18,7 @@ returns c =
     let m = g .before .before .before in
     let a = m .before .before .before .args in
     gave (a .s) (now (a .buf)) (now (a .book)) (a .used) (g .give-attribute .ensures)
-    (ap (λ (f : Read (Unit {0})). attributes (a .s) wants.AttributeCount f (word 4 (a .n)) (a .n)) (m .at-most .ensures))
+    (ap (λ (f : Fault). attributes (a .s) wants.AttributeCount f (word 4 (a .n)) (a .n)) (m .at-most .ensures))
 
 pub attribute-count-spec : {M : Type 1} → statement M
 attribute-count-spec =

@@ -2,9 +2,9 @@
 use borrow.Author.Needs.{needs}
 use mathlib.Core.Path.{_≡_, refl}
 use denote.Ref.{now}
-use Prim.Native.Nat.{ℕ}
-use Rattle.octets.specs.Reading.{Read}
+use Prim.Native.Nat.{ℕ, _+_}
 use Rattle.octets.specs.Writing.{word}
+use Rattle.writing_parts.specs.declared.Fault.{Fault}
 use Rattle.writer.specs.declared.Wanted.the-variants as wants
 use Rattle.writer.specs.declared.State.{State}
 use Rattle.writer.specs.Writer.{does, attributes}
@@ -13,7 +13,7 @@ use Rattle.writer.proofs.Tests.{gave}
 use Rattle.writing.proofs.attribute_type.Statement.{statement}
 use Rattle.writing.proofs.attribute_type.Tie as tie
 
-same : (s : State) (t : ℕ) {f g : Read (Unit {0})} {n m : ℕ} → f ≡ g → n ≡ m → attributes s wants.AttributeType f (word 4 t) n ≡ attributes s wants.AttributeType g (word 4 t) m
+same : (s : State) (t : ℕ) {f g : Fault} {n m : ℕ} → f ≡ g → n ≡ m → attributes s wants.AttributeType f (word 4 t) n ≡ attributes s wants.AttributeType g (word 4 t) m
 same s t e h = rw (e, h) refl
 
 returns : tie.Need-returns
@@ -23,7 +23,7 @@ returns c =
     let l = g .before .before .before in
     let t = l .before in
     let a = t .before .before .before .args in
-    gave (a .s) (now (a .buf)) (now (a .book)) (a .used) (g .give-attribute .ensures) (same (a .s) (a .t) (t .type-fault .ensures) (l .less-one .ensures))
+    gave (a .s) (now (a .buf)) (now (a .book)) (a .used) (g .give-attribute .ensures) (same (a .s) (a .t) (t .type-fault .ensures (a .s .place) (a .s .place + 4)) (l .less-one .ensures))
 
 pub attribute-type-spec : {M : Type 1} → statement M
 attribute-type-spec =

@@ -10,29 +10,28 @@ use denote.Ref.{now}
 use lib.ListN.{length, replicate, length-replicate}
 use Rattle.octets.specs.Writing.{over}
 use Rattle.layouts.specs.Book.{bookIn}
-use Rattle.writing_parts.specs.Answers.{says}
 use Rattle.writing_parts.specs.declared.Fault.{Fault}
 use Rattle.writing_parts.specs.declared.Fault.the-variants as faults
 use Rattle.writer.specs.declared.State.{State}
 use Rattle.writer.specs.declared.Answer.the-variants.{Done, Refused}
-use Rattle.writer.specs.Writer.{room, isOpen, between, does, giveUp, early}
-use Rattle.writer.specs.Answers.{left, callLeaves}
+use Rattle.writer.specs.Writer.{room, isOpen, between, does, giveUp}
+use Rattle.writer.specs.Answers.{left, early, callLeaves}
 use Rattle.writer.proofs.Bounds.{bounds}
 use Rattle.writer.proofs.Tests.{stopped, passed, ready, leaves-put}
 use Rattle.writing.proofs.give_up.Statement.{statement}
 use Rattle.writing.proofs.give_up.Tie as tie
 
-module _ (s : State) (b l : List ℕ) (used : ℕ) (r : Fault) (mine : Bool) (is : says r ≡ early s (length b) l used mine) (own : mine ≡ isOpen (s .turn)) where
+module _ (s : State) (b l : List ℕ) (used : ℕ) (r : Fault) (is : r ≡ early s (length b) l used (isOpen (s .turn))) where
   first : (k : ℕ) → r ≡ faults.Refused k → left (Refused k (s .place)) b l ≡ callLeaves s b l used giveUp
   unfolding callLeaves does
-  first = stopped s b l used (does s b (bookIn l used) giveUp) r mine is own
+  first = stopped s b l used (does s b (bookIn l used) giveUp) r is
 
   module _ (e : r ≡ faults.None) where
     within : (s .start ≤ s .place) × (s .place ≤ room (length b))
     within =
-        let k = ready s (length b) l used mine (sym is ∙ ap says e) in
+        let k = ready s (length b) l used (isOpen (s .turn)) (sym is ∙ e) in
         let w = bounds s (length b) (k .within) in
-        let h = w .head (sym own ∙ k .in-turn) in
+        let h = w .head (k .in-turn) in
         (omega arith, w .place)
 
     inside : s .start + (s .place - s .start) ≤ length b
@@ -44,41 +43,44 @@ module _ (s : State) (b l : List ℕ) (used : ℕ) (r : Fault) (mine : Bool) (is
     done g =
         let w = within in
         let long = length-replicate {A = ℕ} (s .place - s .start) 0 in
-        rw g (sym (passed s b l used (does s b (bookIn l used) giveUp) r mine is own e
+        rw g (sym (passed s b l used (does s b (bookIn l used) giveUp) r is e
         ∙ leaves-put s b l used (does s b (bookIn l used) giveUp) refl refl (le-leb (s .start + length (replicate (s .place - s .start) 0)) (room (length b)) (omega arith))))
+
+-- What was asked about 17 and 20: whether an element is open.
+first-is : (r : tie.After-ready) → r .ready .result ≡ early (r .before .before .before .before .args .s) (length (now (r .before .before .before .before .args .buf))) (now (r .before .before .before .before .args .book))
+    (r .before .before .before .before .args .used) (isOpen (r .before .before .before .before .args .s .turn))
+first-is r =
+    let a = r .before .before .before .before .args in
+    r .ready .ensures ∙ ap (λ (mine : Bool). early (a .s) (length (now (a .buf))) (now (a .book)) (a .used) mine) (r .before .is-open .ensures)
 
 returns : tie.Need-returns
 returns c =
     let f = c .before in
     let r = f .before .before in
-    let t = r .before in
-    let a = t .before .before .before .args in
-    first (a .s) (now (a .buf)) (now (a .book)) (a .used) (r .ready .result) (t .is-open .result) (r .ready .ensures) (t .is-open .ensures) (f .first .given .0 .0) (f .first .given .1)
+    let a = r .before .before .before .before .args in
+    first (a .s) (now (a .buf)) (now (a .book)) (a .used) (r .ready .result) (first-is r) (f .first .given .0 .0) (f .first .given .1)
 
 sub-lay-zeros : tie.Need-sub-lay-zeros
 sub-lay-zeros c =
     let e = c .before in
     let r = e .before .before in
-    let t = r .before in
-    let a = t .before .before .before .args in
-    within (a .s) (now (a .buf)) (now (a .book)) (a .used) (r .ready .result) (t .is-open .result) (r .ready .ensures) (t .is-open .ensures) (e .enum-told .given .1) .0
+    let a = r .before .before .before .before .args in
+    within (a .s) (now (a .buf)) (now (a .book)) (a .used) (r .ready .result) (first-is r) (e .enum-told .given .1) .0
 
 lay-zeros-requires : tie.Need-lay-zeros-requires
 lay-zeros-requires c κs =
     let e = c .before in
     let r = e .before .before in
-    let t = r .before in
-    let a = t .before .before .before .args in
-    inside (a .s) (now (a .buf)) (now (a .book)) (a .used) (r .ready .result) (t .is-open .result) (r .ready .ensures) (t .is-open .ensures) (e .enum-told .given .1)
+    let a = r .before .before .before .before .args in
+    inside (a .s) (now (a .buf)) (now (a .book)) (a .used) (r .ready .result) (first-is r) (e .enum-told .given .1)
 
 returns-2 : tie.Need-returns-2
 returns-2 c =
     let z = c .before .before in
     let e = z .before .before in
     let r = e .before .before in
-    let t = r .before in
-    let a = t .before .before .before .args in
-    done (a .s) (now (a .buf)) (now (a .book)) (a .used) (r .ready .result) (t .is-open .result) (r .ready .ensures) (t .is-open .ensures) (e .enum-told .given .1) (z .lay-zeros .ensures)
+    let a = r .before .before .before .before .args in
+    done (a .s) (now (a .buf)) (now (a .book)) (a .used) (r .ready .result) (first-is r) (e .enum-told .given .1) (z .lay-zeros .ensures)
 
 pub give-up-spec : {M : Type 1} → statement M
 give-up-spec =

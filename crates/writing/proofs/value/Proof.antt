@@ -13,7 +13,7 @@ use Rattle.kinds.specs.declared.Value as given
 use Rattle.kinds.specs.Kinds.{formBy}
 use Rattle.kinds.specs.Values.{basicOfValue, bitsOfValue}
 use Rattle.kinds.specs.Forms.{bits, held}
-use Rattle.writer.specs.Writer.{Call, value, suits, inForm, valueCall}
+use Rattle.writer.specs.Writer.{value, suits, inForm, valueCall}
 use Rattle.writer.specs.Answers.{callLeaves}
 use Rattle.writing.proofs.value.Statement.{statement}
 use Rattle.writing.proofs.value.Tie as tie

@@ -4,7 +4,8 @@ use mathlib.Core.Path.{_∙_}
 use mathlib.Core.List.{append-nil}
 use Rattle.kinds.specs.Kinds.{formBy}
 use Rattle.kinds.specs.Forms.{bits}
-use Rattle.giving.proofs.Values.{number-octets, number-image}
+use Rattle.writer.proofs.Values.{number-image}
+use Rattle.giving.proofs.Values.{number-octets}
 use Rattle.writing.proofs.value_number.Statement.{statement}
 use Rattle.writing.proofs.value_number.Tie as tie
 

@@ -3,7 +3,7 @@ use borrow.Author.Needs.{needs}
 use borrow.Author.Tests.{le-leb, lt-leb}
 use native.Mathlib.Omega.{arith}
 use Prim.Native.Nat.{ℕ, _+_, _-_, _≤_, _<_, min}
-use mathlib.Core.Path.{_≡_, refl, sym, ap, _∙_}
+use mathlib.Core.Path.{_≡_, refl, sym, _∙_}
 use mathlib.Core.List.{List}
 use denote.Ref.{now}
 use lib.ListN.{length}
@@ -12,7 +12,7 @@ use Rattle.octets.specs.Writing.{over}
 use Rattle.octets.proofs.Spans.{each-octet}
 use Rattle.layouts.specs.Book.{bookIn}
 use Rattle.layouts.specs.declared.Learning.{Learning}
-use Rattle.writing_parts.specs.Answers.{says, learningOf, refusal, added, whole, Completes}
+use Rattle.writing_parts.specs.Answers.{learningOf, refusal, added, whole, Completes}
 use Rattle.writing_parts.specs.declared.Completed.the-variants as completed
 use Rattle.writing_parts.specs.declared.Fault.{Fault}
 use Rattle.writing_parts.specs.declared.Fault.the-variants.{None, Refused}
@@ -20,21 +20,21 @@ use Rattle.writing_parts.proofs.Meets.{used-room, added-fits}
 use Rattle.writing_parts.proofs.complete.Statement.{statement}
 use Rattle.writing_parts.proofs.complete.Tie as tie
 
-module _ (b l : List ℕ) (used from at : ℕ) (xs : List ℕ) (x : Learning) (f : Fault) (is : x ≡ learningOf (bookIn l used) used (whole b from at xs)) (said : says f ≡ refusal x) where
+module _ (b l : List ℕ) (used from at : ℕ) (xs : List ℕ) (x : Learning) (f : Fault) (is : x ≡ learningOf (bookIn l used) used (whole b from at xs)) (said : f ≡ refusal x) where
   refused : (n : ℕ) → f ≡ Refused n → Completes b b l l used from at xs (completed.Refused n)
-  refused n e = (rw (← is) (sym said ∙ ap says e), refl, refl)
+  refused n e = (rw (← is) (sym said ∙ e), refl, refl)
 
   enters : used ≤ bookRoom → bookRoom ≤ length l → used + length (added x (whole b from at xs)) ≤ length l
   enters h k = let fits : used + length (added x (whole b from at xs)) ≤ bookRoom = rw is (added-fits (bookIn l used) used (whole b from at xs) h) in omega arith
 
   module _ (e : f ≡ None) (r : ℕ) (k : r ≡ min (length b) longest) (p : at ≤ min (length b) longest) where
     full : r - at < length xs → Completes b b l l used from at xs completed.Full
-    full h = (rw (← is) (sym said ∙ ap says e), (lt-leb (at + length xs) (min (length b) longest) (omega arith), refl), refl)
+    full h = (rw (← is) (sym said ∙ e), (lt-leb (at + length xs) (min (length b) longest) (omega arith), refl), refl)
 
     done : length xs ≤ r - at → {t q : ℕ} {y z : List ℕ} → (t ≡ used + length (added x (whole b from at xs))) × (z ≡ over l used (added x (whole b from at xs)))
         → (q ≡ at + length xs) × (y ≡ over b at xs) → Completes b y l z used from at xs (completed.Done q t)
     done h (i, j) (m, n) =
-        (rw (← is) (sym said ∙ ap says e), (le-leb (at + length xs) (min (length b) longest) (omega arith), m, n), rw (← is) i, rw (← is) j)
+        (rw (← is) (sym said ∙ e), (le-leb (at + length xs) (min (length b) longest) (omega arith), m, n), rw (← is) i, rw (← is) j)
 
 returns : tie.Need-returns
 returns c =

@@ -1,8 +1,8 @@
--- `giving::suits_number` meets its contract, by each form. Assumes nothing.
+-- `writer::suits_number` meets its contract, by each form. Assumes nothing.
 use borrow.Author.Needs.{needs}
 use mathlib.Core.Path.{refl, sym, _∙_}
-use Rattle.giving.proofs.suits_number.Statement.{statement}
-use Rattle.giving.proofs.suits_number.Tie as tie
+use Rattle.writer.proofs.suits_number.Statement.{statement}
+use Rattle.writer.proofs.suits_number.Tie as tie
 
 returns : tie.Need-returns
 returns c =

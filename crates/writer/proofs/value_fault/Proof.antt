@@ -1,21 +1,21 @@
--- `giving::value_fault` meets its contract: the tests are the definition's. Assumes nothing.
+-- `writer::value_fault` meets its contract: the tests are the definition's. Assumes nothing.
 use borrow.Author.Needs.{needs}
 use borrow.Author.Tests.{eq-eqb, ne-eqb}
 use Prim.Native.Nat.{ℕ}
 use mathlib.Core.Path.{_≡_, refl, sym, _∙_}
 use mathlib.Core.Bool.{Bool, true, false}
-use Rattle.octets.specs.Reading.{no}
 use Rattle.kinds.specs.declared.Basic.{Basic}
 use Rattle.kinds.specs.Kinds.{codeOf}
 use Rattle.writing_parts.specs.declared.Next.{Next}
 use Rattle.writing_parts.specs.declared.Next.the-variants.{Of}
-use Rattle.writer.specs.Writer.{unless}
-use Rattle.giving.specs.Answers.{valueFault}
-use Rattle.giving.proofs.value_fault.Statement.{statement}
-use Rattle.giving.proofs.value_fault.Tie as tie
+use Rattle.writing_parts.specs.declared.Fault.the-variants.{Refused}
+use Rattle.writing_parts.specs.Faults.{unless}
+use Rattle.writer.specs.Own.{valueFault}
+use Rattle.writer.proofs.value_fault.Statement.{statement}
+use Rattle.writer.proofs.value_fault.Tie as tie
 
 module _ (a b : Basic) (fits : Bool) {x : Next} {i j : ℕ} (e : x ≡ Of a) (p : i ≡ codeOf a) (q : j ≡ codeOf b) where
-  other : (i ≡ j → ⊥) → valueFault x b fits ≡ no 21 0
+  other : (i ≡ j → ⊥) → valueFault x b fits ≡ Refused 21
   other h = rw (e, ne-eqb (codeOf a) (codeOf b) (λ z. h (p ∙ (z ∙ sym q)))) refl
 
   same : i ≡ j → (t : Bool) → fits ≡ t → valueFault x b fits ≡ unless t 21

@@ -1,8 +1,8 @@
--- `giving::sixteen` meets its contract: the test is the definition's. Assumes nothing.
+-- `writer::sixteen` meets its contract: the test is the definition's. Assumes nothing.
 use mathlib.Core.Path.{refl}
 use borrow.Author.Tests.{eq-eqb, ne-eqb}
-use Rattle.giving.proofs.sixteen.Statement.{statement}
-use Rattle.giving.proofs.sixteen.Tie as tie
+use Rattle.writer.proofs.sixteen.Statement.{statement}
+use Rattle.writer.proofs.sixteen.Tie as tie
 
 returns : tie.Need-returns
 returns c = rw (eq-eqb _ _ (c .if1 .taken)) refl

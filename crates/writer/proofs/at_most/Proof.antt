@@ -1,8 +1,8 @@
--- `giving::at_most` meets its contract: the test is the definition's. Assumes nothing.
+-- `writer::at_most` meets its contract: the test is the definition's. Assumes nothing.
 use mathlib.Core.Path.{refl}
 use borrow.Author.Tests.{le-leb, lt-leb}
-use Rattle.giving.proofs.at_most.Statement.{statement}
-use Rattle.giving.proofs.at_most.Tie as tie
+use Rattle.writer.proofs.at_most.Statement.{statement}
+use Rattle.writer.proofs.at_most.Tie as tie
 
 returns : tie.Need-returns
 returns c = rw (le-leb _ _ (c .if1 .taken)) refl

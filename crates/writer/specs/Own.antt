@@ -2,14 +2,15 @@
 use Prim.Native.Nat.{ℕ}
 use mathlib.Core.Bool.{Bool, _&&_}
 use lib.Dec.{eqb}
-use Rattle.octets.specs.Reading.{Read, no}
 use Rattle.kinds.specs.declared.Basic.{Basic}
 use Rattle.kinds.specs.declared.Form.{Form}
 use Rattle.kinds.specs.declared.Form.the-variants as form
 use Rattle.kinds.specs.Kinds.{codeOf}
 use Rattle.writing_parts.specs.declared.Next.{Next}
 use Rattle.writing_parts.specs.declared.Next.the-variants as next
-use Rattle.writer.specs.Writer.{fine, unless}
+use Rattle.writing_parts.specs.declared.Fault.{Fault}
+use Rattle.writing_parts.specs.declared.Fault.the-variants.{Refused}
+use Rattle.writing_parts.specs.Faults.{fine, unless}
 
 -- The octets of a number of a form.
 abbrev pub widthOf : Form → ℕ
@@ -18,12 +19,12 @@ widthOf form.Truth = 1
 widthOf form.Led = 0
 
 -- The own fault of a value, by the next field and whether it suits its own type; and of closing a row, by the next field.
-abbrev pub valueFault : Next → Basic → Bool → Read (Unit {0})
-valueFault next.Unknown b fits = no 12 0
-valueFault next.Missing b fits = no 21 0
+abbrev pub valueFault : Next → Basic → Bool → Fault
+valueFault next.Unknown b fits = Refused 12
+valueFault next.Missing b fits = Refused 21
 valueFault (next.Of a) b fits = unless (eqb (codeOf a) (codeOf b) && fits) 21
 
-abbrev pub closeFault : Next → Read (Unit {0})
-closeFault next.Unknown = no 12 0
+abbrev pub closeFault : Next → Fault
+closeFault next.Unknown = Refused 12
 closeFault next.Missing = fine
-closeFault (next.Of a) = no 22 0
+closeFault (next.Of a) = Refused 22

@@ -1,4 +1,4 @@
--- `giving::layout_fault` meets its contract: what was found. Assumes nothing.
+-- `writer::layout_fault` meets its contract: what was found. Assumes nothing.
 use borrow.Author.Needs.{needs}
 use mathlib.Core.Path.{_≡_, refl, subst}
 use denote.Ref.{now}
@@ -6,8 +6,8 @@ use lib.ListN.{take}
 use Rattle.layouts.specs.Book.{bookIn}
 use Rattle.layouts.specs.Answers.{Looks}
 use Rattle.layouts.specs.declared.Looked.{Looked}
-use Rattle.giving.proofs.layout_fault.Statement.{statement}
-use Rattle.giving.proofs.layout_fault.Tie as tie
+use Rattle.writer.proofs.layout_fault.Statement.{statement}
+use Rattle.writer.proofs.layout_fault.Tie as tie
 
 found : (f : tie.After-find) (x : Looked) → f .find .result ≡ x
     → Looks (take (f .before .before .args .used) (now (f .before .before .args .book))) (f .before .before .args .n) (bookIn (now (f .before .before .args .book)) (f .before .before .args .used)) x

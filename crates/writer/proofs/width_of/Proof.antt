@@ -1,11 +1,11 @@
--- `giving::width_of` meets its contract, by each form. Assumes nothing.
+-- `writer::width_of` meets its contract, by each form. Assumes nothing.
 use borrow.Author.Needs.{needs}
 use native.Mathlib.Omega.{arith}
 use mathlib.Core.Path.{sym, ap, _∙_}
-use Rattle.giving.specs.Answers.{widthOf}
-use Rattle.giving.proofs.Values.{width-most}
-use Rattle.giving.proofs.width_of.Statement.{statement}
-use Rattle.giving.proofs.width_of.Tie as tie
+use Rattle.writer.specs.Own.{widthOf}
+use Rattle.writer.proofs.Values.{width-most}
+use Rattle.writer.proofs.width_of.Statement.{statement}
+use Rattle.writer.proofs.width_of.Tie as tie
 
 returns : tie.Need-returns
 returns c =

@@ -1,8 +1,8 @@
--- `giving::suits_octets` meets its contract, by each form. Assumes nothing.
+-- `writer::suits_octets` meets its contract, by each form. Assumes nothing.
 use borrow.Author.Needs.{needs}
 use mathlib.Core.Path.{refl, sym, _∙_}
-use Rattle.giving.proofs.suits_octets.Statement.{statement}
-use Rattle.giving.proofs.suits_octets.Tie as tie
+use Rattle.writer.proofs.suits_octets.Statement.{statement}
+use Rattle.writer.proofs.suits_octets.Tie as tie
 
 returns : tie.Need-returns
 returns c = λ xs. let m = c .before in rw (sym (m .before .before .form-by .ensures) ∙ m .form .given .1) refl
