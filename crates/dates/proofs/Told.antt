@@ -78,14 +78,14 @@ dated : (t : ℕ) → t ≤ 253402300799999 → timeOf (momentText t) ≡ pos t
 unfolding momentText filled
 dated t h = rw (ne-eqb (48 + (1970 + dateAfter (t / 1000 / 86400) .years) / 10 / 10 / 10 % 10) 64 (λ e. omega (arith, e))) (ap pos (moment-told t h))
 
-pub told : (z : ℤ) → SFits w64 z → timeOf (timeText z) ≡ z
+pub time-told : (z : ℤ) → SFits w64 z → timeOf (timeText z) ≡ z
 unfolding timeText
-told (pos t) f = go (leb t 253402300799999) refl
+time-told (pos t) f = go (leb t 253402300799999) refl
   where
     go : (b : Bool) → leb t 253402300799999 ≡ b → timeOf (choose b (λ _. momentText t) (λ _. spelt "@" ++ decimal t)) ≡ pos t
     go true e = dated t (leb-true t 253402300799999 e)
     go false e = late t (omega (arith, f .sfits))
-told (negsuc n) f = ap negsuc (ap (λ (k : ℕ). k - 1) (digits-tell 20 (n + 1) (omega (arith, f .sfits))) ∙ omega arith)
+time-told (negsuc n) f = ap negsuc (ap (λ (k : ℕ). k - 1) (digits-tell 20 (n + 1) (omega (arith, f .sfits))) ∙ omega arith)
 
 pub one-time : (y z : ℤ) → SFits w64 y → SFits w64 z → timeText y ≡ timeText z → y ≡ z
-one-time y z f g e = sym (told y f) ∙ (ap timeOf e ∙ told z g)
+one-time y z f g e = sym (time-told y f) ∙ (ap timeOf e ∙ time-told z g)

@@ -198,7 +198,7 @@ meets {s} {x} a q b d is =
       there = sym (h .place);
       steps = h .reads;
       element = h .is;
-      told = over-rows s (c .front) x z to;
+      rows-told = over-rows s (c .front) x z to;
       counts = step-counts s (z .at) (z .rows) (z .octets) (z .used) (h .stepped) (h .next) (h .reads) ∙ ap (λ (el : Element). z .rows + asRow el) (h .is);
     })
 

@@ -88,7 +88,7 @@ pub record Meets (s : List ℕ) (x : Lent) (before : List Placed) (p : Placed) :
   pub there : given .at ≡ p .place
   pub steps : stepAt s (given .at) (given .rows) (given .octets) (given .used) ≡ ok stepped next
   pub element : stepped .element ≡ p .element
-  pub told : given .rows ≡ x .rows + rowsOf before
+  pub rows-told : given .rows ≡ x .rows + rowsOf before
   pub counts : stepped .rows ≡ given .rows + asRow (p .element)
 
 -- The step at a place, behind some elements, is refused.

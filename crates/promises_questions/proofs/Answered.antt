@@ -50,7 +50,7 @@ module _ (s : List ℕ) (x : Lent) (next : ℕ) where
       let items : Items (fieldOver s x) (x .at) (r .fields) next = λ n. field-asked s (x .at) (x .rows) (x .octets) (x .used) n r next a in
       record {
         field = items;
-        told = λ n f rest d. ap fieldTells (item-there (x .at) (r .fields) next items n f rest d);
+        value = λ n f rest d. ap fieldTells (item-there (x .at) (r .fields) next items n f rest d);
         name = λ n f rest d. ap (partOf (λ (y : Field). y .attribute .name)) (item-there (x .at) (r .fields) next items n f rest d);
         held = λ n f rest d. ap (partOf (λ (y : Field). octetsOf (y .value))) (item-there (x .at) (r .fields) next items n f rest d);
         behind = λ n h. ap fieldTells (item-none (x .at) (r .fields) next items n h);

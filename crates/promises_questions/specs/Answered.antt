@@ -45,7 +45,7 @@ AtEach {A} xs P = (n : ℕ) (x : A) (rest : List A) → drop n xs ≡ x ∷ rest
 -- A row: every field of it by type and value, name, and octets; 18 at the row behind the last. It is no layout.
 pub record RowAnswered (s : List ℕ) (x : Lent) (r : Row) (next : ℕ) : Type 0 where
   pub field : Items (fieldOver s x) (x .at) (r .fields) next
-  pub told : AtEach (r .fields) λ n f.
+  pub value : AtEach (r .fields) λ n f.
       fieldTells (fieldOver s x n) ≡ fielded.Is (f .attribute .kind) (valueOf (f .attribute .kind .basic) (f .value))
   pub name : AtEach (r .fields) λ n f. partOf (λ y. y .attribute .name) (fieldOver s x n) ≡ f .attribute .name
   pub held : AtEach (r .fields) λ n f. partOf (λ y. octetsOf (y .value)) (fieldOver s x n) ≡ octetsOf (f .value)

@@ -36,14 +36,14 @@ pub data Asked : Type 0 where
 pub data Answer : Type 0 where
   rows : Read ℕ → Answer
   elements : Read (List Placed) → Answer
-  told : Fielded → Answer
+  field-is : Fielded → Answer
   number : ℤ → Answer
 
 abbrev pub answers : Asked → Answer
 answers (check s) = rows (whole s)
 answers (read s) = elements (reading s then λ r end. ok (r .elements) end)
 answers (resume s at passed octets used) = elements (readingFrom s at passed octets used)
-answers (field s at passed octets used n) = told (fieldTells (fieldAsked s at passed octets used n))
+answers (field s at passed octets used n) = field-is (fieldTells (fieldAsked s at passed octets used n))
 answers (sign w n) = number (signed w n)
 
 pub record Case : Type 0 where
@@ -103,9 +103,9 @@ cases =
     ∷ record { asked = resume specimen 104 1 emptyBook 0; answer = elements (no 12 108) }
     -- Short FFFE is -2: where it stands, asked as a field, of the type 0000002c, and as a number; and the specimen's byte FE.
     ∷ record { asked = read shorts; answer = elements (ok (layoutWith 52 Short ∷ rowWith 87 true Short 10 0xfffe ∷ rowWith 105 false Short 0 127 ∷ endAt 123 ∷ []) 139) }
-    ∷ record { asked = field shorts 87 0 shortBook 31 1; answer = told (Is (d Short .kind) (value.Short (negsuc 1))) }
+    ∷ record { asked = field shorts 87 0 shortBook 31 1; answer = field-is (Is (d Short .kind) (value.Short (negsuc 1))) }
     ∷ record { asked = sign 2 0xfffe; answer = number (negsuc 1) }
-    ∷ record { asked = field specimen 87 0 layoutBook 31 1; answer = told (Is (d Byte .kind) (value.Byte (negsuc 1))) }
+    ∷ record { asked = field specimen 87 0 layoutBook 31 1; answer = field-is (Is (d Byte .kind) (value.Byte (negsuc 1))) }
     ∷ []
 
 -- Every case gets its answer.

@@ -23,7 +23,7 @@ use Rattle.promises.proofs.Documents.{one-meaning}
 use Rattle.writer.specs.declared.Wanted.{Wanted}
 use Rattle.writer.specs.declared.Wanted.the-variants as wants
 use Rattle.writer.specs.Writer.{Call, recorder, startTime, defaultNamespace, namespaceCount, uri, shortName, serviceCount, service, documentId, openLayout, typeName, attributeCount, attributeName, attributeType, openRow, value, closeRow, giveUp, finish, Written, Deed, does, call, runCalls}
-use Rattle.promises_writing.specs.Promise.{bookBehind, onto, begun, finished, Given, Bearing, more, opening, back, bearing, Told, nothing-told, tell, tellAll, told, Run, Forward, fartherAs, farther, answering, goesOn, begins, ran, cleared, Going, Wrote}
+use Rattle.promises_writing.specs.Promise.{bookBehind, onto, begun, finished, Given, Bearing, more, opening, back, bearing, Told, nothing-told, tell, tellAll, keptCalls, Run, Forward, fartherAs, farther, answering, goesOn, begins, ran, cleared, Going, Wrote}
 use Rattle.writer.proofs.Calls.{passed-all}
 use Rattle.promises_writing.proofs.Calls.{Runs, runs-both, runs-none, runs-one}
 use Rattle.promises_writing.proofs.Standing.{Spot, spot, stateAt, standing, onto-length}
@@ -227,7 +227,7 @@ module _ (calls : List Call) (given : Each Given calls) (buffer book : List ℕ)
 
   -- Where it ends finished, what its accepted calls told is a document inside the limits, and it stands written.
   pub wrote : ran calls buffer book .now .state .turn ≡ wants.Nothing → Wrote buffer book (ran calls buffer book)
-  unfolding told
+  unfolding keptCalls
   wrote last =
       let r : Run = ran calls buffer book in
       let i = kept buffer book long calls given .held .inv in

@@ -165,12 +165,12 @@ abbrev pub nothing-told : Told
 nothing-told = record { settled = []; latest = [] }
 
 -- The calls without those of a layout or row that was given up.
-unfoldable pub told : List Call → List Call
-told calls =
+unfoldable pub keptCalls : List Call → List Call
+keptCalls calls =
     let t = tellAll nothing-told calls in
     t .settled ++ t .latest
 
--- A run of calls: what was last deedAnswer and left, the calls that were accepted, and the farthest place from which an element was given up (0: none was).
+-- A run of calls: what was last answered and left, the calls that were accepted, and the farthest place from which an element was given up (0: none was).
 pub record Run : Type 0 where
   pub now : Written
   pub accepted : List Call
@@ -190,7 +190,7 @@ abbrev pub answering : Run → Call → Read Written → Run
 answering r c (ok w at) = record { now = w; accepted = r .accepted ++ c ∷ []; farthest = farther (r .farthest) (r .now .state) c }
 answering r c (no n at) = r
 
--- Calls one after another, each given the state, the buffer, the book and the used count last deedAnswer, whether or not it is then accepted.
+-- Calls one after another, each given the state, the buffer, the book and the used count last answered, whether or not it is then accepted.
 unfoldable pub goesOn : Run → List Call → Run
 goesOn r [] = r
 goesOn r (c ∷ rest) = goesOn (answering r c (call (r .now .state) (r .now .buffer) (r .now .book) (r .now .used) c)) rest
@@ -217,5 +217,5 @@ pub record Going (buffer book : List ℕ) (r : Run) : Type 0 where
 pub record Wrote (buffer book : List ℕ) (r : Run) : Type 0 where
   pub document : Document
   pub good : Good document
-  pub said : told (r .accepted) ≡ callsOf document
+  pub said : keptCalls (r .accepted) ≡ callsOf document
   pub left : r .now ≡ finished document (cleared buffer (r .farthest)) book
