@@ -3,6 +3,7 @@
 ghost use Prim.Native.Nat.{_*_, _%_, _^_};
 ghost use mathlib.Core.Path.{_≡_};
 ghost use lib.ListN.{take};
+ghost use lib.Seq.{sets};
 ghost use Rattle.printing.specs.Text.{Prints};
 ghost use Rattle.probe_input.specs.Words.{checksum, partText, sumText};
 use printing::Show;
@@ -232,7 +233,9 @@ pub fn arguments(letter: u8, buf: &mut [u8; 4096], feed: Feed, to: &mut [u8]) ->
 }
 
 // Octets put at a place, as far as the slice reaches.
-pub fn put(to: &mut [u8], at: usize, xs: &[u8]) {
+pub fn put(to: &mut [u8], at: usize, xs: &[u8])
+    ensures { λ _. ⌜ now (to .exit) ≡ sets (now (to .entry)) at (now (xs .entry)) ⌝ }
+{
     let mut i = 0;
     while i < xs.len() {
         if to.len() <= at {
