@@ -163,7 +163,7 @@ pub fn in_turn(s: State, len: usize, book: &[u8], used: usize, turn: Wanted) -> 
     ready(s, len, book, used, mine)
 }
 
-// Behind 17 and 20, octets that complete no layout: the call's own fault, 23, and the octets behind those written. What follows is a turn, a count, and where the open element starts.
+// Octets that complete no layout: the fault that is known before, then 23, else the octets behind those written. What follows is a turn, a count, and where the open element starts.
 pub fn give_on(
     s: State,
     buf: &mut [u8],
@@ -176,7 +176,7 @@ pub fn give_on(
     count: u32,
     start: usize,
 ) -> Answer
-    requires { ⌜ s .place ≤ room (length (now buf)) ⌝ }
+    requires { ⌜ (fault ≡ fine → s .place ≤ room (length (now buf))) ⌝ }
     ensures { λ r. ⌜ ((turn : Wanted) (lent : List ℕ) → left r (now (buf .exit)) lent ≡ restLeaves s (now (buf .entry)) lent used (put s turn fault (now (head .entry) ++ (now (body .entry) ++ now (tail .entry))) next count start)) ⌝ }
 {
     let place = s.place;
@@ -217,12 +217,9 @@ pub fn give(
 ) -> Answer
     ensures { λ r. ⌜ left r (now (buf .exit)) (now (book .entry)) ≡ deedLeaves s (now (buf .entry)) (now (book .entry)) used (put s turn fault (now (head .entry) ++ (now (body .entry) ++ now (tail .entry))) next count start) ⌝ }
 {
-    let place = s.place;
     let first = in_turn(s, buf.len(), book, used, turn);
-    if let Fault::Refused(n) = first {
-        return Answer::Refused(n, place);
-    }
-    give_on(s, buf, used, fault, head, body, tail, next, count, start)
+    let all = writing_parts::first_fault(first, fault);
+    give_on(s, buf, used, all, head, body, tail, next, count, start)
 }
 
 // A string.
@@ -388,10 +385,8 @@ fn complete(
     let start = s.start;
     let rows = s.rows;
     let first = in_turn(s, buf.len(), book, used, turn);
-    if let Fault::Refused(n) = first {
-        return Answer::Refused(n, place);
-    }
-    if let Fault::Refused(n) = fault {
+    let all = writing_parts::first_fault(first, fault);
+    if let Fault::Refused(n) = all {
         return Answer::Refused(n, place);
     }
     let completed = writing_parts::complete(buf, book, used, start + 4, place, last);

@@ -20,16 +20,11 @@ pub enum Penned {
     Bad,
 }
 
-// What a call answered, or that its arguments are bad.
-pub enum Called {
-    Is(Answer),
-    Bad,
-}
-
-// The arguments that a call takes.
+// The arguments that a call takes; a layout's number may complete it, and so change the book.
 pub enum Sort {
     Text,
     Number,
+    Layout,
     Time,
     Row,
     Value,
@@ -183,17 +178,30 @@ fn number_call(
     letter: u8,
     s: State,
     sheet: &mut [u8],
-    shelf: &mut [u8],
+    shelf: &[u8],
     used: usize,
     n: u32,
 ) -> Answer {
     match letter {
         b'4' => writing::namespace_count(s, sheet, shelf, used, n),
         b'7' => writing::service_count(s, sheet, shelf, used, n),
-        b'k' => writing::open_layout(s, sheet, shelf, used, n),
-        b'c' => writing::attribute_count(s, sheet, shelf, used, n),
-        _ => writing::attribute_type(s, sheet, shelf, used, n),
+        _ => writing::open_layout(s, sheet, shelf, used, n),
     }
+}
+
+// The commands c and u.
+fn layout_call(
+    letter: u8,
+    s: State,
+    sheet: &mut [u8],
+    shelf: &mut [u8],
+    used: usize,
+    n: u32,
+) -> Answer {
+    if letter == b'c' {
+        return writing::attribute_count(s, sheet, shelf, used, n);
+    }
+    writing::attribute_type(s, sheet, shelf, used, n)
 }
 
 // A call that is given a time.
@@ -222,21 +230,24 @@ fn plain_call(letter: u8, s: State, sheet: &mut [u8], shelf: &[u8], used: usize)
 
 // The low octets of a number, as many as a basic type has.
 fn low(b: Basic, n: u64) -> u64 {
-    match b {
-        Basic::Int => n % 4294967296,
-        Basic::UnsignedInt => n % 4294967296,
-        Basic::Long => n,
-        Basic::UnsignedLong => n,
-        Basic::Float => n % 4294967296,
-        Basic::Double => n,
-        Basic::HexBinary => n,
-        Basic::String => n,
-        Basic::Boolean => n % 256,
-        Basic::Byte => n % 256,
-        Basic::UnsignedByte => n % 256,
-        Basic::Short => n % 65536,
-        Basic::UnsignedShort => n % 65536,
+    let w = writer::width_of(b);
+    match w {
+        1 => n % 256,
+        2 => n % 65536,
+        4 => n % 4294967296,
+        _ => n,
     }
+}
+
+// The basic type of a low octet, or any where it is none's.
+fn basic(code: u64) -> Basic {
+    if code < 0x21 {
+        return Basic::Int;
+    }
+    if 0x2d < code {
+        return Basic::Int;
+    }
+    kinds::basic_of(code as u32)
 }
 
 // A value: octets for hexBinary and string, else a number.
@@ -249,59 +260,10 @@ fn value_call(
     bits: u64,
     xs: &[u8],
 ) -> Answer {
-    match b {
-        Basic::HexBinary => writing::value_octets(state, sheet, shelf, used, b, xs),
-        Basic::String => writing::value_octets(state, sheet, shelf, used, b, xs),
-        _ => writing::value_number(state, sheet, shelf, used, b, low(b, bits)),
+    if writer::suits_octets(b) {
+        return writing::value_octets(state, sheet, shelf, used, b, xs);
     }
-}
-
-// The calls that are given a number of 32 bits.
-fn number_called(
-    letter: u8,
-    s: State,
-    sheet: &mut [u8],
-    shelf: &mut [u8],
-    used: usize,
-    a: Args,
-) -> Called {
-    let n = a.one;
-    if 0xffff_ffff < n {
-        return Called::Bad;
-    }
-    Called::Is(number_call(letter, s, sheet, shelf, used, n as u32))
-}
-
-// The command o: a layout's number, and whether the length is stated.
-fn row_called(s: State, sheet: &mut [u8], shelf: &[u8], used: usize, a: Args) -> Called {
-    let n = a.one;
-    if 0xffff_ffff < n {
-        return Called::Bad;
-    }
-    if 1 < a.two {
-        return Called::Bad;
-    }
-    Called::Is(writing::open_row(s, sheet, shelf, used, n as u32, a.two == 1))
-}
-
-// The command v: a basic type's low octet, and a number's bits.
-fn value_called(
-    s: State,
-    sheet: &mut [u8],
-    shelf: &[u8],
-    used: usize,
-    a: Args,
-    xs: &[u8],
-) -> Called {
-    let code = a.one;
-    if code < 0x21 {
-        return Called::Bad;
-    }
-    if 0x2d < code {
-        return Called::Bad;
-    }
-    let b = kinds::basic_of(code as u32);
-    Called::Is(value_call(b, s, sheet, shelf, used, a.two, xs))
+    writing::value_number(state, sheet, shelf, used, b, low(b, bits))
 }
 
 // What arguments a digit's call takes.
@@ -325,9 +287,9 @@ fn sort_of(letter: u8) -> Sort {
     match letter {
         b'k' => Sort::Number,
         b'm' => Sort::Text,
-        b'c' => Sort::Number,
+        b'c' => Sort::Layout,
         b'n' => Sort::Text,
-        b'u' => Sort::Number,
+        b'u' => Sort::Layout,
         b'o' => Sort::Row,
         b'v' => Sort::Value,
         b'x' => Sort::Nothing,
@@ -337,19 +299,65 @@ fn sort_of(letter: u8) -> Sort {
     }
 }
 
-// The call of a letter.
-fn call(letter: u8, pen: Pen, a: Args, xs: &[u8], sheet: &mut [u8], shelf: &mut [u8]) -> Called {
-    let s = pen.state;
-    let used = pen.used;
-    let sort = sort_of(letter);
+// Whether a call is known and its numbers are in their ranges.
+fn good(sort: Sort, one: u64, two: u64) -> bool {
     match sort {
-        Sort::Text => Called::Is(text_call(letter, s, sheet, shelf, used, xs)),
-        Sort::Number => number_called(letter, s, sheet, shelf, used, a),
-        Sort::Time => Called::Is(time_call(letter, s, sheet, shelf, used, a.one)),
-        Sort::Row => row_called(s, sheet, shelf, used, a),
-        Sort::Value => value_called(s, sheet, shelf, used, a, xs),
-        Sort::Nothing => Called::Is(plain_call(letter, s, sheet, shelf, used)),
-        Sort::Unknown => Called::Bad,
+        Sort::Number => one <= 0xffff_ffff,
+        Sort::Layout => one <= 0xffff_ffff,
+        Sort::Row => {
+            if 0xffff_ffff < one {
+                return false;
+            }
+            two <= 1
+        }
+        Sort::Value => {
+            if one < 0x21 {
+                return false;
+            }
+            one <= 0x2d
+        }
+        Sort::Unknown => false,
+        _ => true,
+    }
+}
+
+// A call that leaves the book, its numbers in their ranges.
+fn field_call(
+    letter: u8,
+    sort: Sort,
+    s: State,
+    sheet: &mut [u8],
+    shelf: &[u8],
+    used: usize,
+    one: u64,
+    two: u64,
+    xs: &[u8],
+) -> Answer {
+    match sort {
+        Sort::Text => text_call(letter, s, sheet, shelf, used, xs),
+        Sort::Number => number_call(letter, s, sheet, shelf, used, cut(one)),
+        Sort::Time => time_call(letter, s, sheet, shelf, used, one),
+        Sort::Row => writing::open_row(s, sheet, shelf, used, cut(one), two == 1),
+        Sort::Value => value_call(basic(one), s, sheet, shelf, used, two, xs),
+        _ => plain_call(letter, s, sheet, shelf, used),
+    }
+}
+
+// The call of a letter.
+fn call(
+    letter: u8,
+    sort: Sort,
+    s: State,
+    sheet: &mut [u8],
+    shelf: &mut [u8],
+    used: usize,
+    one: u64,
+    two: u64,
+    xs: &[u8],
+) -> Answer {
+    match sort {
+        Sort::Layout => layout_call(letter, s, sheet, shelf, used, cut(one)),
+        _ => field_call(letter, sort, s, sheet, shelf, used, one, two, xs),
     }
 }
 
@@ -404,9 +412,21 @@ fn lent_turn(
         let state = pen.state;
         return Penned::On(pen, image(sheet, state.place, out, n));
     }
-    let Called::Is(answer) = call(letter, pen, a, xs, sheet, shelf) else {
+    let sort = sort_of(letter);
+    if !good(sort, a.one, a.two) {
         return Penned::Bad;
-    };
+    }
+    let answer = call(
+        letter,
+        sort,
+        pen.state,
+        sheet,
+        shelf,
+        pen.used,
+        a.one,
+        a.two,
+        xs,
+    );
     let to = answer_line(answer, sheet, shelf, out, n);
     Penned::On(moved(pen, answer), to)
 }

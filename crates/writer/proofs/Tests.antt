@@ -100,6 +100,18 @@ module _ (s : State) (buffer lent : List ℕ) (used : ℕ) (d : Deed) where
     pub at-ready : r ≡ fine → Ready s (length buffer) lent used (d .in-turn)
     at-ready e = ready s (length buffer) lent used (d .in-turn) (sym is ∙ e)
 
+-- A deed whose own fault is another. With 17 and 20 put before its own, it leaves behind them what the deed leaves.
+abbrev pub faulted : Deed → Fault → Deed
+faulted d f = record { in-turn = d .in-turn; fault = f; at = d .at; octets = d .octets; next = d .next; completes = d .completes }
+
+module _ (s : State) (buffer lent : List ℕ) (used : ℕ) (d : Deed) {r f : Fault} (is : r ≡ early s (length buffer) lent used (d .in-turn)) (all : f ≡ r or d .fault) where
+  pub all-faults : restLeaves s buffer lent used (faulted d f) ≡ deedLeaves s buffer lent used d
+  unfolding deedLeaves restLeaves deedAnswer faultOf early late
+  all-faults = rw (all, is) refl
+
+  pub all-ready : f ≡ fine → Ready s (length buffer) lent used (d .in-turn)
+  all-ready e = at-ready s buffer lent used d r is (both-fine r (d .fault) (sym all ∙ e) .0)
+
 -- One deed by its parts.
 pub same-put : (s : State) (turn : Wanted) (start : ℕ) {f g : Fault} {xs ys : List ℕ} {t u : Wanted} {n m : ℕ} → f ≡ g → xs ≡ ys → t ≡ u → n ≡ m
     → put s turn f xs t n start ≡ put s turn g ys u m start

@@ -71,109 +71,25 @@ pub contracts : Contracts
 contracts =
     record {
       of-fresh = (λ κs a. tt, λ κs a p x y u v e f. (e ∙ sym f, refl));
-      of-recorder = (
-        λ κs a. tt,
-        λ κs a p x y u v e f. let q = one-answer e f in (q .0, refl also q .1 also refl),
-        λ κs a p x u e h. refl also put-back (unchanged _ _ _ _ _ e h .0) also refl,
-      );
-      of-start-time = (
-        λ κs a. tt,
-        λ κs a p x y u v e f. let q = one-answer e f in (q .0, refl also q .1 also refl),
-        λ κs a p x u e h. refl also put-back (unchanged _ _ _ _ _ e h .0) also refl,
-      );
-      of-default-namespace = (
-        λ κs a. tt,
-        λ κs a p x y u v e f. let q = one-answer e f in (q .0, refl also q .1 also refl),
-        λ κs a p x u e h. refl also put-back (unchanged _ _ _ _ _ e h .0) also refl,
-      );
-      of-namespace-count = (
-        λ κs a. tt,
-        λ κs a p x y u v e f. let q = one-answer e f in (q .0, refl also q .1 also refl),
-        λ κs a p x u e h. refl also put-back (unchanged _ _ _ _ _ e h .0) also refl,
-      );
-      of-uri = (
-        λ κs a. tt,
-        λ κs a p x y u v e f. let q = one-answer e f in (q .0, refl also q .1 also refl),
-        λ κs a p x u e h. refl also put-back (unchanged _ _ _ _ _ e h .0) also refl,
-      );
-      of-short-name = (
-        λ κs a. tt,
-        λ κs a p x y u v e f. let q = one-answer e f in (q .0, refl also q .1 also refl),
-        λ κs a p x u e h. refl also put-back (unchanged _ _ _ _ _ e h .0) also refl,
-      );
-      of-service-count = (
-        λ κs a. tt,
-        λ κs a p x y u v e f. let q = one-answer e f in (q .0, refl also q .1 also refl),
-        λ κs a p x u e h. refl also put-back (unchanged _ _ _ _ _ e h .0) also refl,
-      );
-      of-service = (
-        λ κs a. tt,
-        λ κs a p x y u v e f. let q = one-answer e f in (q .0, refl also q .1 also refl),
-        λ κs a p x u e h. refl also put-back (unchanged _ _ _ _ _ e h .0) also refl,
-      );
-      of-document-id = (
-        λ κs a. tt,
-        λ κs a p x y u v e f. let q = one-answer e f in (q .0, refl also q .1 also refl),
-        λ κs a p x u e h. refl also put-back (unchanged _ _ _ _ _ e h .0) also refl,
-      );
-      of-open-layout = (
-        λ κs a. tt,
-        λ κs a p x y u v e f. let q = one-answer e f in (q .0, refl also q .1 also refl),
-        λ κs a p x u e h. refl also put-back (unchanged _ _ _ _ _ e h .0) also refl,
-      );
-      of-type-name = (
-        λ κs a. tt,
-        λ κs a p x y u v e f. let q = one-answer e f in (q .0, refl also q .1 also refl),
-        λ κs a p x u e h. refl also put-back (unchanged _ _ _ _ _ e h .0) also refl,
-      );
-      of-attribute-count = (
-        λ κs a. tt,
-        λ κs a p x y u v e f. let q = one-answer e f in (q .0, refl also q .1 also q .2 also refl),
-        λ κs a p x u e h. let q = unchanged _ _ _ _ _ e h in refl also put-back (q .0) also put-back (q .1) also refl,
-      );
-      of-attribute-name = (
-        λ κs a. tt,
-        λ κs a p x y u v e f. let q = one-answer e f in (q .0, refl also q .1 also refl),
-        λ κs a p x u e h. refl also put-back (unchanged _ _ _ _ _ e h .0) also refl,
-      );
-      of-attribute-type = (
-        λ κs a. tt,
-        λ κs a p x y u v e f. let q = one-answer e f in (q .0, refl also q .1 also q .2 also refl),
-        λ κs a p x u e h. let q = unchanged _ _ _ _ _ e h in refl also put-back (q .0) also put-back (q .1) also refl,
-      );
-      of-open-row = (
-        λ κs a. tt,
-        λ κs a p x y u v e f. let q = one-answer e f in (q .0, refl also q .1 also refl),
-        λ κs a p x u e h. refl also put-back (unchanged _ _ _ _ _ e h .0) also refl,
-      );
-      of-value-number = (
-        λ κs a. tt,
-        λ κs a p x y u v e f. let q = one-answer e f in (q .0, refl also q .1 also refl),
-        λ κs a p x u e h. refl also put-back (unchanged _ _ _ _ _ e h .0) also refl,
-      );
-      of-value-octets = (
-        λ κs a. tt,
-        λ κs a p x y u v e f. let q = one-answer e f in (q .0, refl also q .1 also refl),
-        λ κs a p x u e h. refl also put-back (unchanged _ _ _ _ _ e h .0) also refl,
-      );
-      of-value = (
-        λ κs a. tt,
-        λ κs a p x y u v e f. let q = one-answer e f in (q .0, refl also q .1 also refl),
-        λ κs a p x u e h. refl also put-back (unchanged _ _ _ _ _ e h .0) also refl,
-      );
-      of-close-row = (
-        λ κs a. tt,
-        λ κs a p x y u v e f. let q = one-answer e f in (q .0, refl also q .1 also refl),
-        λ κs a p x u e h. refl also put-back (unchanged _ _ _ _ _ e h .0) also refl,
-      );
-      of-give-up = (
-        λ κs a. tt,
-        λ κs a p x y u v e f. let q = one-answer e f in (q .0, refl also q .1 also refl),
-        λ κs a p x u e h. refl also put-back (unchanged _ _ _ _ _ e h .0) also refl,
-      );
-      of-finish = (
-        λ κs a. tt,
-        λ κs a p x y u v e f. let q = one-answer e f in (q .0, refl also q .1 also refl),
-        λ κs a p x u e h. refl also put-back (unchanged _ _ _ _ _ e h .0) also refl,
-      );
+      of-recorder = (λ κs a. tt, λ κs a p x y u v e f. let q = one-answer e f in (q .0, refl also q .1 also refl), λ κs a p x u e h. refl also put-back (unchanged _ _ _ _ _ e h .0) also refl);
+      of-start-time = (λ κs a. tt, λ κs a p x y u v e f. let q = one-answer e f in (q .0, refl also q .1 also refl), λ κs a p x u e h. refl also put-back (unchanged _ _ _ _ _ e h .0) also refl);
+      of-default-namespace = (λ κs a. tt, λ κs a p x y u v e f. let q = one-answer e f in (q .0, refl also q .1 also refl), λ κs a p x u e h. refl also put-back (unchanged _ _ _ _ _ e h .0) also refl);
+      of-namespace-count = (λ κs a. tt, λ κs a p x y u v e f. let q = one-answer e f in (q .0, refl also q .1 also refl), λ κs a p x u e h. refl also put-back (unchanged _ _ _ _ _ e h .0) also refl);
+      of-uri = (λ κs a. tt, λ κs a p x y u v e f. let q = one-answer e f in (q .0, refl also q .1 also refl), λ κs a p x u e h. refl also put-back (unchanged _ _ _ _ _ e h .0) also refl);
+      of-short-name = (λ κs a. tt, λ κs a p x y u v e f. let q = one-answer e f in (q .0, refl also q .1 also refl), λ κs a p x u e h. refl also put-back (unchanged _ _ _ _ _ e h .0) also refl);
+      of-service-count = (λ κs a. tt, λ κs a p x y u v e f. let q = one-answer e f in (q .0, refl also q .1 also refl), λ κs a p x u e h. refl also put-back (unchanged _ _ _ _ _ e h .0) also refl);
+      of-service = (λ κs a. tt, λ κs a p x y u v e f. let q = one-answer e f in (q .0, refl also q .1 also refl), λ κs a p x u e h. refl also put-back (unchanged _ _ _ _ _ e h .0) also refl);
+      of-document-id = (λ κs a. tt, λ κs a p x y u v e f. let q = one-answer e f in (q .0, refl also q .1 also refl), λ κs a p x u e h. refl also put-back (unchanged _ _ _ _ _ e h .0) also refl);
+      of-open-layout = (λ κs a. tt, λ κs a p x y u v e f. let q = one-answer e f in (q .0, refl also q .1 also refl), λ κs a p x u e h. refl also put-back (unchanged _ _ _ _ _ e h .0) also refl);
+      of-type-name = (λ κs a. tt, λ κs a p x y u v e f. let q = one-answer e f in (q .0, refl also q .1 also refl), λ κs a p x u e h. refl also put-back (unchanged _ _ _ _ _ e h .0) also refl);
+      of-attribute-count = (λ κs a. tt, λ κs a p x y u v e f. let q = one-answer e f in (q .0, refl also q .1 also q .2 also refl), λ κs a p x u e h. let q = unchanged _ _ _ _ _ e h in refl also put-back (q .0) also put-back (q .1) also refl);
+      of-attribute-name = (λ κs a. tt, λ κs a p x y u v e f. let q = one-answer e f in (q .0, refl also q .1 also refl), λ κs a p x u e h. refl also put-back (unchanged _ _ _ _ _ e h .0) also refl);
+      of-attribute-type = (λ κs a. tt, λ κs a p x y u v e f. let q = one-answer e f in (q .0, refl also q .1 also q .2 also refl), λ κs a p x u e h. let q = unchanged _ _ _ _ _ e h in refl also put-back (q .0) also put-back (q .1) also refl);
+      of-open-row = (λ κs a. tt, λ κs a p x y u v e f. let q = one-answer e f in (q .0, refl also q .1 also refl), λ κs a p x u e h. refl also put-back (unchanged _ _ _ _ _ e h .0) also refl);
+      of-value-number = (λ κs a. tt, λ κs a p x y u v e f. let q = one-answer e f in (q .0, refl also q .1 also refl), λ κs a p x u e h. refl also put-back (unchanged _ _ _ _ _ e h .0) also refl);
+      of-value-octets = (λ κs a. tt, λ κs a p x y u v e f. let q = one-answer e f in (q .0, refl also q .1 also refl), λ κs a p x u e h. refl also put-back (unchanged _ _ _ _ _ e h .0) also refl);
+      of-value = (λ κs a. tt, λ κs a p x y u v e f. let q = one-answer e f in (q .0, refl also q .1 also refl), λ κs a p x u e h. refl also put-back (unchanged _ _ _ _ _ e h .0) also refl);
+      of-close-row = (λ κs a. tt, λ κs a p x y u v e f. let q = one-answer e f in (q .0, refl also q .1 also refl), λ κs a p x u e h. refl also put-back (unchanged _ _ _ _ _ e h .0) also refl);
+      of-give-up = (λ κs a. tt, λ κs a p x y u v e f. let q = one-answer e f in (q .0, refl also q .1 also refl), λ κs a p x u e h. refl also put-back (unchanged _ _ _ _ _ e h .0) also refl);
+      of-finish = (λ κs a. tt, λ κs a p x y u v e f. let q = one-answer e f in (q .0, refl also q .1 also refl), λ κs a p x u e h. refl also put-back (unchanged _ _ _ _ _ e h .0) also refl);
     }

@@ -12,6 +12,7 @@ use Rattle.writing_parts.specs.declared.Put.the-variants.{To, Full}
 use Rattle.writing_parts.specs.declared.Completed.{Completed}
 use Rattle.writing_parts.specs.declared.Completed.the-variants as completed
 use Rattle.writing_parts.proofs.Faults.{fine-not, same-number}
+use Rattle.writing_parts.proofs.first_fault as first-fault
 use Rattle.writing_parts.proofs.word4 as word4
 use Rattle.writing_parts.proofs.word8 as word8
 use Rattle.writing_parts.proofs.pair as pair
@@ -31,6 +32,7 @@ use Rattle.writing_parts.proofs.enter as enter
 use Rattle.writing_parts.proofs.complete as complete
 
 pub record Contracts : Type 0 where
+  pub of-first-fault : Once first-fault.Kinds.ps first-fault.Kinds.r first-fault.Reads.Pre first-fault.Reads.Post
   pub of-word4 : Once word4.Kinds.ps word4.Kinds.r word4.Reads.Pre word4.Reads.Post
   pub of-word8 : Once word8.Kinds.ps word8.Kinds.r word8.Reads.Pre word8.Reads.Post
   pub of-pair : Once pair.Kinds.ps pair.Kinds.r pair.Reads.Pre pair.Reads.Post
@@ -83,6 +85,7 @@ completes-once buffer b c lent k l used from at xs (completed.Refused n) (comple
 pub contracts : Contracts
 contracts =
     record {
+      of-first-fault = λ κs a p x y u v e f. (e ∙ sym f, refl);
       of-word4 = λ κs a p x y u v e f. (e ∙ sym f, refl);
       of-word8 = λ κs a p x y u v e f. (e ∙ sym f, refl);
       of-pair = λ κs a p x y u v e f. (e ∙ sym f, refl);

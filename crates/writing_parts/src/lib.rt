@@ -13,6 +13,7 @@ ghost use Rattle.layouts.specs.Layout.{Layout, layoutAt};
 ghost use Rattle.layouts.specs.Book.{find, bookIn, IsBook};
 ghost use Rattle.layouts.specs.Answers.{Reads};
 ghost use Rattle.rows.specs.Row.{lengthImage};
+ghost use Rattle.writing_parts.specs.Faults.{_or_};
 ghost use Rattle.writing_parts.specs.Answers.{Puts, Completes, firstOf, nextOf, learningOf, refusal, added};
 use kinds::Basic;
 use layouts::Learning;
@@ -42,6 +43,16 @@ pub enum Next {
     Unknown,
     Missing,
     Of(Basic),
+}
+
+// The first of two faults.
+pub fn first_fault(a: Fault, b: Fault) -> Fault
+    ensures { λ r. ⌜ r ≡ a or b ⌝ }
+{
+    if let Fault::Refused(n) = a {
+        return Fault::Refused(n);
+    }
+    b
 }
 
 // A number of four octets.

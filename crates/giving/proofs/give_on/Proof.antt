@@ -44,7 +44,9 @@ returns c =
 
 put-runs-requires : tie.Need-put-runs-requires
 unfolding room
-put-runs-requires c κs = c .before .before .before .before .before .before .before .pre
+put-runs-requires c κs =
+    let e = c .before in
+    e .before .before .before .before .before .before .pre (e .enum-told .given .1)
 
 returns-2 : tie.Need-returns-2
 returns-2 c =

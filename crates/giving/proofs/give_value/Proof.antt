@@ -92,4 +92,4 @@ pub give-value-spec : {M : Type 1} → statement M
 give-value-spec =
     tie.close
     (tie.spec (λ c κs. search needs) (λ c. search needs) returns (λ c. search needs) row-next-requires (λ c κs. search needs)
-    (λ c. search needs) (λ c. let w = behind (c .before .before .before .before .before) in omega arith) (λ c κs. behind (c .before .before .before .before .before) .place) (λ c. search needs) returns-2)
+    (λ c. search needs) (λ c. let w = behind (c .before .before .before .before .before) in omega arith) (λ c κs. λ _. behind (c .before .before .before .before .before) .place) (λ c. search needs) returns-2)

@@ -60,7 +60,7 @@ layout-fault-requires c κs =
     (c .enum-told .given .1) (each-octet (now (a .book)) (k .shared-slice-known .given)) .0
 
 give-on-requires : tie.Need-give-on-requires
-give-on-requires c κs =
+give-on-requires c κs = λ _.
     let e = c .before .before .before .before .before .before .before in
     let r = e .before .before in
     let k = r .before in
