@@ -9,19 +9,6 @@ use probe_reads::Asked;
 use probe_writes::Pen;
 use probe_writes::Penned;
 
-// How much is lent to the reader, the writer's pen, and how much waits to be written.
-pub struct Desk {
-    pub doc: usize,
-    pub book: usize,
-    pub pen: Pen,
-    pub to: usize,
-}
-
-pub enum Turned {
-    On(Desk),
-    Bad,
-}
-
 // A command's letter, its arguments and what is to be taken behind it.
 pub enum Command {
     Is(u8, Args, usize, Feed),
@@ -29,88 +16,52 @@ pub enum Command {
     Bad,
 }
 
-// After a command: the next one, or how many octets wait at the run's end.
-pub enum Next {
-    On(Desk, Feed),
-    Over(usize),
-}
-
-// The command D.
-fn document(doc: &mut [u8], desk: Desk, xs: &[u8]) -> Turned {
-    probe_input::put(doc, 0, xs);
-    let pen = desk.pen;
-    Turned::On(Desk {
-        doc: xs.len(),
-        book: desk.book,
-        pen,
-        to: desk.to,
-    })
-}
-
-// The command B.
-fn lent_book(book: &mut [u8], desk: Desk, xs: &[u8]) -> Turned {
-    probe_input::put(book, 0, xs);
-    let pen = desk.pen;
-    Turned::On(Desk {
-        doc: desk.doc,
-        book: xs.len(),
-        pen,
-        to: desk.to,
-    })
-}
-
-// The commands of the reading half.
+// The commands that ask the reader, over as much of the document and the book as is lent.
 fn read_turn(
     letter: u8,
     doc: &[u8],
     book: &mut [u8],
-    desk: Desk,
+    used: usize,
     a: Args,
     out: &mut [u8],
-) -> Turned {
-    let pen = desk.pen;
-    let lent = desk.book;
-    if book.len() < lent {
-        return Turned::Bad;
+    n: usize,
+) -> Asked {
+    if book.len() < used {
+        return Asked::Bad;
     }
-    let asked = probe_reads::ask(letter, doc, &mut book[..lent], a, out, desk.to);
-    match asked {
-        Asked::Bad => Turned::Bad,
-        Asked::To(to) => Turned::On(Desk {
-            doc: desk.doc,
-            book: lent,
-            pen,
-            to,
-        }),
-    }
+    probe_reads::ask(letter, doc, &mut book[..used], a, out, n)
 }
 
-// The commands of the writing half.
-fn write_turn(
+// The commands of the reading half. How much of the document and of the book is lent stands in two numbers.
+fn reads(
     letter: u8,
-    sheet: &mut [u8],
-    shelf: &mut [u8],
-    desk: Desk,
+    doc: &mut [u8],
+    book: &mut [u8],
+    lent: &mut [usize; 2],
     a: Args,
     xs: &[u8],
     out: &mut [u8],
-) -> Turned {
-    let pen = desk.pen;
-    let penned = probe_writes::written(letter, pen, a, xs, sheet, shelf, out, desk.to);
-    match penned {
-        Penned::Bad => Turned::Bad,
-        Penned::On(next, to) => Turned::On(Desk {
-            doc: desk.doc,
-            book: desk.book,
-            pen: next,
-            to,
-        }),
+    n: usize,
+) -> Asked {
+    if letter == b'D' {
+        probe_input::put(doc, 0, xs);
+        lent[0] = xs.len();
+        return Asked::To(n);
     }
+    if letter == b'B' {
+        probe_input::put(book, 0, xs);
+        lent[1] = xs.len();
+        return Asked::To(n);
+    }
+    let front = probe_input::front(doc, lent[0]);
+    read_turn(letter, front, book, lent[1], a, out, n)
 }
 
 // Whether a command is of the reading half.
 fn is_read(letter: u8) -> bool {
     match letter {
+        b'D' => true,
+        b'B' => true,
         b'h' => true,
         b'w' => true,
         b's' => true,
@@ -122,29 +73,28 @@ fn is_read(letter: u8) -> bool {
     }
 }
 
-// One command, which has these arguments.
+// One command, which has these arguments: the writer's pen and how much waits then, or that they are bad.
 fn turn(
     letter: u8,
     doc: &mut [u8],
     book: &mut [u8],
+    lent: &mut [usize; 2],
     sheet: &mut [u8],
     shelf: &mut [u8],
-    desk: Desk,
+    pen: Pen,
     a: Args,
     xs: &[u8],
     out: &mut [u8],
-) -> Turned {
-    if letter == b'D' {
-        return document(doc, desk, xs);
-    }
-    if letter == b'B' {
-        return lent_book(book, desk, xs);
-    }
+    n: usize,
+) -> Penned {
     if is_read(letter) {
-        let lent = probe_input::front(doc, desk.doc);
-        return read_turn(letter, lent, book, desk, a, out);
+        let asked = reads(letter, doc, book, lent, a, xs, out, n);
+        return match asked {
+            Asked::Bad => Penned::Bad,
+            Asked::To(to) => Penned::On(pen, to),
+        };
     }
-    write_turn(letter, sheet, shelf, desk, a, xs, out)
+    probe_writes::written(letter, pen, a, xs, sheet, shelf, out, n)
 }
 
 // The next command, its octets put into a lent slice.
@@ -164,89 +114,59 @@ fn bad_input(out: &mut [u8], n: usize) -> usize {
     printing::show_all(out, n, Show::Plain, b"bad input\n")
 }
 
-// What comes after a command was done, or found bad.
-fn next_of(turned: Turned, behind: Feed, out: &mut [u8], to: usize) -> Next {
-    match turned {
-        Turned::On(then) => Next::On(then, behind),
-        Turned::Bad => Next::Over(bad_input(out, to)),
-    }
-}
-
-// A command done; what waits once the input ends or is bad.
-fn done(
-    is: Command,
-    doc: &mut [u8],
-    book: &mut [u8],
-    sheet: &mut [u8],
-    shelf: &mut [u8],
-    given: &[u8],
-    out: &mut [u8],
-    desk: Desk,
-) -> Next {
-    let to = desk.to;
-    match is {
-        Command::End => Next::Over(to),
-        Command::Bad => Next::Over(bad_input(out, to)),
-        Command::Is(letter, a, n, behind) => {
-            let xs = probe_input::front(given, n);
-            let turned = turn(letter, doc, book, sheet, shelf, desk, a, xs, out);
-            next_of(turned, behind, out, to)
-        }
-    }
-}
-
-// Commands until the input ends or is bad; how many octets wait then.
-fn run(
-    doc: &mut [u8],
-    book: &mut [u8],
-    sheet: &mut [u8],
-    shelf: &mut [u8],
-    given: &mut [u8],
-    out: &mut [u8],
-    buf: &mut [u8; 4096],
-) -> usize {
-    let pen = probe_writes::cleared();
-    let mut desk = Desk {
-        doc: 0,
-        book: 0,
-        pen,
-        to: 0,
-    };
-    let mut feed = Feed { at: 0, filled: 0 };
-    let mut turns = u64::MAX;
-    while 0 < turns {
-        turns -= 1;
-        let is = command_at(buf, feed, given);
-        let next = done(is, doc, book, sheet, shelf, given, out, desk);
-        match next {
-            Next::Over(to) => {
-                return to;
-            }
-            Next::On(then, behind) => {
-                desk = then;
-                feed = behind;
-            }
-        }
-    }
-    desk.to
-}
-
+// Commands until the input ends or is bad.
 fn main() {
     let mut doc = [0u8; 65600];
     let mut book = [0u8; 40000];
+    let mut lent = [0usize; 2];
     let mut sheet = [0u8; 65600];
     let mut shelf = [0u8; 40000];
+    let mut pen = probe_writes::cleared();
     let mut given = [0u8; 65600];
-    let mut out = [0u8; 4096];
     let mut buf = [0u8; 4096];
-    let n = run(
-        &mut doc,
-        &mut book,
-        &mut sheet,
-        &mut shelf,
-        &mut given,
-        &mut out,
-        &mut buf,
-    );
+    let mut feed = Feed { at: 0, filled: 0 };
+    let mut out = [0u8; 4096];
+    let mut n: usize = 0;
+    let mut turns = u64::MAX;
+    while 0 < turns {
+        turns -= 1;
+        let is = command_at(&mut buf, feed, &mut given);
+        match is {
+            Command::End => {
+                turns = 0;
+            }
+            Command::Bad => {
+                n = bad_input(&mut out, n);
+                turns = 0;
+            }
+            Command::Is(letter, a, k, behind) => {
+                feed = behind;
+                let xs = probe_input::front(&given, k);
+                let penned = turn(
+                    letter,
+                    &mut doc,
+                    &mut book,
+                    &mut lent,
+                    &mut sheet,
+                    &mut shelf,
+                    pen,
+                    a,
+                    xs,
+                    &mut out,
+                    n,
+                );
+                match penned {
+                    Penned::Bad => {
+                        n = bad_input(&mut out, n);
+                        turns = 0;
+                    }
+                    Penned::On(then, to) => {
+                        pen = then;
+                        n = to;
+                    }
+                }
+            }
+        }
+    }
     printing::flush(&out, n);
 }
