@@ -133,7 +133,7 @@ module _ (s : List ℕ) (x : Lent) (lent : List ℕ) where
         nothing [] z = refl
         nothing (r ∷ ps) z = absurd (omega arith)
 
-  -- A run whose first step is refused.
-  pub asked-no : (n p : ℕ) → stepAt s (x .at) (x .rows) (x .octets) (x .used) ≡ no n p → runAsked s x ≡ no n p
+  -- A run whose first step is refused leaves book and words.
+  pub asked-refused : (n p : ℕ) → stepAt s (x .at) (x .rows) (x .octets) (x .used) ≡ no n p → Ran (x .octets) lent (runAsked s x) (x .octets) lent (running.Refused n p)
   unfolding runAsked
-  asked-no n p e = rw e refl
+  asked-refused n p e = rw e (refl, refl, refl)
