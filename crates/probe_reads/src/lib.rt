@@ -30,6 +30,11 @@ fn head(out: &mut [u8], n: usize, refusal: Refusal, word: &[u8]) -> usize
     }
 }
 
+// A blank and a count or a place.
+fn then(out: &mut [u8], n: usize, x: usize) -> usize {
+    printing::named(out, n, b" ", x as u64)
+}
+
 // The command h.
 fn header(doc: &[u8], out: &mut [u8], n: usize) -> usize {
     let headed = reading::header(doc);
@@ -38,9 +43,9 @@ fn header(doc: &[u8], out: &mut [u8], n: usize) -> usize {
         Headed::Is(head) => {
             let word = printing::show_all(out, n, Show::Plain, b"header ");
             let start = printing::signed(out, word, head.start);
-            let namespaces = printing::named(out, start, b" ", head.namespaces as u64);
-            let services = printing::named(out, namespaces, b" ", head.services as u64);
-            printing::named(out, services, b" ", head.next as u64)
+            let namespaces = then(out, start, head.namespaces as usize);
+            let services = then(out, namespaces, head.services as usize);
+            then(out, services, head.next)
         }
     }
 }
@@ -54,18 +59,19 @@ fn whole(doc: &[u8], out: &mut [u8], n: usize) -> usize {
     }
 }
 
+// A word and two numbers.
+fn pair(out: &mut [u8], n: usize, word: &[u8], x: u32, y: u32) -> usize {
+    let to = printing::named(out, n, word, x as u64);
+    then(out, to, y as usize)
+}
+
 // What an element says.
 fn met(out: &mut [u8], n: usize, met: Met) -> usize {
     match met {
-        Met::Layout(number, count) => {
-            let to = printing::named(out, n, b"layout ", number as u64);
-            printing::named(out, to, b" ", count as u64)
-        }
+        Met::Layout(number, count) => pair(out, n, b"layout ", number, count),
         Met::Row(number, stated, count) => {
-            let word = printing::named(out, n, b"row ", number as u64);
-            let gap = printing::octet(out, word, b' ');
-            let to = printing::truth(out, gap, stated);
-            printing::named(out, to, b" ", count as u64)
+            let to = pair(out, n, b"row ", number, stated as u32);
+            then(out, to, count as usize)
         }
         Met::End(count, time) => {
             let word = printing::named(out, n, b"end ", count as u64);
@@ -79,9 +85,9 @@ fn met(out: &mut [u8], n: usize, met: Met) -> usize {
 fn stepped(out: &mut [u8], n: usize, step: Step) -> usize {
     let is = step.met;
     let element = met(out, n, is);
-    let next = printing::named(out, element, b" ", step.next as u64);
-    let rows = printing::named(out, next, b" ", step.rows as u64);
-    printing::named(out, rows, b" ", step.used as u64)
+    let next = then(out, element, step.next);
+    let rows = then(out, next, step.rows);
+    then(out, rows, step.used)
 }
 
 fn stepping(out: &mut [u8], n: usize, one: Stepping) -> usize {
@@ -106,23 +112,18 @@ fn kind(out: &mut [u8], n: usize, word: &[u8], kind: Kind) -> usize {
     printing::hex(out, to, 4, derived * 256 + (kinds::code_of(basic) as u64))
 }
 
-// A field's type and value.
-fn fielded(out: &mut [u8], n: usize, field: Fielded) -> usize {
-    match field {
-        Fielded::Refused(number, place) => printing::refused(out, n, number, place),
-        Fielded::Is(is, value) => {
-            let to = kind(out, n, b"field ", is);
-            let gap = printing::octet(out, to, b' ');
-            printing::value(out, gap, value)
-        }
-    }
-}
-
 // A field's refusal, or its type and value.
 fn field_head(out: &mut [u8], n: usize, refusal: Refusal, field: Fielded) -> usize {
     match refusal {
         Refusal::Refused(number, place) => printing::refused(out, n, number, place),
-        Refusal::None => fielded(out, n, field),
+        Refusal::None => match field {
+            Fielded::Refused(number, place) => printing::refused(out, n, number, place),
+            Fielded::Is(is, value) => {
+                let to = kind(out, n, b"field ", is);
+                let gap = printing::octet(out, to, b' ');
+                printing::value(out, gap, value)
+            }
+        },
     }
 }
 
@@ -205,13 +206,12 @@ fn text(doc: &[u8], a: Args, out: &mut [u8], n: usize) -> usize {
     probe_input::part(out, to, text_part(doc, which, i))
 }
 
-// What a command prints, without the end of its line.
-fn words(letter: u8, doc: &[u8], book: &mut [u8], a: Args, out: &mut [u8], n: usize) -> usize {
+// What a command prints that changes no book, without the end of its line.
+fn words(letter: u8, doc: &[u8], book: &[u8], a: Args, out: &mut [u8], n: usize) -> usize {
     match letter {
         b'h' => header(doc, out, n),
         b'w' => whole(doc, out, n),
         b't' => text(doc, a, out, n),
-        b's' => step(doc, book, a, out, n),
         b'y' => type_name(doc, book, a, out, n),
         b'f' => field(doc, book, a, out, n),
         _ => attribute(doc, book, a, out, n),
@@ -224,6 +224,10 @@ pub fn ask(letter: u8, doc: &[u8], book: &mut [u8], a: Args, out: &mut [u8], n: 
         if 5 < a.one {
             return Asked::Bad;
         }
+    }
+    if letter == b's' {
+        let behind = step(doc, book, a, out, n);
+        return Asked::To(printing::octet(out, behind, b'\n'));
     }
     let to = words(letter, doc, book, a, out, n);
     Asked::To(printing::octet(out, to, b'\n'))
