@@ -58,5 +58,7 @@ main-spec =
     tie.close
     (tie.spec Inv-loop μ-loop (λ c κs. search needs) loop-holds (λ c. search needs) (λ c. search needs) (λ c κs. search needs) (λ c. search needs) (λ c. search needs) loop-again (λ c. search needs)
     (λ c. search needs) (λ c κs. search needs) (λ c. search needs) loop-again-2 (λ c. search needs) (λ c. search needs) (λ c κs. search needs) (λ c. search needs) (λ c. search needs) (λ c. search needs) (λ c. search needs)
-    (λ c. search needs) (λ c κs. search needs) (λ c. search needs) (λ c. search needs) (λ c κs. search needs) (λ c. omega (arith, of-done (c .before .before .before .before .before .before .before .before .before .before) .before .before .before .loop-test .taken)) loop-again-3 (λ c. search needs) (λ c. omega (arith, of-done (c .before .before .before .before .before .before .before .before) .before .before .before .loop-test .taken)) loop-again-4
+    (λ c. search needs) (λ c κs. search needs) (λ c. search needs) (λ c. search needs) (λ c κs. search needs)
+    (λ c. omega (arith, of-done (c .before .before .before .before .before .before .before .before .before .before) .before .before .before .loop-test .taken)) loop-again-3 (λ c. search needs)
+    (λ c. omega (arith, of-done (c .before .before .before .before .before .before .before .before) .before .before .before .loop-test .taken)) loop-again-4
     (λ c. search needs) (λ c κs. search needs) (λ c. search needs))
