@@ -127,6 +127,7 @@ fn main() {
     let mut feed = Feed { at: 0, filled: 0 };
     let mut out = [0u8; 4096];
     let mut n: usize = 0;
+    let mut bad = false;
     let mut turns = u64::MAX;
     while 0 < turns {
         turns -= 1;
@@ -136,7 +137,7 @@ fn main() {
                 turns = 0;
             }
             Command::Bad => {
-                n = bad_input(&mut out, n);
+                bad = true;
                 turns = 0;
             }
             Command::Is(letter, a, k, behind) => {
@@ -157,7 +158,7 @@ fn main() {
                 );
                 match penned {
                     Penned::Bad => {
-                        n = bad_input(&mut out, n);
+                        bad = true;
                         turns = 0;
                     }
                     Penned::On(then, to) => {
@@ -167,6 +168,11 @@ fn main() {
                 }
             }
         }
+    }
+    if bad {
+        let last = bad_input(&mut out, n);
+        printing::flush(&out, last);
+        return;
     }
     printing::flush(&out, n);
 }
