@@ -59,11 +59,6 @@ none-lost h (x ∷ xs) =
     sym (append-assoc (waiting h) (x ∷ []) xs) ∙ ap (λ (l : List ℕ). l ++ xs) (one h x .none-lost) ∙ append-assoc (goes h x) (waiting (put h x)) xs
     ∙ ap (λ (l : List ℕ). goes h x ++ l) (none-lost (put h x) xs) ∙ sym (append-assoc (goes h x) (gone (put h x) xs) (waiting (puts (put h x) xs)))
 
-puts-long : (h : Held) (text : List ℕ) → size (puts h text) ≡ size h
-unfolding puts
-puts-long h [] = refl
-puts-long h (x ∷ xs) = puts-long (put h x) xs ∙ one h x .long
-
 puts-few : (h : Held) (text : List ℕ) → count h ≤ size h → count (puts h text) ≤ size h
 unfolding puts
 puts-few h [] few = few
@@ -73,9 +68,6 @@ puts-few h (x ∷ xs) few =
     omega arith
 
 module _ {before text : List ℕ} {n : ℕ} {after : List ℕ} {r : ℕ} (p : Prints before n text after r) where
-  pub same-size : length after ≡ length before
-  same-size = ap size (p .is) ∙ puts-long (held before n) text
-
   pub waits-fit : n ≤ length before → r ≤ length before
   waits-fit few = omega (arith, ap count (p .is), puts-few (held before n) text few)
 

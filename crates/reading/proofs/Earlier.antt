@@ -1,6 +1,6 @@
 -- Times before 1970 are answered as negative numbers: those whose eight octets are all FF are -1. Computed.
 use mathlib.Core.Path.{_≡_, refl}
-use mathlib.Core.List.{List, [], _++_}
+use mathlib.Core.List.{List, _++_}
 use Prim.Native.Nat.{ℕ}
 use lib.IntN.{negsuc}
 use lib.ListN.{replicate}

@@ -13,7 +13,7 @@ use Rattle.octets.proofs.Inverse.{no-ok, settle}
 use Rattle.layouts.specs.Book.{Book, bookOf, bookIn}
 use Rattle.writing_parts.specs.declared.Fault.{Fault}
 use Rattle.writing_parts.specs.declared.Fault.the-variants as faults
-use Rattle.writing_parts.specs.Faults.{fine, unless, _or_}
+use Rattle.writing_parts.specs.Faults.{fine, unless}
 use Rattle.writing_parts.specs.Answers.{refusal}
 use Rattle.writing_parts.proofs.Faults.{both-fine, holds}
 use Rattle.writer.specs.declared.State.{State}

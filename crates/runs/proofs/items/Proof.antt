@@ -10,7 +10,7 @@ use mathlib.Core.Option.{none}
 use lib.ListN.{length, take, set, length-replicate, length-set}
 use borrow.Rule.Slice.PartMut.{midOf, putMid, same-len-mid, put-same}
 use lib.Seq.{length-take-le}
-use Rattle.octets.specs.Limits.{longest, mostRows, bookRoom}
+use Rattle.octets.specs.Limits.{longest, mostRows}
 use Rattle.octets.specs.Reading.{ok, isOk}
 use Rattle.octets.specs.Writing.{Each, Octet}
 use Rattle.octets.proofs.Spans.{each-octet}
