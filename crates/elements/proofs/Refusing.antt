@@ -16,7 +16,7 @@ use Rattle.octets.specs.declared.Room.the-variants.{Document, Stated}
 use Rattle.kinds.specs.declared.Basic.{Basic}
 use Rattle.kinds.specs.declared.Form.{Form}
 use Rattle.kinds.specs.declared.Form.the-variants as form
-use Rattle.kinds.specs.Kinds.{basicOf, formOf, known, kindAt}
+use Rattle.kinds.specs.Kinds.{basicOf, formOf, kindFor, kindAt}
 use Rattle.layouts.specs.Layout.{Attribute, Layout, attributeAt, layoutAt, layoutImage}
 use Rattle.layouts.specs.Book.{Book, find, bookImage, as17, layoutsAt, bookOf, learning, learnBy, learn}
 use Rattle.layouts.specs.declared.Learning.{Learning}
@@ -162,7 +162,7 @@ module _ (P : ℕ → Type 0) (s : List ℕ) (end : ℕ) (long : length s ≤ en
           stays-choose (leb (2 ^ 31) t) _ _ (λ _. (nine, b))
           (stays-choose (ltb t 0x10000) _ _ (λ _. in-table t next c (basicOf (t % 256))) (eight, b))
         where
-          in-table : (t next : ℕ) → next ≤ end → (o : Option Basic) → Stays P end (known at t next o)
+          in-table : (t next : ℕ) → next ≤ end → (o : Option Basic) → Stays P end (kindFor at t next o)
           in-table t next c (some k) = c
           in-table t next c none = (eight, b)
 

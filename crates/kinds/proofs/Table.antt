@@ -17,7 +17,7 @@ use Rattle.octets.proofs.Spans.{word-octets}
 use Rattle.octets.proofs.Inverse.{Inverse, Answer, Any, after, settle, chosen, refused, ok-value}
 use Rattle.octets.proofs.Fields.{number-whole}
 use Rattle.octets.proofs.Ends.{number-ok, number-no, number-room, first-ok}
-use Rattle.kinds.specs.Kinds.{basics, numberOf, codeOf, among, basicOf, known, kindOf, kindAt}
+use Rattle.kinds.specs.Kinds.{basics, numberOf, codeOf, among, basicOf, kindFor, kindOf, kindAt}
 use Rattle.kinds.specs.declared.Basic.{Basic}
 use Rattle.kinds.specs.declared.Basic.the-variants.{Int, UnsignedInt, Long, UnsignedLong, Float, Double, HexBinary, String, Boolean, Byte, UnsignedByte, Short, UnsignedShort}
 use Rattle.kinds.specs.declared.Kind.{Kind}
@@ -53,10 +53,10 @@ pub code-of-basic : (code : ℕ) (b : Basic) → basicOf code ≡ some b → cod
 unfolding basicOf
 code-of-basic code b e = found code basics b e
 
-pub known-ok : (at t next : ℕ) (o : Option Basic) {k : Kind} {end : ℕ} → known at t next o ≡ ok k end
+pub kind-for : (at t next : ℕ) (o : Option Basic) {k : Kind} {end : ℕ} → kindFor at t next o ≡ ok k end
     → (b : Basic) × (o ≡ some b) × (ok (record { derived = t / 256; basic = b }) next ≡ ok k end)
-known-ok at t next (some b) e = (b, refl, e)
-known-ok at t next none e = absurd (let z : _≡_ {A = ℕ} 0 1 = cc in omega arith)
+kind-for at t next (some b) e = (b, refl, e)
+kind-for at t next none e = absurd (let z : _≡_ {A = ℕ} 0 1 = cc in omega arith)
 
 module _ (s : List ℕ) where
   pub kind-inverse : Inverse s (length s) (kindAt s) (λ k. word 4 (numberOf k)) Any (λ k. k .derived < 256)
@@ -79,8 +79,8 @@ module _ (s : List ℕ) where
             after (number 4 s at) _ e λ t next e₁ e₂.
             let (u, g, p) = number-whole s 4 .forth o h e₁ in
             let (t₁, e₃) = refused (leb (2 ^ 31) t) 9 at _ e₂ in
-            let (t₂, e₄) = chosen (ltb t 0x10000) (λ _. known at t next (basicOf (t % 256))) 8 at e₃ in
-            let (b, f, e₅) = known-ok at t next (basicOf (t % 256)) e₄ in
+            let (t₂, e₄) = chosen (ltb t 0x10000) (λ _. kindFor at t next (basicOf (t % 256))) 8 at e₃ in
+            let (b, f, e₅) = kind-for at t next (basicOf (t % 256)) e₄ in
             let small : t < 65536 = ltb-true t 65536 t₂ in
             let whole : t ≡ t / 256 * 256 + codeOf b = omega (arith, code-of-basic (t % 256) b f) in
             settle (Answer s (length s) (λ x. word 4 (numberOf x)) Any (λ x. x .derived < 256) at) e₅ (tt, omega arith, rw whole at p);
@@ -137,8 +137,8 @@ module _ (s : List ℕ) (at : ℕ) where
 kind-next : (at t next : ℕ) → isOk (kindOf at t next) ≡ true → ends (kindOf at t next) ≡ ok next next
 kind-next at t next = go (leb (2 ^ 31) t) (ltb t 0x10000) (basicOf (t % 256))
   where
-    go : (b c : Bool) (o : Option Basic) → isOk (choose b (λ _. no 9 at) (λ _. choose c (λ _. known at t next o) (λ _. no 8 at))) ≡ true
-        → ends (choose b (λ _. no 9 at) (λ _. choose c (λ _. known at t next o) (λ _. no 8 at))) ≡ ok next next
+    go : (b c : Bool) (o : Option Basic) → isOk (choose b (λ _. no 9 at) (λ _. choose c (λ _. kindFor at t next o) (λ _. no 8 at))) ≡ true
+        → ends (choose b (λ _. no 9 at) (λ _. choose c (λ _. kindFor at t next o) (λ _. no 8 at))) ≡ ok next next
     go true c o h = absurd (let z : _≡_ {A = ℕ} 0 1 = cc in omega arith)
     go false true (some b) h = refl
     go false true none h = absurd (let z : _≡_ {A = ℕ} 0 1 = cc in omega arith)
@@ -158,8 +158,8 @@ kind-code s at {k} e =
     let h = number-room s at 4 (first-ok (number 4 s at) _ (ap isOk e)) in
     let t : ℕ = be 4 s at in
     let (t₁, e₁) = refused (leb (2 ^ 31) t) 9 at _ (rw (number-ok s at 4 h) at e) in
-    let (t₂, e₂) = chosen (ltb t 0x10000) (λ _. known at t (at + 4) (basicOf (t % 256))) 8 at e₁ in
-    let (b, f, e₃) = known-ok at t (at + 4) (basicOf (t % 256)) e₂ in
+    let (t₂, e₂) = chosen (ltb t 0x10000) (λ _. kindFor at t (at + 4) (basicOf (t % 256))) 8 at e₁ in
+    let (b, f, e₃) = kind-for at t (at + 4) (basicOf (t % 256)) e₂ in
     let is : record { derived = t / 256; basic = b } ≡ k = ok-value refl e₃ in
     let code : codeOf b ≡ t % 256 = code-of-basic (t % 256) b f in (
       sym code ∙ ap (λ (x : Kind). codeOf (x .basic)) is,

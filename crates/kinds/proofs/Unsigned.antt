@@ -19,7 +19,7 @@ minus n =
     let low : suc n - 1 ≡ n = omega arith in
     rw (le-ltb (suc n) 1 (omega arith)) (ap pos low)
 
--- What is known of a number below 0: its distance from -1.
+-- What is under of a number below 0: its distance from -1.
 pub record Below (w : Width) (v : ℤ) : Type 0 where
   pub down : ℕ
   pub is : v ≡ negsuc down
@@ -40,23 +40,23 @@ module _ (w : Width) where
     above-cast t = subst (λ (z : ℤ). leZ (pos 0) z ≡ true → T (nonNeg z) × Fits w (natAbs z)) (sym (toZ-ofZ f)) (above v f) t
 
     module _ (t : leZ (pos 0) (toZ w (ofZ w v)) ≡ false) where
-      pub known : Below w v
-      known = below v f (subst (λ (z : ℤ). leZ (pos 0) z ≡ false) (toZ-ofZ f) t)
+      pub under : Below w v
+      under = below v f (subst (λ (z : ℤ). leZ (pos 0) z ≡ false) (toZ-ofZ f) t)
 
-      taken : negsuc 0 -ℤ toZ w (ofZ w v) ≡ pos (known .down)
-      taken = ap (λ (z : ℤ). negsuc 0 -ℤ z) (toZ-ofZ f) ∙ known .turned
+      taken : negsuc 0 -ℤ toZ w (ofZ w v) ≡ pos (under .down)
+      taken = ap (λ (z : ℤ). negsuc 0 -ℤ z) (toZ-ofZ f) ∙ under .turned
 
       pub below-fits : SFits w (negsuc 0 -ℤ toZ w (ofZ w v))
-      below-fits = subst (SFits w) (sym taken) (record { sfits = known .small })
+      below-fits = subst (SFits w) (sym taken) (record { sfits = under .small })
 
-      pub below-is : toZ w (ofZ w (negsuc 0 -ℤ toZ w (ofZ w v))) ≡ pos (known .down)
+      pub below-is : toZ w (ofZ w (negsuc 0 -ℤ toZ w (ofZ w v))) ≡ pos (under .down)
       below-is = toZ-ofZ below-fits ∙ taken
 
       pub below-cast : T (nonNeg (toZ w (ofZ w (negsuc 0 -ℤ toZ w (ofZ w v))))) × Fits w (natAbs (toZ w (ofZ w (negsuc 0 -ℤ toZ w (ofZ w v)))))
-      below-cast = subst (λ (z : ℤ). T (nonNeg z) × Fits w (natAbs z)) (sym below-is) (tt, record { fits = half-full w (known .small) })
+      below-cast = subst (λ (z : ℤ). T (nonNeg z) × Fits w (natAbs z)) (sym below-is) (tt, record { fits = half-full w (under .small) })
 
       pub below-less : natAbs (toZ w (ofZ w (negsuc 0 -ℤ toZ w (ofZ w v)))) ≤ 2 ^ bits w - 1
-      below-less = subst (λ (z : ℤ). natAbs z ≤ 2 ^ bits w - 1) (sym below-is) (omega (arith, half-full w (known .small)))
+      below-less = subst (λ (z : ℤ). natAbs z ≤ 2 ^ bits w - 1) (sym below-is) (omega (arith, half-full w (under .small)))
 
     -- In k octets.
     module _ (k : ℕ) (whole : bits w ≡ k * 8) where
@@ -71,9 +71,9 @@ module _ (w : Width) where
       pub below-bits : (t : leZ (pos 0) (toZ w (ofZ w v)) ≡ false) → 2 ^ bits w - 1 - natAbs (toZ w (ofZ w (negsuc 0 -ℤ toZ w (ofZ w v)))) ≡ unsigned k v
       unfolding unsigned
       below-bits t =
-          let n = known t .down in
+          let n = under t .down in
           let less : 2 ^ bits w - 1 - n ≡ 2 ^ bits w - suc n = omega arith in
-          ap (λ (z : ℤ). 2 ^ bits w - 1 - natAbs z) (below-is t) ∙ (less ∙ (ap (λ (m : ℕ). 2 ^ m - suc n) whole ∙ ap (unsigned k) (sym (known t .is))))
+          ap (λ (z : ℤ). 2 ^ bits w - 1 - natAbs z) (below-is t) ∙ (less ∙ (ap (λ (m : ℕ). 2 ^ m - suc n) whole ∙ ap (unsigned k) (sym (under t .is))))
 
 -- The bits of the number that has some bits are those bits; the number that has the bits of a number is that number.
 pub unsigned-signed : (k n : ℕ) → n < 2 ^ (k * 8) → unsigned k (signed k n) ≡ n

@@ -73,15 +73,16 @@ unfoldable pub unsigned : ℕ → ℤ → ℕ
 unsigned w (pos n) = n
 unsigned w (negsuc n) = 2 ^ (w * 8) - suc n
 
-abbrev pub known : ℕ → ℕ → ℕ → Option Basic → Read Kind
-known at t next (some b) = ok (record { derived = t / 256; basic = b }) next
-known at t next none = no 8 at
+-- A kind by its basic type, or none: refusal 8.
+abbrev pub kindFor : ℕ → ℕ → ℕ → Option Basic → Read Kind
+kindFor at t next (some b) = ok (record { derived = t / 256; basic = b }) next
+kindFor at t next none = no 8 at
 
 -- What a type number t at a place means. Refusal 9: its top bit is set; else 8: bits 16 to 30 are not zero or the low octet is not in the table.
 abbrev pub kindOf : ℕ → ℕ → ℕ → Read Kind
 kindOf at t next =
     choose (leb (2 ^ 31) t) (λ _. no 9 at)
-    (λ _. choose (ltb t 0x10000) (λ _. known at t next (basicOf (t % 256))) (λ _. no 8 at))
+    (λ _. choose (ltb t 0x10000) (λ _. kindFor at t next (basicOf (t % 256))) (λ _. no 8 at))
 
 -- A four-octet type at a place.
 unfoldable pub kindAt : List ℕ → ℕ → Read Kind

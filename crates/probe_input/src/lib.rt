@@ -24,7 +24,7 @@ pub enum Filling {
     Cut,
 }
 
-pub enum Told {
+pub enum Drawn {
     Is(u64, Feed),
     Cut,
 }
@@ -95,12 +95,12 @@ fn fill(buf: &mut [u8; 4096], feed: Feed, to: &mut [u8], n: u64) -> Filling {
 }
 
 // A number of eight octets.
-fn number(buf: &mut [u8; 4096], feed: Feed) -> Told {
+fn number(buf: &mut [u8; 4096], feed: Feed) -> Drawn {
     let mut eight = [0u8; 8];
     let filling = fill(buf, feed, &mut eight, 8);
     match filling {
-        Filling::Cut => Told::Cut,
-        Filling::Done(rest) => Told::Is(octets::u64_at(&eight, 0), rest),
+        Filling::Cut => Drawn::Cut,
+        Filling::Done(rest) => Drawn::Is(octets::u64_at(&eight, 0), rest),
     }
 }
 
@@ -109,7 +109,7 @@ fn numbers(buf: &mut [u8; 4096], feed: Feed, to: &mut [u64; 5], n: usize) -> Fil
     let mut at = feed;
     let mut i: usize = 0;
     while i < n {
-        let Told::Is(x, rest) = number(buf, at) else {
+        let Drawn::Is(x, rest) = number(buf, at) else {
             return Filling::Cut;
         };
         if i < 5 {
@@ -180,24 +180,24 @@ fn text_most(letter: u8) -> Most {
 }
 
 // Octets behind their length, at most so many.
-fn take(buf: &mut [u8; 4096], feed: Feed, to: &mut [u8], most: u64) -> Told {
-    let Told::Is(n, rest) = number(buf, feed) else {
-        return Told::Cut;
+fn take(buf: &mut [u8; 4096], feed: Feed, to: &mut [u8], most: u64) -> Drawn {
+    let Drawn::Is(n, rest) = number(buf, feed) else {
+        return Drawn::Cut;
     };
     if most < n {
-        return Told::Cut;
+        return Drawn::Cut;
     }
     let Filling::Done(behind) = fill(buf, rest, to, n) else {
-        return Told::Cut;
+        return Drawn::Cut;
     };
-    Told::Is(n, behind)
+    Drawn::Is(n, behind)
 }
 
 // The octets of a command, if it has any.
-fn octets_of(letter: u8, buf: &mut [u8; 4096], feed: Feed, to: &mut [u8]) -> Told {
+fn octets_of(letter: u8, buf: &mut [u8; 4096], feed: Feed, to: &mut [u8]) -> Drawn {
     let most = most_of(letter);
     match most {
-        Most::None => Told::Is(0, feed),
+        Most::None => Drawn::Is(0, feed),
         Most::Octets(n) => take(buf, feed, to, n),
     }
 }
@@ -216,7 +216,7 @@ pub fn arguments(letter: u8, buf: &mut [u8; 4096], feed: Feed, to: &mut [u8]) ->
     let Filling::Done(one) = numbers(buf, feed, &mut five, before(letter)) else {
         return Given::Bad;
     };
-    let Told::Is(n, two) = octets_of(letter, buf, one, to) else {
+    let Drawn::Is(n, two) = octets_of(letter, buf, one, to) else {
         return Given::Bad;
     };
     let Filling::Done(three) = numbers(buf, two, &mut five, behind(letter)) else {

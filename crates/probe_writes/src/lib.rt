@@ -362,7 +362,7 @@ fn call(
 }
 
 // What a call answered.
-fn answered(out: &mut [u8], n: usize, answer: Answer) -> usize {
+fn answer_words(out: &mut [u8], n: usize, answer: Answer) -> usize {
     match answer {
         Answer::Done(state, used) => {
             let to = printing::named(out, n, b"done ", state.place as u64);
@@ -374,7 +374,7 @@ fn answered(out: &mut [u8], n: usize, answer: Answer) -> usize {
 
 // What a call answered, with the checksums of the buffer and the book.
 fn answer_line(answer: Answer, sheet: &[u8], shelf: &[u8], out: &mut [u8], n: usize) -> usize {
-    let words = answered(out, n, answer);
+    let words = answer_words(out, n, answer);
     let one = probe_input::sum(out, words, sheet);
     let two = probe_input::sum(out, one, shelf);
     printing::octet(out, two, b'\n')

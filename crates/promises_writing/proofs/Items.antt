@@ -14,7 +14,7 @@ use Rattle.elements.specs.Document.{itemImage, rowCount, GoodItems}
 use Rattle.writer.specs.declared.Wanted.{Wanted}
 use Rattle.writer.specs.declared.Wanted.the-variants as wants
 use Rattle.writer.specs.Writer.{Call}
-use Rattle.promises_writing.specs.Promise.{each, itemCalls, headerCalls, withLayout, bookBehind, Told, adds, opens}
+use Rattle.promises_writing.specs.Promise.{each, itemCalls, headerCalls, withLayout, bookBehind, Account, adds, opens}
 use Rattle.promises_writing.proofs.Standing.{Spot, spot, behind}
 use Rattle.promises_writing.proofs.Writes.{learn-with}
 use Rattle.promises_writing.proofs.Put.{octetsOf, images-snoc, each-snoc}
@@ -68,13 +68,13 @@ same-between s p q r t =
     }
 
 -- An element opened, and more octets of it.
-pub opening : (x : Spot) (done : List ℕ) (told : Told) (c : Call) (u : Wanted) → Shape wants.Element x done told
+pub opening : (x : Spot) (done : List ℕ) (told : Account) (c : Call) (u : Wanted) → Shape wants.Element x done told
     → Opened (spot (x .book) u 0 (length done) (x .rows)) (done ++ octetsOf c) (opens told c)
 unfolding images
 opening x done told c u i =
     record { before = done; between = i .0; start = refl; is = ap (λ (z : List ℕ). done ++ z) (sym (append-nil (octetsOf c))) }
 
-pub longer : {x : Spot} {done : List ℕ} {told : Told} (c : Call) (u : Wanted) (j : ℕ) → Opened x done told
+pub longer : {x : Spot} {done : List ℕ} {told : Account} (c : Call) (u : Wanted) (j : ℕ) → Opened x done told
     → Opened (spot (x .book) u j (x .start) (x .rows)) (done ++ octetsOf c) (adds told c)
 longer {told = told} c u j o =
     record {

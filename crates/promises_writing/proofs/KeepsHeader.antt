@@ -18,7 +18,7 @@ use Rattle.writer.specs.declared.Wanted.{Wanted}
 use Rattle.writer.specs.declared.Wanted.the-variants as wants
 use Rattle.writer.specs.Writer.{Call, recorder, startTime, defaultNamespace, namespaceCount, uri, shortName, serviceCount, service, documentId, turnAt, does}
 use Rattle.writer.proofs.Kept.{at-turn}
-use Rattle.promises_writing.specs.Promise.{namespaceCalls, serviceCalls, headerCalls, Told, adds, tell}
+use Rattle.promises_writing.specs.Promise.{namespaceCalls, serviceCalls, headerCalls, Account, adds, tell}
 use Rattle.promises_writing.proofs.Standing.{Spot, spot, stateAt, behind}
 use Rattle.promises_writing.proofs.Put.{octetsOf, images-snoc, each-snoc, header-octets}
 use Rattle.promises_writing.proofs.Shapes.{InHeader, namespaced, served, Shape, Stand, rest, Inv, PassesHere, leftHere, put-keeps}
@@ -38,7 +38,7 @@ good-header g₁ g₂ g₃ g₄ g₅ g₆ g₇ g₈ g₉ =
     record { recorder = g₁; start = g₂; default = g₃; few-others = g₄; others = g₅; few-services = g₆; services = g₇; id-length = g₈; id = g₉ }
 
 -- One call more of a header.
-on : {calls more : Header → ℕ → List ℕ → List Call} {Counts Next : Header → ℕ → Type 0} {x : Spot} {done : List ℕ} {told : Told} (c : Call) (u : Wanted) (j : ℕ)
+on : {calls more : Header → ℕ → List ℕ → List Call} {Counts Next : Header → ℕ → Type 0} {x : Spot} {done : List ℕ} {told : Account} (c : Call) (u : Wanted) (j : ℕ)
     (i : InHeader calls Counts x done told) (h : Header) (n : ℕ) (name : List ℕ) → GoodHeader h → GoodLed name → Next h n
     → calls (i .h) (i .n) (i .name) ++ c ∷ [] ≡ more h n name → InHeader more Next (spot (x .book) u j (x .start) (x .rows)) (done ++ octetsOf c) (adds told c)
 on {told = told} c u j i h n name good text counts said =
@@ -57,7 +57,7 @@ on {told = told} c u j i h n name good text counts said =
       no-book = i .no-book;
     }
 
-module _ {buffer lent : List ℕ} {told : Told} (now : Stand buffer lent told) where
+module _ {buffer lent : List ℕ} {told : Account} (now : Stand buffer lent told) where
   -- What a call keeps, where it is accepted here.
   abbrev pub Keeps : Call → Type 0
   Keeps c = PassesHere now (does (stateAt (now .done) (now .at)) (now .done ++ rest now) (now .at .book) c)

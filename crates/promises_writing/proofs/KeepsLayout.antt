@@ -15,8 +15,8 @@ use Rattle.octets.specs.Writing.{word, ledImage, images, Each, Octet}
 use Rattle.octets.proofs.Spans.{each-join}
 use Rattle.octets.proofs.Inverse.{chosen, refused}
 use Rattle.kinds.specs.declared.Kind.{Kind}
-use Rattle.kinds.specs.Kinds.{numberOf, basicOf, known, kindOf}
-use Rattle.kinds.proofs.Table.{known-ok, code-of-basic}
+use Rattle.kinds.specs.Kinds.{numberOf, basicOf, kindFor, kindOf}
+use Rattle.kinds.proofs.Table.{kind-for, code-of-basic}
 use Rattle.layouts.specs.Layout.{Attribute, Layout, layoutImage, GoodAttribute, GoodLayout}
 use Rattle.layouts.specs.Book.{Book, bookImage, learning, learn}
 use Rattle.layouts.specs.Answers.{Judges}
@@ -35,7 +35,7 @@ use Rattle.writing_parts.specs.Faults.{fine, unless, refusedBy}
 use Rattle.writing_parts.specs.Answers.{learningOf, refusal}
 use Rattle.writing_parts.proofs.Faults.{fine-not, holds, is-read}
 use Rattle.writer.proofs.Bounds.{turn-count, open-head}
-use Rattle.promises_writing.specs.Promise.{attributeCalls, itemCalls, withLayout, Told, adds, opens}
+use Rattle.promises_writing.specs.Promise.{attributeCalls, itemCalls, withLayout, Account, adds, opens}
 use Rattle.promises_writing.proofs.Standing.{Spot, spot, stateAt, behind, so-far, number-first, takes-learnt, complete-leaves}
 use Rattle.promises_writing.proofs.Writes.{learn-with}
 use Rattle.promises_writing.proofs.Put.{octetsOf, images-snoc, each-snoc, layout-octets}
@@ -48,8 +48,8 @@ kind-is : (t at next : ℕ) → refusedBy (kindOf at t next) ≡ fine → (k : K
 kind-is t at next fault =
     let (_, _, e) = is-read (kindOf at t next) fault in
     let (t₁, e₁) = refused (leb (2 ^ 31) t) 9 at _ e in
-    let (t₂, e₂) = chosen (ltb t 0x10000) (λ _. known at t next (basicOf (t % 256))) 8 at e₁ in
-    let (b, f, _) = known-ok at t next (basicOf (t % 256)) e₂ in
+    let (t₂, e₂) = chosen (ltb t 0x10000) (λ _. kindFor at t next (basicOf (t % 256))) 8 at e₁ in
+    let (b, f, _) = kind-for at t next (basicOf (t % 256)) e₂ in
     let small : t < 65536 = ltb-true t 65536 t₂ in
     let code = code-of-basic (t % 256) b f in
     (record { derived = t / 256; basic = b }, omega arith, omega arith)
@@ -70,13 +70,13 @@ learns-of b l g e =
     go (Refused n) w h = absurd (fine-not refl h)
 
 -- A call that makes the open layout whole.
-record Completes (c : Call) (x : Spot) (done : List ℕ) (told : Told) : Type 0 where
+record Completes (c : Call) (x : Spot) (done : List ℕ) (told : Account) : Type 0 where
   opened : Opened x done told
   l : Layout
   good : GoodLayout l
   said : told .latest ++ c ∷ [] ≡ itemCalls (layout l)
 
-module _ {buffer lent : List ℕ} {told : Told} (now : Stand buffer lent told) where
+module _ {buffer lent : List ℕ} {told : Account} (now : Stand buffer lent told) where
   -- Octets of the open layout with so many attributes behind them.
   abbrev part : Wanted → Fault → Call → ℕ → Deed
   part t fault c left = attributes (stateAt (now .done) (now .at)) t fault (octetsOf c) left

@@ -32,7 +32,7 @@ use Rattle.writer.specs.declared.Wanted.{Wanted}
 use Rattle.writer.specs.declared.Wanted.the-variants as wants
 use Rattle.writer.specs.Writer.{Call, openRow, value, closeRow, giveUp, finish, isOpen, inBook, rowLayout, suits, isNext, does}
 use Rattle.writer.proofs.Kept.{in-book}
-use Rattle.promises_writing.specs.Promise.{each, fieldCalls, itemCalls, headerCalls, callsOf, GivenValue, Told, adds, opens, tell}
+use Rattle.promises_writing.specs.Promise.{each, fieldCalls, itemCalls, headerCalls, callsOf, GivenValue, Account, adds, opens, tell}
 use Rattle.promises_writing.proofs.Standing.{Spot, spot, stateAt, standing, behind, row-layout, close-leaves, give-up-leaves}
 use Rattle.promises_writing.proofs.Writes.{image-parts}
 use Rattle.promises_writing.proofs.Put.{octetsOf, each-snoc, row-octets}
@@ -70,12 +70,12 @@ fields-snoc (y ∷ others) [] a f g e h = absurd g
 fields-snoc (y ∷ others) (x ∷ fs) a f g e h = (g .0, g .1, fields-snoc others fs a f (g .2) e h)
 
 -- The octets of an open row.
-row-form : {x : Spot} {done : List ℕ} {told : Told} (i : InRow x done told)
+row-form : {x : Spot} {done : List ℕ} {told : Account} (i : InRow x done told)
     → done ≡ i .opened .before ++ (word 4 2 ++ (word 4 (i .r .number) ++ (lengthImage (i .r .is-stated) 0 ++ images fieldImage (i .r .fields))))
 row-form i = i .opened .is ∙ ap (λ (z : List ℕ). i .opened .before ++ z) (ap (images octetsOf) (i .said) ∙ row-octets (i .r))
 
 -- What is open at a turn.
-opened-at : (t : Wanted) {x : Spot} {done : List ℕ} (told : Told) → Shape t x done told → isOpen t ≡ true → Opened x done told
+opened-at : (t : Wanted) {x : Spot} {done : List ℕ} (told : Account) → Shape t x done told → isOpen t ≡ true → Opened x done told
 opened-at wants.Recorder told i e = absurd (let z : _≡_ {A = ℕ} 0 1 = cc in omega arith)
 opened-at wants.StartTime told i e = absurd (let z : _≡_ {A = ℕ} 0 1 = cc in omega arith)
 opened-at wants.DefaultNamespace told i e = absurd (let z : _≡_ {A = ℕ} 0 1 = cc in omega arith)
@@ -93,7 +93,7 @@ opened-at wants.AttributeType told i e = i .opened
 opened-at wants.Value told i e = i .opened
 opened-at wants.Nothing told i e = absurd (let z : _≡_ {A = ℕ} 0 1 = cc in omega arith)
 
-module _ {buffer lent : List ℕ} {told : Told} (now : Stand buffer lent told) where
+module _ {buffer lent : List ℕ} {told : Account} (now : Stand buffer lent told) where
   -- The layout that an open row's number names is the row's.
   row-here : (i : Shape wants.Value (now .at) (now .done) told) → rowLayout (stateAt (now .done) (now .at)) (now .done ++ rest now) (now .at .book) ≡ some (i .l)
   row-here i =

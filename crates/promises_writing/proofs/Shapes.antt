@@ -21,13 +21,13 @@ use Rattle.writer.specs.declared.Wanted.the-variants as wants
 use Rattle.writer.specs.Writer.{Call, recorder, startTime, defaultNamespace, namespaceCount, uri, serviceCount, openLayout, typeName, attributeCount, attributeName, openRow, Written, room, rule, sameTurn, Deed, put}
 use Rattle.writer.proofs.Bounds.{same-turn, turn-count}
 use Rattle.writer.proofs.Calls.{Passes}
-use Rattle.promises_writing.specs.Promise.{each, namespaceCalls, serviceCalls, attributeCalls, fieldCalls, itemCalls, headerCalls, callsOf, bookBehind, Told}
+use Rattle.promises_writing.specs.Promise.{each, namespaceCalls, serviceCalls, attributeCalls, fieldCalls, itemCalls, headerCalls, callsOf, bookBehind, Account}
 use Rattle.promises_writing.proofs.Standing.{Spot, spot, stateAt, standing, leftAt, drop-on, put-leaves}
 use Rattle.promises_writing.proofs.WritesHeader.{room-long}
 use Rattle.promises_writing.proofs.Put.{octetsOf}
 
 -- A header as far as it was given, by the calls told; the count of the list being given; the URI whose short name is to come.
-pub record InHeader (calls : Header → ℕ → List ℕ → List Call) (Counts : Header → ℕ → Type 0) (x : Spot) (done : List ℕ) (told : Told) : Type 0 where
+pub record InHeader (calls : Header → ℕ → List ℕ → List Call) (Counts : Header → ℕ → Type 0) (x : Spot) (done : List ℕ) (told : Account) : Type 0 where
   pub h : Header
   pub n : ℕ
   pub name : List ℕ
@@ -53,14 +53,14 @@ pub record Between (book : Book) (rows : ℕ) (done : List ℕ) (calls : List Ca
   pub rows-is : rows ≡ rowCount items
 
 -- An element that was opened behind them.
-pub record Opened (x : Spot) (done : List ℕ) (told : Told) : Type 0 where
+pub record Opened (x : Spot) (done : List ℕ) (told : Account) : Type 0 where
   pub before : List ℕ
   pub between : Between (x .book) (x .rows) before (told .settled)
   pub start : x .start ≡ length before
   pub is : done ≡ before ++ images octetsOf (told .latest)
 
 -- A layout as far as it was given; the count of its attributes; the attribute's name whose type is to come.
-pub record InLayout (calls : Layout → ℕ → List ℕ → List Call) (Counts : Layout → ℕ → Type 0) (x : Spot) (done : List ℕ) (told : Told) : Type 0 where
+pub record InLayout (calls : Layout → ℕ → List ℕ → List Call) (Counts : Layout → ℕ → Type 0) (x : Spot) (done : List ℕ) (told : Account) : Type 0 where
   pub opened : Opened x done told
   pub l : Layout
   pub n : ℕ
@@ -71,7 +71,7 @@ pub record InLayout (calls : Layout → ℕ → List ℕ → List Call) (Counts 
   pub said : told .latest ≡ calls l n name
 
 -- A row as far as it was given.
-pub record InRow (x : Spot) (done : List ℕ) (told : Told) : Type 0 where
+pub record InRow (x : Spot) (done : List ℕ) (told : Account) : Type 0 where
   pub opened : Opened x done told
   pub r : Row
   pub l : Layout
@@ -82,7 +82,7 @@ pub record InRow (x : Spot) (done : List ℕ) (told : Told) : Type 0 where
   pub said : told .latest ≡ (openRow (r .number) (r .is-stated) ∷ []) ++ each fieldCalls (r .fields)
 
 -- A document, whole.
-pub record Ended (x : Spot) (done : List ℕ) (told : Told) : Type 0 where
+pub record Ended (x : Spot) (done : List ℕ) (told : Account) : Type 0 where
   pub d : Document
   pub good : Good d
   pub is : done ≡ image d
@@ -101,7 +101,7 @@ abbrev pub attributed : Layout → ℕ → List Call
 attributed l n = (openLayout (l .number) ∷ typeName (l .type-name) ∷ attributeCount n ∷ []) ++ each attributeCalls (l .attributes)
 
 -- What stands at each turn.
-abbrev pub Shape : Wanted → Spot → List ℕ → Told → Type 0
+abbrev pub Shape : Wanted → Spot → List ℕ → Account → Type 0
 Shape wants.Recorder x = InHeader (λ h n name. []) (λ h n. Unit {0}) x
 Shape wants.StartTime x = InHeader (λ h n name. recorder (h .recorder) ∷ []) (λ h n. Unit {0}) x
 Shape wants.DefaultNamespace x = InHeader (λ h n name. recorder (h .recorder) ∷ startTime (h .start) ∷ []) (λ h n. Unit {0}) x
@@ -120,21 +120,21 @@ Shape wants.Value x = InRow x
 Shape wants.Nothing x = Ended x
 
 -- All that stands over a buffer and a lent book, where so much was told. The buffer is as lent, but that it has zeroes where an element was given up.
-pub record Stand (buffer lent : List ℕ) (told : Told) : Type 0 where
+pub record Stand (buffer lent : List ℕ) (told : Account) : Type 0 where
   pub done : List ℕ
   pub at : Spot
   pub inside : length done ≤ length buffer
   pub good : GoodBook (at .book)
   pub shape : Shape (at .turn) at done told
 
-abbrev pub rest : {buffer lent : List ℕ} {told : Told} → Stand buffer lent told → List ℕ
+abbrev pub rest : {buffer lent : List ℕ} {told : Account} → Stand buffer lent told → List ℕ
 rest {buffer} now = drop (length (now .done)) buffer
 
-abbrev pub written : {buffer lent : List ℕ} {told : Told} → Stand buffer lent told → Written
+abbrev pub written : {buffer lent : List ℕ} {told : Account} → Stand buffer lent told → Written
 written {lent = lent} now = standing lent (now .done) (rest now) (now .at)
 
 -- What is kept from call to call.
-pub record Inv (buffer lent : List ℕ) (told : Told) (w : Written) : Type 0 where
+pub record Inv (buffer lent : List ℕ) (told : Account) (w : Written) : Type 0 where
   pub stand : Stand buffer lent told
   pub is : w ≡ written stand
 
@@ -142,7 +142,7 @@ pub room-small : (size : ℕ) → room size ≤ longest
 unfolding room
 room-small size = omega arith
 
-module _ {buffer lent : List ℕ} {told : Told} (now : Stand buffer lent told) where
+module _ {buffer lent : List ℕ} {told : Account} (now : Stand buffer lent told) where
   -- What a deed has to pass here, and what it leaves.
   abbrev pub PassesHere : Deed → Type 0
   PassesHere d = Passes (stateAt (now .done) (now .at)) (now .done ++ rest now) (length (bookImage (now .at .book))) (now .at .book) d
@@ -151,7 +151,7 @@ module _ {buffer lent : List ℕ} {told : Told} (now : Stand buffer lent told) w
   leftHere d = leftAt lent (now .done) (rest now) (now .at) d
 
   -- What stands where octets were put that fit: the place moves behind them, and what lay there is covered.
-  pub put-stand : (next : Told) (xs : List ℕ) (y : Spot) → length (now .done) + length xs ≤ room (length (now .done ++ rest now)) → GoodBook (y .book) → Shape (y .turn) y (now .done ++ xs) next
+  pub put-stand : (next : Account) (xs : List ℕ) (y : Spot) → length (now .done) + length xs ≤ room (length (now .done ++ rest now)) → GoodBook (y .book) → Shape (y .turn) y (now .done ++ xs) next
       → (stand : Stand buffer lent next) × (standing lent (now .done ++ xs) (drop (length xs) (rest now)) y ≡ written stand)
   put-stand next xs y fits good shape =
       let size = length-append (now .done) (rest now) in
@@ -172,7 +172,7 @@ module _ {buffer lent : List ℕ} {told : Told} (now : Stand buffer lent told) w
   here t e = subst (λ (v : Wanted). Shape v (now .at) (now .done) told) (same-turn (now .at .turn) t e) (now .shape)
 
   -- A call that puts octets, by what stands at its turn.
-  pub put-keeps : (next : Told) (t u : Wanted) (fault : Fault) (xs : List ℕ) (j i : ℕ) → PassesHere (put (stateAt (now .done) (now .at)) t fault xs u j i)
+  pub put-keeps : (next : Account) (t u : Wanted) (fault : Fault) (xs : List ℕ) (j i : ℕ) → PassesHere (put (stateAt (now .done) (now .at)) t fault xs u j i)
       → (Shape t (now .at) (now .done) told → rule t .least ≤ now .at .count → length xs ≤ longest
       → Shape u (spot (now .at .book) u j i (now .at .rows)) (now .done ++ xs) next)
       → Inv buffer lent next (leftHere (put (stateAt (now .done) (now .at)) t fault xs u j i))

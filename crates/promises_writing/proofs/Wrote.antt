@@ -23,7 +23,7 @@ use Rattle.promises.proofs.Documents.{one-meaning}
 use Rattle.writer.specs.declared.Wanted.{Wanted}
 use Rattle.writer.specs.declared.Wanted.the-variants as wants
 use Rattle.writer.specs.Writer.{Call, recorder, startTime, defaultNamespace, namespaceCount, uri, shortName, serviceCount, service, documentId, openLayout, typeName, attributeCount, attributeName, attributeType, openRow, value, closeRow, giveUp, finish, Written, Deed, does, call, runCalls}
-use Rattle.promises_writing.specs.Promise.{bookBehind, onto, begun, finished, Given, Bearing, more, opening, back, bearing, Told, nothing-told, tell, tellAll, keptCalls, Run, Forward, fartherAs, farther, answering, goesOn, begins, ran, cleared, Going, Wrote}
+use Rattle.promises_writing.specs.Promise.{bookBehind, onto, begun, finished, Given, Bearing, more, opening, back, bearing, Account, nothing-told, tell, tellAll, keptCalls, Run, Forward, fartherAs, farther, answering, goesOn, begins, ran, cleared, Going, Wrote}
 use Rattle.writer.proofs.Calls.{passed-all}
 use Rattle.promises_writing.proofs.Calls.{Runs, runs-both, runs-none, runs-one}
 use Rattle.promises_writing.proofs.Standing.{Spot, spot, stateAt, standing, onto-length}
@@ -69,23 +69,23 @@ clears buffer far place start h = go (leb far place) refl
         (append-assoc (replicate (place - start) 0) (replicate (far - place) 0) (drop far buffer))
 
 -- One call more told.
-tell-snoc : (t : Told) (cs : List Call) (c : Call) → tellAll t (cs ++ c ∷ []) ≡ tell (tellAll t cs) c
+tell-snoc : (t : Account) (cs : List Call) (c : Call) → tellAll t (cs ++ c ∷ []) ≡ tell (tellAll t cs) c
 tell-snoc t [] c = refl
 tell-snoc t (d ∷ cs) c = tell-snoc (tell t d) cs c
 
 module _ (buffer lent : List ℕ) (long : bookRoom ≤ length lent) where
   -- What stands, over the buffer with zeroes as far as the farthest place from which an element was given up.
-  record Held (told : Told) (far : ℕ) (w : Written) : Type 0 where
+  record Held (told : Account) (far : ℕ) (w : Written) : Type 0 where
     low : far ≤ length buffer
     inv : Inv (cleared buffer far) lent told w
 
-  module _ {so-far : Told} {far : ℕ} (low : far ≤ length buffer) (now : Stand (cleared buffer far) lent so-far) where
+  module _ {so-far : Account} {far : ℕ} (low : far ≤ length buffer) (now : Stand (cleared buffer far) lent so-far) where
     -- What a call is here, and what it leaves.
     abbrev deed : Call → Deed
     deed c = does (stateAt (now .done) (now .at)) (now .done ++ rest now) (now .at .book) c
 
     -- A call that gives nothing up leaves the farthest place.
-    same-far : {told : Told} {w : Written} → Inv (cleared buffer far) lent told w → Held told far w
+    same-far : {told : Account} {w : Written} → Inv (cleared buffer far) lent told w → Held told far w
     same-far i = record { low = low; inv = i }
 
     given-up : PassesHere now (deed giveUp) → Held (tell so-far giveUp) (max far (length (now .done))) (leftHere now (deed giveUp))
@@ -124,7 +124,7 @@ module _ (buffer lent : List ℕ) (long : bookRoom ≤ length lent) where
     keep (finish n) g p = same-far (keep-finish now n g p)
 
   -- One call that is accepted.
-  call-keeps : (so-far : Told) (far : ℕ) (w : Written) (c : Call) → Held so-far far w → Given c → {v : Written} {n : ℕ}
+  call-keeps : (so-far : Account) (far : ℕ) (w : Written) (c : Call) → Held so-far far w → Given c → {v : Written} {n : ℕ}
       → call (w .state) (w .buffer) (w .book) (w .used) c ≡ ok v n → Held (tell so-far c) (farther far (w .state) c) v
   call-keeps so-far far w c h g {v} {n} e =
       let i = h .inv in
@@ -147,7 +147,7 @@ module _ (buffer lent : List ℕ) (long : bookRoom ≤ length lent) where
       go (ok v n) e =
           let held : Held (tell (tellAll nothing-told (r .accepted)) c) (farther (r .farthest) (r .now .state) c) v = call-keeps _ (r .farthest) (r .now) c (k .held) g e in
           record {
-            held = subst (λ (t : Told). Held t (farther (r .farthest) (r .now .state) c) v) (sym (tell-snoc nothing-told (r .accepted) c)) held;
+            held = subst (λ (t : Account). Held t (farther (r .farthest) (r .now .state) c) v) (sym (tell-snoc nothing-told (r .accepted) c)) held;
             runs = runs-both (k .runs) (runs-one c (r .now) e);
           }
       go (no n p) e = k
@@ -232,7 +232,7 @@ module _ (calls : List Call) (given : Each Given calls) (buffer book : List ℕ)
       let r : Run = ran calls buffer book in
       let i = kept buffer book long calls given .held .inv in
       let now = i .stand in
-      let all : Told = tellAll nothing-told (r .accepted) in
+      let all : Account = tellAll nothing-told (r .accepted) in
       let turn : now .at .turn ≡ wants.Nothing = sym (ap (λ (x : Written). x .state .turn) (i .is)) ∙ last in
       let end : Ended (now .at) (now .done) all = subst (λ (t : Wanted). Shape t (now .at) (now .done) all) turn (now .shape) in
       record {

@@ -137,31 +137,31 @@ abbrev pub Forward : Call → Type 0
 Forward c = bearing c ≡ back → ⊥
 
 -- What was told: the calls before the layout or row that was opened last, and those from its opening on.
-pub record Told : Type 0 where
+pub record Account : Type 0 where
   pub settled : List Call
   pub latest : List Call
 
-abbrev pub adds : Told → Call → Told
+abbrev pub adds : Account → Call → Account
 adds t c = record { settled = t .settled; latest = t .latest ++ c ∷ [] }
 
-abbrev pub opens : Told → Call → Told
+abbrev pub opens : Account → Call → Account
 opens t c = record { settled = t .settled ++ t .latest; latest = c ∷ [] }
 
 -- One call more. Giving up takes back all from the opening on.
-abbrev pub tellAs : Bearing → Told → Call → Told
+abbrev pub tellAs : Bearing → Account → Call → Account
 tellAs more t c = adds t c
 tellAs opening t c = opens t c
 tellAs back t c = record { settled = t .settled; latest = [] }
 
-abbrev pub tell : Told → Call → Told
+abbrev pub tell : Account → Call → Account
 tell t c = tellAs (bearing c) t c
 
-abbrev pub tellAll : Told → List Call → Told
+abbrev pub tellAll : Account → List Call → Account
 tellAll t [] = t
 tellAll t (c ∷ rest) = tellAll (tell t c) rest
 
 -- Before any call.
-abbrev pub nothing-told : Told
+abbrev pub nothing-told : Account
 nothing-told = record { settled = []; latest = [] }
 
 -- The calls without those of a layout or row that was given up.
