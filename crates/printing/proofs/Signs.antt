@@ -9,7 +9,7 @@ use lib.Signed.{leZ}
 use mir.Syntax.{w64}
 use mir.Val.{Fits, SFits, toZ, ofZ}
 use mir.Facts.{toZ-ofZ}
-use Rattle.kinds.proofs.Unsigned.{known, below-is}
+use Rattle.kinds.proofs.Unsigned.{under, below-is}
 use Rattle.printing.specs.Text.{spelt, decimal, signed}
 
 from-0 : (z : ℤ) → leZ (pos 0) z ≡ true → decimal (natAbs z) ≡ signed z
@@ -22,7 +22,7 @@ module _ (v : ℤ) (f : SFits w64 v) where
 
   module _ (t : leZ (pos 0) (toZ w64 (ofZ w64 v)) ≡ false) where
     pub below-next : Fits w64 (natAbs (toZ w64 (ofZ w64 (negsuc 0 -ℤ toZ w64 (ofZ w64 v)))) + 1)
-    below-next = subst (λ (z : ℤ). Fits w64 (natAbs z + 1)) (sym (below-is w64 v f t)) (record { fits = omega (arith, known w64 v f t .small) })
+    below-next = subst (λ (z : ℤ). Fits w64 (natAbs z + 1)) (sym (below-is w64 v f t)) (record { fits = omega (arith, under w64 v f t .small) })
 
     pub below-text : spelt "-" ++ decimal (natAbs (toZ w64 (ofZ w64 (negsuc 0 -ℤ toZ w64 (ofZ w64 v)))) + 1) ≡ signed v
-    below-text = ap (λ (z : ℤ). spelt "-" ++ decimal (natAbs z + 1)) (below-is w64 v f t) ∙ ap signed (sym (known w64 v f t .is))
+    below-text = ap (λ (z : ℤ). spelt "-" ++ decimal (natAbs z + 1)) (below-is w64 v f t) ∙ ap signed (sym (under w64 v f t .is))

@@ -64,7 +64,7 @@ module _ {ns : List ℕ} where
   kind-only : In ns 9 → In ns 8 → (at t next : ℕ) → Only ns (kindOf at t next)
   kind-only nine eight at t next = only-choose (leb (2 ^ 31) t) _ _ (given 9 at nine) (only-choose (ltb t 0x10000) _ _ (go (basicOf (t % 256))) (given 8 at eight))
     where
-      go : (o : Option Basic) → Only ns (kinds.known at t next o)
+      go : (o : Option Basic) → Only ns (kinds.kindFor at t next o)
       go (some b) = taken _ next
       go none = given 8 at eight
 
