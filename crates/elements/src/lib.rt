@@ -157,7 +157,7 @@ fn layout_step<'d, 's>(
     }
 }
 
-// One element at any place, by where the number behind its kind was looked up among the layouts of a book, which stand in other octets.
+// One element, by where the number behind its kind was looked up among the layouts of a book, which stand in other octets.
 pub fn element_over<'d, 's>(
     doc: &'d [u8],
     at: usize,
@@ -166,12 +166,9 @@ pub fn element_over<'d, 's>(
     looked: Looked,
     used: usize,
 ) -> Stepping
-    requires { ⌜ (length (now doc) ≤ longest) × (rows ≤ mostRows) × (length (now s) ≤ longest) × (used ≤ bookRoom) × Stood (now s) looked ⌝ }
+    requires { ⌜ (at ≤ length (now doc)) × (length (now doc) ≤ longest) × (rows ≤ mostRows) × (length (now s) ≤ longest) × (used ≤ bookRoom) × Stood (now s) looked ⌝ }
     ensures { λ r. ⌜ ((b : Book) → Over (now (doc .entry)) (at + 4) (now (s .entry)) looked used b → r ≡ tells (elementAt (now (doc .entry)) at rows b)) ⌝ }
 {
-    if doc.len() < at {
-        return Stepping::Refused(1, at);
-    }
     if doc.len() < at + 4 {
         return Stepping::Refused(1, at);
     }
@@ -190,12 +187,9 @@ pub fn element_over<'d, 's>(
 
 // The number behind the kind at a place; 0 where the document ends before it.
 pub fn number_behind(doc: &[u8], at: usize) -> u32
-    requires { ⌜ length (now doc) ≤ longest ⌝ }
+    requires { ⌜ (at ≤ length (now doc)) × (length (now doc) ≤ longest) ⌝ }
     ensures { λ r. ⌜ (at + 4 + 4 ≤ length (now (doc .entry)) → r ≡ be 4 (now (doc .entry)) (at + 4)) × (length (now (doc .entry)) < at + 4 + 4 → r ≡ 0) ⌝ }
 {
-    if doc.len() < at {
-        return 0;
-    }
     if doc.len() < at + 8 {
         return 0;
     }
@@ -222,6 +216,9 @@ pub fn element<'d, 'b>(
     requires { ⌜ (length (now doc) ≤ longest) × (rows ≤ mostRows) × IsBook (now book) used ⌝ }
     ensures { λ r. ⌜ (r ≡ tells (elementAt (now (doc .entry)) at rows (bookIn (now (book .entry)) used))) × (now (book .exit) ≡ octetsLeft (now (book .entry)) (elementAt (now (doc .entry)) at rows (bookIn (now (book .entry)) used))) ⌝ }
 {
+    if doc.len() < at {
+        return Stepping::Refused(1, at);
+    }
     let looked = layouts::look_in(&book[..used], number_behind(doc, at));
     let one = element_over(doc, at, rows, &book[..used], looked, used);
     match one {

@@ -1,10 +1,9 @@
 -- Where the strings of an accepted header stand: item n of a list behind the items before it, and the places of both counts from the lengths of what stands before them.
-use Prim.Native.Nat.{ℕ, _+_, _*_, _≤_}
+use Prim.Native.Nat.{ℕ, _+_, _≤_}
 use mathlib.Core.Path.{_≡_, refl, sym, ap, _∙_, subst}
 use mathlib.Core.List.{List}
 use mathlib.Core.Bool.{Bool, true, false}
 use native.Mathlib.Omega.{arith}
-use native.Mathlib.Nat.{mul-one}
 use lib.ListN.{length}
 use lib.Dec.{leb}
 use borrow.Author.Tests.{leb-true, leb-false}
@@ -17,20 +16,18 @@ use Rattle.octets.specs.declared.Ended.{Ended}
 use Rattle.octets.specs.declared.Ended.the-variants.{End, Refused}
 use Rattle.octets.proofs.Inverse.{several, chosen, after}
 use Rattle.octets.proofs.Fields.{text-whole}
-use Rattle.octets.proofs.Ends.{text-room, exactly-place}
+use Rattle.octets.proofs.Ends.{text-room, exactly-place, run-ends}
 use Rattle.octets.proofs.Runs.{Item, run-item}
 use Rattle.octets.proofs.Asked.{part-stands, nth-none, nth-some, number-is}
 use Rattle.headers.specs.Header.{Namespace, Header, namespaceAt, idAt, headerAt, namespaceImage}
-use Rattle.headers.specs.Answers.{Located, Accepted}
+use Rattle.headers.specs.Answers.{itemEnd, Located, Accepted}
 use Rattle.headers.specs.declared.Places.{Places}
-use Rattle.headers.proofs.Headers.{namespace-inverse, header-forth}
-use Rattle.headers.proofs.Parts.{namespaces-texts}
+use Rattle.headers.proofs.Headers.{namespace-inverse}
 use Rattle.header_questions.specs.Questions.{namespacesPlace, servicesPlace, namespaceAsked, serviceAsked}
 use Rattle.header_questions.specs.Places.{listedAt, ItemStands, IsText}
 
--- Item n of a list, where the strings before it end.
-module _ {A : Type 0} (s : List ℕ) (short : length s ≤ longest) (one : ℕ → Read A) (each : ℕ)
-    (alike : (k m : ℕ) → ends (run one k m) ≡ ends (run (text s) (k * each) m)) (items : List A) (at end : ℕ)
+-- Item n of a list, where the items before it end.
+module _ {A : Type 0} (s : List ℕ) (short : length s ≤ longest) (one : ℕ → Read A) (items : List A) (at end : ℕ)
     (counts : number 4 s at ≡ ok (length items) (at + 4)) (reads : run one (length items) (at + 4) ≡ ok items end)
     (n next : ℕ) (read : Read A) (is : read ≡ nth n at items next) where
   missing : length items ≤ n → (r : Ended) → says r ≡ no 18 at → StandsAt s one read r
@@ -40,9 +37,9 @@ module _ {A : Type 0} (s : List ℕ) (short : length s ≤ longest) (one : ℕ �
       let b : q ≡ at = cc in
       rw (a, b) (is ∙ nth-none n at items next h)
 
-  there : Item one (at + 4) items n → (r : Ended) → says r ≡ ends (run (text s) (n * each) (at + 4)) → StandsAt s one read r
+  there : Item one (at + 4) items n → (r : Ended) → says r ≡ ends (run (λ p. ends (one p)) n (at + 4)) → StandsAt s one read r
   there i (End p) e =
-      let stop : _≡_ {A = Read ℕ} (ok p p) (ok (i .place) (i .place)) = e ∙ (sym (alike n (at + 4)) ∙ i .before) in
+      let stop : _≡_ {A = Read ℕ} (ok p p) (ok (i .place) (i .place)) = e ∙ (sym (run-ends one n (at + 4)) ∙ i .before) in
       let place : i .place ≡ p = cc in
       record {
         item = i .item;
@@ -53,14 +50,14 @@ module _ {A : Type 0} (s : List ℕ) (short : length s ≤ longest) (one : ℕ �
         short = short;
       }
   there i (Refused m q) e =
-      let stop : _≡_ {A = Read ℕ} (no m q) (ok (i .place) (i .place)) = e ∙ (sym (alike n (at + 4)) ∙ i .before) in
+      let stop : _≡_ {A = Read ℕ} (no m q) (ok (i .place) (i .place)) = e ∙ (sym (run-ends one n (at + 4)) ∙ i .before) in
       absurd (let z : _≡_ {A = ℕ} 0 1 = cc in omega arith)
 
-  pub listed-stands : (r : Ended) → says r ≡ listedAt each s at n → StandsAt s one read r
+  pub listed-stands : (r : Ended) → says r ≡ listedAt (λ p. ends (one p)) s at n → StandsAt s one read r
   unfolding listedAt
   listed-stands r e = go (leb (be 4 s at) n) refl e
     where
-      go : (t : Bool) → leb (be 4 s at) n ≡ t → says r ≡ choose t (λ _. no 18 at) (λ _. ends (run (text s) (n * each) (at + 4))) → StandsAt s one read r
+      go : (t : Bool) → leb (be 4 s at) n ≡ t → says r ≡ choose t (λ _. no 18 at) (λ _. ends (run (λ p. ends (one p)) n (at + 4))) → StandsAt s one read r
       go true t e = missing (omega (arith, leb-true (be 4 s at) n t, number-is s 4 at (length items) (at + 4) counts .1)) r e
       go false t e = there (run-item one (length items) (at + 4) end n items reads (omega (arith, leb-false (be 4 s at) n t, number-is s 4 at (length items) (at + 4) counts .1))) r e
 
@@ -85,34 +82,31 @@ module _ (s : List ℕ) (o : Each Octet s) (h : Header) (p : Places) (l : Locate
       several (namespace-inverse s) (length (h .others)) .forth o inside (l .others) .2 .place
       ∙ ap (λ (n : ℕ). n + 4 + length (images namespaceImage (h .others))) namespaces-place
 
--- A list of an accepted header can be looked through: its count stands there, and is at most 16.
-module _ (s : List ℕ) (o : Each Octet s) (p : Places) (h : Accepted s (headerAt s) p) where
-  abbrev Few : ℕ → Type 0
-  Few at = (at + 4 ≤ length s) × (length s ≤ longest) × (be 4 s at ≤ 16)
+-- A list of an accepted header can be looked through: its count stands there.
+module _ (s : List ℕ) (p : Places) (h : Accepted s (headerAt s) p) where
+  abbrev Counts : ℕ → Type 0
+  Counts at = (at + 4 ≤ length s) × (length s ≤ longest)
 
-  few : (at k : ℕ) → number 4 s at ≡ ok k (at + 4) → k ≤ 16 → Few at
-  few at k e most = let (room, is) = number-is s 4 at k (at + 4) e in (room, h .short, omega arith)
+  pub namespaces-count : Counts (p .namespaces)
+  namespaces-count = (number-is s 4 (p .namespaces) _ _ (h .located .namespaces) .0, h .short)
 
-  pub few-namespaces : Few (p .namespaces)
-  few-namespaces = few (p .namespaces) _ (h .located .namespaces) (header-forth s o (h .reads) .0 .few-others)
-
-  pub few-services : Few (p .services)
-  few-services = few (p .services) _ (h .located .counted) (header-forth s o (h .reads) .0 .few-services)
+  pub services-count : Counts (p .services)
+  services-count = (number-is s 4 (p .services) _ _ (h .located .counted) .0, h .short)
 
 -- What is asked of an accepted header's lists stands where the code looks.
 module _ (s : List ℕ) (o : Each Octet s) (p : Places) (h : Accepted s (headerAt s) p) (n : ℕ) (r : Ended) where
-  pub namespace-stands : says r ≡ listedAt 2 s (p .namespaces) n → StandsAt s (namespaceAt s) (namespaceAsked s n) r
+  pub namespace-stands : says r ≡ listedAt (itemEnd false s) s (p .namespaces) n → StandsAt s (namespaceAt s) (namespaceAsked s n) r
   unfolding namespaceAsked
   namespace-stands e =
       let l = h .located in
-      listed-stands s (h .short) (namespaceAt s) 2 (namespaces-texts s) (h .header .others) (p .namespaces) (p .services) (l .namespaces) (l .others) n (p .end) _
+      listed-stands s (h .short) (namespaceAt s) (h .header .others) (p .namespaces) (p .services) (l .namespaces) (l .others) n (p .end) _
       (rw (h .reads) (ap (λ (q : ℕ). nth n q (h .header .others) (p .end)) (sym (namespaces-place s o (h .header) p l)))) r e
 
-  pub service-stands : says r ≡ listedAt 1 s (p .services) n → StandsAt s (text s) (serviceAsked s n) r
+  pub service-stands : says r ≡ listedAt (itemEnd true s) s (p .services) n → StandsAt s (text s) (serviceAsked s n) r
   unfolding serviceAsked
   service-stands e =
       let l = h .located in
-      listed-stands s (h .short) (text s) 1 (λ k m. ap (λ (i : ℕ). ends (run (text s) i m)) (sym (mul-one k))) (h .header .services) (p .services) (p .id) (l .counted) (l .services) n (p .end) _
+      listed-stands s (h .short) (text s) (h .header .services) (p .services) (p .id) (l .counted) (l .services) n (p .end) _
       (rw (h .reads) (ap (λ (q : ℕ). nth n q (h .header .services) (p .end)) (sym (services-place s o (h .header) p l)))) r e
 
 pub item-refused : (s : List ℕ) (n m q : ℕ) → headerAt s ≡ no m q → (service : Bool) → ItemStands service s n (Refused m q)

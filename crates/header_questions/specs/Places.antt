@@ -1,5 +1,5 @@
 -- What the inner functions find of a header: where item n of a list stands, and which of its first two strings is meant.
-use Prim.Native.Nat.{ℕ, _+_, _*_, _≤_}
+use Prim.Native.Nat.{ℕ, _+_, _≤_}
 use mathlib.Core.Path.{_≡_}
 use mathlib.Core.List.{List}
 use mathlib.Core.Bool.{Bool, true, false}
@@ -13,9 +13,9 @@ use Rattle.octets.specs.Asked.{StandsAt}
 use Rattle.headers.specs.Header.{Header, namespaceAt}
 use Rattle.header_questions.specs.Questions.{namespaceAsked, serviceAsked}
 
--- The place of item n of a list whose count stands at a place, each item so many strings; 18 at the count.
-unfoldable pub listedAt : ℕ → List ℕ → ℕ → ℕ → Read ℕ
-listedAt each s at n = choose (leb (be 4 s at) n) (λ _. no 18 at) (λ _. ends (run (text s) (n * each) (at + 4)))
+-- The place of item n of a list whose count stands at a place, where the items before it end, one behind another; 18 at the count.
+unfoldable pub listedAt : (ℕ → Read ℕ) → List ℕ → ℕ → ℕ → Read ℕ
+listedAt one s at n = choose (leb (be 4 s at) n) (λ _. no 18 at) (λ _. ends (run one n (at + 4)))
 
 -- Item n of one of the two lists stands where it was found: a service definition, or a namespace.
 abbrev pub ItemStands : Bool → List ℕ → ℕ → Ended → Type 0

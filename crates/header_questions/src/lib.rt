@@ -6,26 +6,27 @@ ghost use mathlib.Core.List.{List};
 ghost use Prim.Native.Nat.{ℕ, _+_, _≤_};
 ghost use lib.ListN.{length};
 ghost use Rattle.octets.specs.Limits.{longest};
-ghost use Rattle.octets.specs.Reading.{be, text};
+ghost use Rattle.octets.specs.Reading.{text};
 ghost use Rattle.octets.specs.Answers.{says};
 ghost use Rattle.octets.specs.Asked.{refusalOf, partOf, foundAt};
 ghost use Rattle.headers.specs.Header.{headerAt};
+ghost use Rattle.headers.specs.Answers.{itemEnd};
 ghost use Rattle.header_questions.specs.Questions.{namespaceAsked, serviceAsked};
 ghost use Rattle.header_questions.specs.Places.{listedAt, ItemStands, IsText, frontOf};
 use headers::Placing;
 use octets::Ended;
 use octets::Refusal;
 
-// The place of item n of a list of so many strings for each item, whose count stands at a place; 18 at the count where there is none.
-fn listed_at(doc: &[u8], at: usize, n: usize, each: u32) -> Ended
-    requires { ⌜ (at + 4 ≤ length (now doc)) × (length (now doc) ≤ longest) × (be 4 (now doc) at ≤ 16) × (each ≤ 2) ⌝ }
-    ensures { λ r. ⌜ says r ≡ listedAt each (now (doc .entry)) at n ⌝ }
+// The place of item n of a list, whose count stands at a place; 18 at the count where there is none.
+fn listed_at(doc: &[u8], at: usize, n: usize, service: bool) -> Ended
+    requires { ⌜ (at + 4 ≤ length (now doc)) × (length (now doc) ≤ longest) ⌝ }
+    ensures { λ r. ⌜ says r ≡ listedAt (itemEnd service (now (doc .entry))) (now (doc .entry)) at n ⌝ }
 {
     let count = octets::u32_at(doc, at);
     if (count as usize) <= n {
         return Ended::Refused(18, at);
     }
-    headers::texts_end(doc, at + 4, (n as u32) * each)
+    headers::items_end(doc, at + 4, n as u32, service)
 }
 
 // The string where one was found; else nothing.
@@ -48,9 +49,9 @@ fn item_at(doc: &[u8], n: usize, service: bool) -> Ended
         Placing::Refused(m, p) => Ended::Refused(m, p),
         Placing::At(places) => {
             if service {
-                return listed_at(doc, places.services, n, 1);
+                return listed_at(doc, places.services, n, true);
             }
-            listed_at(doc, places.namespaces, n, 2)
+            listed_at(doc, places.namespaces, n, false)
         }
     }
 }

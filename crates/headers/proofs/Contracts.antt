@@ -12,11 +12,11 @@ use Rattle.headers.specs.Answers.{Located, Locates}
 use Rattle.headers.specs.declared.Places.{Places}
 use Rattle.headers.specs.declared.Placing.{Placing}
 use Rattle.headers.specs.declared.Placing.the-variants.{At, Refused}
-use Rattle.headers.proofs.texts_end as texts-end
+use Rattle.headers.proofs.items_end as items-end
 use Rattle.headers.proofs.header_at as header-at
 
 pub record Contracts : Type 0 where
-  pub of-texts-end : Once texts-end.Kinds.ps texts-end.Kinds.r texts-end.Reads.Pre texts-end.Reads.Post
+  pub of-items-end : Once items-end.Kinds.ps items-end.Kinds.r items-end.Reads.Pre items-end.Reads.Post
   pub of-header-at : Settled header-at.Kinds.ps header-at.Kinds.r header-at.Reads.Pre header-at.Reads.Post
 
 -- The places of one header's fields are settled, one after another.
@@ -42,6 +42,6 @@ locates-once s read (Refused n p) (Refused m q) e f = cc
 pub contracts : Contracts
 contracts =
     record {
-      of-texts-end = λ κs a p x y u v e f. (says-once x y (e .0 ∙ sym (f .0)), refl);
+      of-items-end = λ κs a p x y u v e f. (says-once x y (e .0 ∙ sym (f .0)), refl);
       of-header-at = (λ κs a. tt, λ κs a p x y u v e f. (locates-once _ _ x y e f, refl));
     }

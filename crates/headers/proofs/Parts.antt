@@ -1,19 +1,19 @@
--- The equations of a header under the limit, of the document id, of the two lists as runs of strings, and of a whole header by its parts.
-use Prim.Native.Nat.{ℕ, zero, suc, _+_, _*_, _≤_, _<_}
+-- The equations of a header under the limit, of the document id, of the two lists by the ends of their items, and of a whole header by its parts.
+use Prim.Native.Nat.{ℕ, _+_, _≤_, _<_}
 use mathlib.Core.Path.{_≡_, refl, sym, ap, _∙_, subst}
 use mathlib.Core.List.{List}
+use mathlib.Core.Bool.{Bool, true, false}
 use native.Mathlib.Omega.{arith}
-use native.Mathlib.Nat.{zero-mul, mul-one}
 use lib.ListN.{length}
 use lib.Dec.{leb}
 use borrow.Author.Tests.{le-leb, lt-leb}
 use Rattle.octets.specs.Limits.{longest, mostListed}
 use Rattle.octets.specs.Reading.{Read, ok, no, _then_, choose, ends, part, number, text, count, exactly, run}
 use Rattle.octets.proofs.Inverse.{after, chosen}
-use Rattle.octets.proofs.Ends.{stop, stop-both, ended, run-on, run-stop, run-none, count-is, exactly-place, number-place}
+use Rattle.octets.proofs.Ends.{on, made, stop, stop-both, ended, run-ends, count-is, exactly-place, number-place}
 use Rattle.octets.proofs.Runs.{run-length}
 use Rattle.headers.specs.Header.{namespaceAt, idAt, headerFrom, headerAt}
-use Rattle.headers.specs.Answers.{Accepted}
+use Rattle.headers.specs.Answers.{itemEnd, Accepted}
 
 -- The header of a document, too long or not.
 module _ (s : List ℕ) where
@@ -51,43 +51,27 @@ module _ (s : List ℕ) (at : ℕ) where
       let q : mid + 16 ≡ next = cc in
       omega arith
 
--- One namespace is two strings, so that k of them end where 2k strings do.
+-- An item of a list by its strings: refused as the first, and a namespace behind it ends as the second.
+module _ (s : List ℕ) (at : ℕ) where
+  pub item-stop : (service : Bool) (n p : ℕ) → ends (text s at) ≡ no n p → itemEnd service s at ≡ no n p
+  unfolding namespaceAt
+  item-stop true n p e = e
+  item-stop false n p e = stop (text s at) _ n p e
+
+  pub namespace-on : (next : ℕ) → ends (text s at) ≡ ok next next → itemEnd false s at ≡ ends (text s next)
+  unfolding namespaceAt
+  namespace-on next e = on (text s at) _ (λ m. ends (text s m)) next (λ uri m. made (text s m) _) e
+
 module _ (s : List ℕ) where
-  abbrev Alike : ℕ → ℕ → ℕ → Type 0
-  Alike k n at = ends (run (namespaceAt s) k at) ≡ ends (run (text s) n at)
-
-  second : (k at next : ℕ) (uri : List ℕ) → ((m : ℕ) → Alike k (k * 2) m) → text s at ≡ ok uri next → (q : Read (List ℕ)) → text s next ≡ q
-      → Alike (suc k) (suc (suc (k * 2))) at
-  unfolding namespaceAt
-  second k at next uri again e (ok short end) f =
-      run-on (namespaceAt s) at k end (rw (e, f) refl)
-      ∙ (again end ∙ sym (run-on (text s) at (suc (k * 2)) next (ap ends e) ∙ run-on (text s) next (k * 2) end (ap ends f)))
-  second k at next uri again e (no n p) f =
-      run-stop (namespaceAt s) at k n p (rw (e, f) refl)
-      ∙ sym (run-on (text s) at (suc (k * 2)) next (ap ends e) ∙ run-stop (text s) next (k * 2) n p (ap ends f))
-
-  first : (k at : ℕ) → ((m : ℕ) → Alike k (k * 2) m) → (r : Read (List ℕ)) → text s at ≡ r → Alike (suc k) (suc (suc (k * 2))) at
-  unfolding namespaceAt
-  first k at again (ok uri next) e = second k at next uri again e (text s next) refl
-  first k at again (no n p) e = run-stop (namespaceAt s) at k n p (rw e refl) ∙ sym (run-stop (text s) at (suc (k * 2)) n p (ap ends e))
-
-  pub namespaces-texts : (k at : ℕ) → Alike k (k * 2) at
-  namespaces-texts zero at = run-none (namespaceAt s) at ∙ rw (zero-mul 2) (sym (run-none (text s) at))
-  namespaces-texts (suc k) at =
-      first k at (namespaces-texts k) (text s at) refl ∙ ap (λ (n : ℕ). ends (run (text s) n at)) (twice k)
-    where
-      twice : (k : ℕ) → suc (suc (k * 2)) ≡ suc k * 2
-      twice k = omega arith
-
-  -- The parts as the code reads them. A list is a count and strings.
+  -- The parts as the code reads them. A list is a count and items.
   abbrev pub recorderRead : Read (List ℕ)
   recorderRead = exactly 4 3 s 0 then λ _ next. text s next
 
   abbrev pub defaultRead : ℕ → Read (List ℕ)
   defaultRead at = number 8 s at then λ _ next. text s next
 
-  abbrev pub listRead : ℕ → ℕ → Read (List (List ℕ))
-  listRead at each = count mostListed s at then λ k next. run (text s) (k * each) next
+  abbrev pub listRead : Bool → ℕ → Read (List ℕ)
+  listRead service at = count mostListed s at then λ k next. run (itemEnd service s) k next
 
   abbrev closeRead : ℕ → Read ℕ
   closeRead at = idAt s at then λ _ next. exactly 0xffffffff 6 s next
@@ -129,16 +113,19 @@ module _ (s : List ℕ) where
     number : number 4 s at ≡ ok (length items) (at + 4)
     reads : run one (length items) (at + 4) ≡ ok items end
 
-  -- So many items of a list end where so many strings for each do.
-  module _ {A : Type 0} (one : ℕ → Read A) (each : ℕ) (alike : (k at : ℕ) → ends (run one k at) ≡ ends (run (text s) (k * each) at)) (at : ℕ) where
-    list-alike : ends (count mostListed s at then λ k next. run one k next) ≡ ends (listRead at each)
+  -- A list ends where the ends of its items do.
+  module _ {A : Type 0} (one : ℕ → Read A) (at : ℕ) where
+    abbrev ended-list : Read (List ℕ)
+    ended-list = count mostListed s at then λ k next. run (λ p. ends (one p)) k next
+
+    list-alike : ends (count mostListed s at then λ k next. run one k next) ≡ ends ended-list
     list-alike = go (count mostListed s at)
       where
-        go : (r : Read ℕ) → ends (r then λ k next. run one k next) ≡ ends (r then λ k next. run (text s) (k * each) next)
-        go (ok k next) = alike k next
+        go : (r : Read ℕ) → ends (r then λ k next. run one k next) ≡ ends (r then λ k next. run (λ p. ends (one p)) k next)
+        go (ok k next) = run-ends one k next
         go (no n p) = refl
 
-    listed : (end : ℕ) → ok end end ≡ ends (listRead at each) → Listed one at end
+    listed : (end : ℕ) → ok end end ≡ ends ended-list → Listed one at end
     listed end e =
         let (xs, f) = ended (count mostListed s at then λ k next. run one k next) end (list-alike ∙ sym e) in
         after (count mostListed s at) _ f λ k next e₁ e₂.
@@ -150,9 +137,6 @@ module _ (s : List ℕ) where
           number = c .2 ∙ ap (λ (n : ℕ). ok n (at + 4)) long;
           reads = subst (λ (p : ℕ). run one (length xs) p ≡ ok xs end) (c .1) (subst (λ (n : ℕ). run one n next ≡ ok xs end) long e₂);
         }
-
-  services-texts : (k at : ℕ) → ends (run (text s) k at) ≡ ends (run (text s) (k * 1) at)
-  services-texts k at = ap (λ (n : ℕ). ends (run (text s) n at)) (sym (mul-one k))
 
   -- A header is refused where the first of its parts is, each behind those that were read.
   pub refused-recorder : (n p : ℕ) → no n p ≡ ends recorderRead → headerFrom s 0 ≡ no n p
@@ -171,23 +155,23 @@ module _ (s : List ℕ) where
       f : Fronted start namespaces
       f = front start namespaces recorded named
 
-      pub refused-namespaces : (n p : ℕ) → no n p ≡ ends (listRead namespaces 2) → headerFrom s 0 ≡ no n p
+      pub refused-namespaces : (n p : ℕ) → no n p ≡ ends (listRead false namespaces) → headerFrom s 0 ≡ no n p
       unfolding headerFrom
       refused-namespaces n p e =
-          rw (f .is-four, f .records, f .starts, f .defaults) (stop-both (count mostListed s namespaces) _ _ n p (list-alike (namespaceAt s) 2 namespaces-texts namespaces ∙ sym e))
+          rw (f .is-four, f .records, f .starts, f .defaults) (stop-both (count mostListed s namespaces) _ _ n p (list-alike (namespaceAt s) namespaces ∙ sym e))
 
-      module _ (services : ℕ) (spaced : ok services services ≡ ends (listRead namespaces 2)) where
+      module _ (services : ℕ) (spaced : ok services services ≡ ends (listRead false namespaces)) where
         l : Listed (namespaceAt s) namespaces services
-        l = listed (namespaceAt s) 2 namespaces-texts namespaces services spaced
+        l = listed (namespaceAt s) namespaces services spaced
 
-        pub refused-services : (n p : ℕ) → no n p ≡ ends (listRead services 1) → headerFrom s 0 ≡ no n p
+        pub refused-services : (n p : ℕ) → no n p ≡ ends (listRead true services) → headerFrom s 0 ≡ no n p
         unfolding headerFrom
         refused-services n p e =
-            rw (f .is-four, f .records, f .starts, f .defaults, l .counts, l .reads) (stop-both (count mostListed s services) _ _ n p (list-alike (text s) 1 services-texts services ∙ sym e))
+            rw (f .is-four, f .records, f .starts, f .defaults, l .counts, l .reads) (stop-both (count mostListed s services) _ _ n p (list-alike (text s) services ∙ sym e))
 
-        module _ (id : ℕ) (served : ok id id ≡ ends (listRead services 1)) where
+        module _ (id : ℕ) (served : ok id id ≡ ends (listRead true services)) where
           m : Listed (text s) services id
-          m = listed (text s) 1 services-texts services id served
+          m = listed (text s) services id served
 
           pub refused-close : (n p : ℕ) → no n p ≡ ends (closeRead id) → headerFrom s 0 ≡ no n p
           unfolding headerFrom

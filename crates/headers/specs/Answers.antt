@@ -2,13 +2,19 @@
 use Prim.Native.Nat.{ℕ, _+_, _≤_}
 use mathlib.Core.Path.{_≡_}
 use mathlib.Core.List.{List}
+use mathlib.Core.Bool.{Bool, true, false}
 use lib.ListN.{length}
 use Rattle.octets.specs.Limits.{longest}
-use Rattle.octets.specs.Reading.{Read, ok, no, number, text, run}
+use Rattle.octets.specs.Reading.{Read, ok, no, ends, number, text, run}
 use Rattle.headers.specs.Header.{Header, namespaceAt, idAt}
 use Rattle.headers.specs.declared.Places.{Places}
 use Rattle.headers.specs.declared.Placing.{Placing}
 use Rattle.headers.specs.declared.Placing.the-variants.{At, Refused}
+
+-- Where an item of a list ends: a service definition, or a namespace.
+abbrev pub itemEnd : Bool → List ℕ → ℕ → Read ℕ
+itemEnd true s = λ at. ends (text s at)
+itemEnd false s = λ at. ends (namespaceAt s at)
 
 -- Where a header's fields stand: each is read from its place, and the next stands behind it.
 pub record Located (s : List ℕ) (h : Header) (p : Places) : Type 0 where

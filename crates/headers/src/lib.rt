@@ -1,13 +1,13 @@
 // The header: the places of its fields, or its refusal. What a header is stands in specs/Header.antt, what is answered of its places in specs/Answers.antt; callers use `header_at`.
 
 ghost use mathlib.Core.Path.{_≡_};
-ghost use Prim.Native.Nat.{_+_, _*_, _≤_};
+ghost use Prim.Native.Nat.{_+_, _≤_};
 ghost use lib.ListN.{length};
 ghost use Rattle.octets.specs.Limits.{longest, mostListed};
 ghost use Rattle.octets.specs.Reading.{ends, _then_, number, text, count, exactly, run};
 ghost use Rattle.octets.specs.Answers.{says, Within};
 ghost use Rattle.headers.specs.Header.{idAt, headerFrom, headerAt};
-ghost use Rattle.headers.specs.Answers.{Locates};
+ghost use Rattle.headers.specs.Answers.{itemEnd, Locates};
 use octets::Counted;
 use octets::Ended;
 use octets::Room;
@@ -54,15 +54,32 @@ fn open_at(s: &[u8], at: usize) -> Ended
     Ended::Refused(6, at)
 }
 
-// The place behind so many strings.
-pub fn texts_end(s: &[u8], at: usize, count: u32) -> Ended
+// The place behind an item of a list: a service definition, which is a string, or a namespace, which is two.
+fn item_end(s: &[u8], at: usize, service: bool) -> Ended
     requires { ⌜ (at ≤ length (now s)) × (length (now s) ≤ longest) ⌝ }
-    ensures { λ r. ⌜ (says r ≡ ends (run (text (now (s .entry))) count at)) × Within at r (length (now (s .entry))) ⌝ }
+    ensures { λ r. ⌜ (says r ≡ itemEnd service (now (s .entry)) at) × Within at r (length (now (s .entry))) ⌝ }
+{
+    let first = octets::led_end(s, at, Room::Document);
+    match first {
+        Ended::Refused(n, p) => Ended::Refused(n, p),
+        Ended::End(next) => {
+            if service {
+                return Ended::End(next);
+            }
+            octets::led_end(s, next, Room::Document)
+        }
+    }
+}
+
+// The place behind so many items of a list.
+pub fn items_end(s: &[u8], at: usize, count: u32, service: bool) -> Ended
+    requires { ⌜ (at ≤ length (now s)) × (length (now s) ≤ longest) ⌝ }
+    ensures { λ r. ⌜ (says r ≡ ends (run (itemEnd service (now (s .entry))) count at)) × Within at r (length (now (s .entry))) ⌝ }
 {
     let mut pos = at;
     let mut i: u32 = 0;
     while i < count {
-        let one = octets::led_end(s, pos, Room::Document);
+        let one = item_end(s, pos, service);
         match one {
             Ended::Refused(n, p) => {
                 return Ended::Refused(n, p);
@@ -76,15 +93,15 @@ pub fn texts_end(s: &[u8], at: usize, count: u32) -> Ended
     Ended::End(pos)
 }
 
-// The place behind a list: its count, at most 16, and so many strings for each of its items.
-fn list_end(s: &[u8], at: usize, each: u32) -> Ended
-    requires { ⌜ (at ≤ length (now s)) × (length (now s) ≤ longest) × (each ≤ 2) ⌝ }
-    ensures { λ r. ⌜ (says r ≡ ends (count mostListed (now (s .entry)) at then λ k next. run (text (now (s .entry))) (k * each) next)) × Within at r (length (now (s .entry))) ⌝ }
+// The place behind a list: its count, at most 16, and its items.
+fn list_end(s: &[u8], at: usize, service: bool) -> Ended
+    requires { ⌜ (at ≤ length (now s)) × (length (now s) ≤ longest) ⌝ }
+    ensures { λ r. ⌜ (says r ≡ ends (count mostListed (now (s .entry)) at then λ k next. run (itemEnd service (now (s .entry))) k next)) × Within at r (length (now (s .entry))) ⌝ }
 {
     let counted = octets::count_at(s, at, octets::MOST_LISTED);
     match counted {
         Counted::Refused(n, p) => Ended::Refused(n, p),
-        Counted::Count(k, next) => texts_end(s, next, k * each),
+        Counted::Count(k, next) => items_end(s, next, k, service),
     }
 }
 
@@ -159,14 +176,14 @@ fn header_places(s: &[u8]) -> Placing
         }
         Ended::End(next) => next,
     };
-    let others = list_end(s, namespaces, 2);
+    let others = list_end(s, namespaces, false);
     let services = match others {
         Ended::Refused(n, p) => {
             return Placing::Refused(n, p);
         }
         Ended::End(next) => next,
     };
-    let listed = list_end(s, services, 1);
+    let listed = list_end(s, services, true);
     let id = match listed {
         Ended::Refused(n, p) => {
             return Placing::Refused(n, p);

@@ -205,6 +205,19 @@ module _ {A : Type 0} (f : ℕ → Read A) (at : ℕ) where
   unfolding run
   run-first k t = first-ok (f at) _ t
 
+-- A run ends where the ends of its things do.
+module _ {A : Type 0} (f : ℕ → Read A) where
+  abbrev Alike : ℕ → ℕ → Type 0
+  Alike k at = ends (run f k at) ≡ ends (run (λ p. ends (f p)) k at)
+
+  next-alike : (k at : ℕ) → ((m : ℕ) → Alike k m) → (r : Read A) → f at ≡ r → Alike (suc k) at
+  next-alike k at again (ok a m) e = run-on f at k m (ap ends e) ∙ (again m ∙ sym (run-on (λ p. ends (f p)) at k m (ap (λ (r : Read A). ends (ends r)) e)))
+  next-alike k at again (no n q) e = run-stop f at k n q (ap ends e) ∙ sym (run-stop (λ p. ends (f p)) at k n q (ap (λ (r : Read A). ends (ends r)) e))
+
+  pub run-ends : (k at : ℕ) → Alike k at
+  run-ends zero at = run-none f at ∙ sym (run-none (λ p. ends (f p)) at)
+  run-ends (suc k) at = next-alike k at (run-ends k) (f at) refl
+
 -- What is behind a place is behind each before it.
 pub behind : (at mid : ℕ) (r : Ended) (n : ℕ) → at ≤ mid → Within mid r n → Within at r n
 behind at mid (End p) n h w = (omega arith, w .1)

@@ -9,12 +9,9 @@ returns : tie.Need-returns
 returns c = (λ h. absurd (omega arith), λ h. refl)
 
 returns-2 : tie.Need-returns-2
-returns-2 c = (λ h. absurd (omega arith), λ h. refl)
-
-returns-3 : tie.Need-returns-3
-returns-3 c = (λ h. c .u32-at .ensures, λ h. absurd (omega arith))
+returns-2 c = (λ h. c .u32-at .ensures, λ h. absurd (omega arith))
 
 pub number-behind-spec : {M : Type 1} → statement M
 number-behind-spec =
     tie.close
-    (tie.spec returns (λ c. search needs) returns-2 (λ c. search needs) (λ c κs. search needs) returns-3)
+    (tie.spec (λ c. search needs) returns (λ c. search needs) (λ c κs. search needs) returns-2)

@@ -1,4 +1,4 @@
--- `header_questions::item_at` meets its contract: the item stands where the strings of its list before it end. Assumes nothing.
+-- `header_questions::item_at` meets its contract: the item stands where the items of its list before it end. Assumes nothing.
 use borrow.Author.Needs.{needs}
 use denote.Ref.{now}
 use mathlib.Core.Path.{_≡_, sym, subst}
@@ -9,7 +9,7 @@ use Rattle.headers.specs.Header.{headerAt}
 use Rattle.headers.specs.Answers.{Accepted, Locates}
 use Rattle.headers.specs.declared.Placing.{Placing}
 use Rattle.header_questions.specs.Places.{ItemStands}
-use Rattle.header_questions.proofs.Lists.{few-namespaces, few-services, namespace-stands, service-stands, item-refused}
+use Rattle.header_questions.proofs.Lists.{namespaces-count, services-count, namespace-stands, service-stands, item-refused}
 use Rattle.header_questions.proofs.item_at.Statement.{statement}
 use Rattle.header_questions.proofs.item_at.Tie as tie
 
@@ -53,5 +53,5 @@ pub item-at-spec : {M : Type 1} → statement M
 item-at-spec =
     tie.close
     (tie.spec (λ c κs. search needs) (λ c. search needs) (λ c. search needs)
-    (λ c κs. let k = c .before in let (room, short, few) = few-services _ (octets k) _ (head k) in (room, short, few, search needs)) returns
-    (λ c κs. let k = c .before in let (room, short, few) = few-namespaces _ (octets k) _ (head k) in (room, short, few, search needs)) returns-2 returns-3)
+    (λ c κs. services-count _ _ (head (c .before))) returns
+    (λ c κs. namespaces-count _ _ (head (c .before))) returns-2 returns-3)

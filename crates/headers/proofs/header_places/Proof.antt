@@ -5,6 +5,7 @@ use Prim.Native.Nat.{ℕ}
 use denote.Ref.{now}
 use mathlib.Core.Path.{_≡_}
 use mathlib.Core.List.{List}
+use mathlib.Core.Bool.{true, false}
 use lib.ListN.{length}
 use Rattle.octets.specs.Reading.{Read, ok, ends}
 use Rattle.octets.specs.Answers.{Within}
@@ -64,10 +65,10 @@ recorded c = rw (c .before .recorder2 .given .1) at (c .before .before .before .
 named : (c : Named) → let r = recorder c in Came (S r) (defaultRead (S r) (start r)) (start r) (namespaces c)
 named c = rw (c .before .default2 .given .1) at (c .before .before .before .default-end .ensures)
 
-spaced : (c : Spaced) → let n = name c in Came (S (recorder n)) (listRead (S (recorder n)) (namespaces n) 2) (namespaces n) (services c)
+spaced : (c : Spaced) → let n = name c in Came (S (recorder n)) (listRead (S (recorder n)) false (namespaces n)) (namespaces n) (services c)
 spaced c = rw (c .before .others2 .given .1) at (c .before .before .before .list-end .ensures)
 
-served : (c : Served) → let p = space c in let s = S (recorder (name p)) in Came s (listRead s (services p) 1) (services p) (id c)
+served : (c : Served) → let p = space c in let s = S (recorder (name p)) in Came s (listRead s true (services p)) (services p) (id c)
 served c = rw (c .before .listed2 .given .1) at (c .before .before .before .list-end2 .ensures)
 
 returns : tie.Need-returns
@@ -111,6 +112,6 @@ pub header-places-spec : {M : Type 1} → statement M
 header-places-spec =
     tie.close
     (tie.spec (λ c κs. search needs) (λ c. search needs) returns (λ c. search needs) (λ c κs. (recorded c .1 .1, Start c .pre)) (λ c. search needs) returns-2
-    (λ c. search needs) (λ c κs. (named c .1 .1, Start (recorder c) .pre, search needs)) (λ c. search needs) returns-3
-    (λ c. search needs) (λ c κs. (spaced c .1 .1, Start (recorder (name c)) .pre, search needs)) (λ c. search needs) returns-4
+    (λ c. search needs) (λ c κs. (named c .1 .1, Start (recorder c) .pre)) (λ c. search needs) returns-3
+    (λ c. search needs) (λ c κs. (spaced c .1 .1, Start (recorder (name c)) .pre)) (λ c. search needs) returns-4
     (λ c. search needs) (λ c κs. (served c .1 .1, Start (recorder (name (space c))) .pre)) (λ c. search needs) (λ c. search needs) returns-5 returns-6)

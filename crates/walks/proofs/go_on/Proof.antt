@@ -6,6 +6,7 @@ use Prim.Native.Nat.{ℕ, _≤_}
 use denote.Ref.{now}
 use mathlib.Core.Path.{_≡_, refl, sym, ap, _∙_, subst}
 use mathlib.Core.List.{List}
+use lib.ListN.{length}
 use Rattle.octets.specs.Limits.{mostLayouts}
 use Rattle.layouts.specs.Book.{Book}
 use Rattle.layouts.specs.Answers.{Looks}
@@ -70,6 +71,9 @@ module _ (q : Strode) where
   strides : (book : Book) → Kept book → Strides doc (spotAt at rows book) numbers known (now (Start q .args .labels)) (Start q .args .most) entry exit here (q .rows-on .result .count)
   strides book b = q .rows-on .ensures rows book (b .planned)
 
+  inside : here ≤ length doc
+  inside = let k = Start q .pre .4 in strides (k .book) (k .bears) .inside
+
   few : known ≤ mostLayouts
   few = let n = Start q .pre .4 .bears .planned .numbered in omega (arith, n .count, n .good .few)
 
@@ -113,7 +117,7 @@ element-over-requires c κs =
     let q = By c in
     let p = Start q .pre in
     let k = p .4 in
-    (p .1, p .2, p .3, omega (arith, k .bears .size, k .bears .planned .numbered .good .small), stood (shelf q) _ (k .book) (c .looked-at .result) (looks c (k .book) (k .bears)))
+    (inside q, p .1, p .2, p .3, omega (arith, k .bears .size, k .bears .planned .numbered .good .small), stood (shelf q) _ (k .book) (c .looked-at .result) (looks c (k .book) (k .bears)))
 
 -- The element that was read.
 abbrev Answered : Type 0
@@ -150,5 +154,5 @@ returns-3 c = λ book b.
 pub go-on-spec : {M : Type 1} → statement M
 go-on-spec =
     tie.close
-    (tie.spec rows-on-requires (λ c. search needs) returns (λ c κs. search needs) (λ c κs. few (Of (c .before))) (λ c κs. few (Of (c .before .before))) element-over-requires (λ c. search needs) (λ c. search needs)
+    (tie.spec rows-on-requires (λ c. search needs) returns (λ c κs. (inside (Of c), Start (Of c) .pre .1)) (λ c κs. few (Of (c .before))) (λ c κs. few (Of (c .before .before))) element-over-requires (λ c. search needs) (λ c. search needs)
     (λ c κs. search needs) (λ c. search needs) returns-2 (λ c. search needs) returns-3)
