@@ -40,20 +40,6 @@ fn exactly_at(s: &[u8], at: usize, wanted: u32, refusal: u32) -> Ended
     Ended::End(at + 4)
 }
 
-// The place behind the four octets FF, else 6.
-fn open_at(s: &[u8], at: usize) -> Ended
-    requires { ⌜ (at ≤ length (now s)) × (length (now s) ≤ longest) ⌝ }
-    ensures { λ r. ⌜ (says r ≡ ends (exactly 0xffffffff 6 (now (s .entry)) at)) × Within at r (length (now (s .entry))) ⌝ }
-{
-    if s.len() < at + 4 {
-        return Ended::Refused(1, at);
-    }
-    if octets::stands(s, at, &octets::OPEN) {
-        return Ended::End(at + 4);
-    }
-    Ended::Refused(6, at)
-}
-
 // The place behind an item of a list: a service definition, which is a string, or a namespace, which is two.
 fn item_end(s: &[u8], at: usize, service: bool) -> Ended
     requires { ⌜ (at ≤ length (now s)) × (length (now s) ≤ longest) ⌝ }
@@ -153,7 +139,7 @@ fn close_end(s: &[u8], at: usize) -> Ended
     let id = id_end(s, at);
     match id {
         Ended::Refused(n, p) => Ended::Refused(n, p),
-        Ended::End(next) => open_at(s, next),
+        Ended::End(next) => exactly_at(s, next, 0xffff_ffff, 6),
     }
 }
 

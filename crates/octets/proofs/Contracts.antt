@@ -22,7 +22,6 @@ use Rattle.octets.proofs.led_skip as led-skip
 use Rattle.octets.proofs.led_part as led-part
 use Rattle.octets.proofs.count_at as count-at
 use Rattle.octets.proofs.octets_same as octets-same
-use Rattle.octets.proofs.stands as stands
 use Rattle.octets.proofs.copy_in as copy-in
 use Rattle.octets.proofs.put_number as put-number
 use Rattle.octets.proofs.lay as lay
@@ -41,7 +40,6 @@ pub record Contracts : Type 0 where
   pub of-led-part : OnceSeen led-part.Kinds.ps led-part.Kinds.r (λ κs x. now x) led-part.Reads.Pre led-part.Reads.Post
   pub of-count-at : Once count-at.Kinds.ps count-at.Kinds.r count-at.Reads.Pre count-at.Reads.Post
   pub of-octets-same : Once octets-same.Kinds.ps octets-same.Kinds.r octets-same.Reads.Pre octets-same.Reads.Post
-  pub of-stands : Once stands.Kinds.ps stands.Kinds.r stands.Reads.Pre stands.Reads.Post
   pub of-copy-in : Once copy-in.Kinds.ps copy-in.Kinds.r copy-in.Reads.Pre copy-in.Reads.Post
   pub of-put-number : Once put-number.Kinds.ps put-number.Kinds.r put-number.Reads.Pre put-number.Reads.Post
   pub of-lay : Once lay.Kinds.ps lay.Kinds.r lay.Reads.Pre lay.Reads.Post
@@ -75,7 +73,6 @@ contracts =
       of-led-part = λ κs a p x y u v e f. let (xs, next, is) = value-is _ (p .1) in (e xs next is ∙ sym (f xs next is), refl);
       of-count-at = λ κs a p x y u v e f. (counts-once x y (e .0 ∙ sym (f .0)), refl);
       of-octets-same = λ κs a p x y u v e f. (e ∙ sym f, refl);
-      of-stands = λ κs a p x y u v e f. (e ∙ sym f, refl);
       of-copy-in = λ κs a p x y u v e f. (refl, refl also (e ∙ sym f) also refl);
       of-put-number = λ κs a p x y u v e f. (refl, (e ∙ sym f) also refl);
       of-lay = λ κs a p x y u v e f. (e .0 ∙ sym (f .0), (e .1 ∙ sym (f .1)) also refl);

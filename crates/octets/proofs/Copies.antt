@@ -1,5 +1,5 @@
 -- Laws of comparing and copying octets: by the first octet, and by what is lent of a whole.
-use Prim.Native.Nat.{ℕ, zero, suc, _+_, _-_, _/_, _%_, _^_, _≤_, _<_}
+use Prim.Native.Nat.{ℕ, zero, suc, _+_, _-_, _/_, _%_, _≤_, _<_}
 use mathlib.Core.Path.{_≡_, refl, ap, _∙_, sym}
 use mathlib.Core.List.{List, [], _∷_, _++_, append-assoc, append-nil}
 use mathlib.Core.Bool.{Bool, true, false, _&&_}
@@ -8,10 +8,9 @@ use native.Mathlib.Omega.{arith}
 use lib.ListN.{length, take, drop, getD, set, length-drop, length-set}
 use lib.Seq.{drop-cons, take-suc, set-at, length-take-le, drop-length, take-all, drop-drop, getD-set-same, drop-set-lt}
 use lib.Dec.{eqb}
-use borrow.Author.Tests.{eq-eqb, ne-eqb, eqb-true, eqb-false}
-use Rattle.octets.specs.Reading.{be, part, same}
-use Rattle.octets.specs.Writing.{word, over, Each, Octet}
-use Rattle.octets.proofs.Spans.{all-spans, word-is, word-be}
+use borrow.Author.Tests.{eq-eqb, ne-eqb, eqb-true}
+use Rattle.octets.specs.Reading.{same}
+use Rattle.octets.specs.Writing.{word, over}
 
 pub both-true : (a b : Bool) → a && b ≡ true → (a ≡ true) × (b ≡ true)
 both-true true true e = (refl, refl)
@@ -85,21 +84,3 @@ pub laid : (xs ys new : List ℕ) (at : ℕ) → ys ≡ new ++ drop (length new)
     → take at xs ++ (ys ++ drop (length xs - at) (drop at xs)) ≡ over xs at new
 unfolding over
 laid xs ys new at e = written xs ys new at (length new) e
-
--- One word is one number.
-pub word-once : (w n m : ℕ) → n < 256 ^ w → m < 256 ^ w → word w n ≡ word w m → n ≡ m
-word-once w n m h k e =
-    sym (word-is w n h (all-spans (word w n)))
-    ∙ (ap (λ (x : List ℕ). be w x 0) e ∙ word-is w m k (all-spans (word w m)))
-
--- Octets are those of a word just where they spell its number.
-pub word-same : (s : List ℕ) (at w n : ℕ) → Each Octet s → at + w ≤ length s → n < 256 ^ w → same (part s at w) (word w n) ≡ eqb (be w s at) n
-word-same s at w n o h k = go (eqb (be w s at) n) refl (same (part s at w) (word w n)) refl
-  where
-    spelt : (be w s at < 256 ^ w) × (word w (be w s at) ≡ part s at w)
-    spelt = word-be w s at o h
-
-    go : (b : Bool) → eqb (be w s at) n ≡ b → (c : Bool) → same (part s at w) (word w n) ≡ c → same (part s at w) (word w n) ≡ b
-    go true e c f = ap (λ (x : List ℕ). same x (word w n)) (sym (spelt .1) ∙ ap (word w) (eqb-true (be w s at) n e)) ∙ same-refl (word w n)
-    go false e false f = f
-    go false e true f = absurd (eqb-false (be w s at) n e (word-once w (be w s at) n (spelt .0) k (spelt .1 ∙ same-true (part s at w) (word w n) f)))

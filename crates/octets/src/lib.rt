@@ -7,7 +7,7 @@ ghost use mathlib.Core.List.{List, _++_};
 ghost use Prim.Native.Nat.{ℕ, _+_, _≤_, _<_};
 ghost use lib.ListN.{length, drop};
 ghost use Rattle.octets.specs.Limits.{longest};
-ghost use Rattle.octets.specs.Reading.{ok, reach, overrun, be, part, same, ends, isOk, numberIn, ledIn, text, count};
+ghost use Rattle.octets.specs.Reading.{ok, reach, overrun, be, same, ends, isOk, numberIn, ledIn, text, count};
 ghost use Rattle.octets.specs.Writing.{word, over};
 ghost use Rattle.octets.specs.Answers.{says, counts, Within, CountWithin};
 ghost use Rattle.octets.specs.Asked.{refusalOf};
@@ -217,15 +217,6 @@ pub fn octets_same<'a, 'b>(a: &'a [u8], b: &'b [u8]) -> bool
         i += 1;
     }
     true
-}
-
-// Whether a fixed octet string stands at a place.
-pub fn stands<'s, 'f>(s: &'s [u8], at: usize, fixed: &'f [u8]) -> bool
-    requires { ⌜ at + length (now fixed) ≤ length (now s) ⌝ }
-    ensures { λ r. ⌜ r ≡ same (part (now (s .entry)) at (length (now (fixed .entry)))) (now (fixed .entry)) ⌝ }
-{
-    let end = at + fixed.len();
-    octets_same(&s[at..end], fixed)
 }
 
 // Octets put at the start of the rest that is lent.

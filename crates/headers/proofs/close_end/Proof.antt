@@ -11,8 +11,8 @@ use Rattle.headers.specs.Header.{idAt}
 use Rattle.headers.proofs.close_end.Statement.{statement}
 use Rattle.headers.proofs.close_end.Tie as tie
 
-open-at-requires : tie.Need-open-at-requires
-open-at-requires c κs =
+exactly-at-requires : tie.Need-exactly-at-requires
+exactly-at-requires c κs =
     let w = rw (c .before .id2 .given .1) at (c .before .before .before .id-end .ensures .1) in
     omega arith
 
@@ -27,7 +27,7 @@ returns-2 c =
     let a = c .before .before .before .before .before .before .args in
     let v = c .before .before .before .before .id-end in
     let e = c .before .before .id2 .given .1 in
-    let t = c .open-at in (
+    let t = c .exactly-at in (
       t .ensures .0 ∙ sym (on (idAt (now (a .s)) (a .at)) _ (λ m. ends (exactly 0xffffffff 6 (now (a .s)) m)) _ (λ _ m. refl) (sym (v .ensures .0) ∙ ap says e)),
       behind (a .at) _ (t .result) (length (now (a .s))) (rw e at (v .ensures .1) .0) (t .ensures .1),
     )
@@ -35,4 +35,4 @@ returns-2 c =
 pub close-end-spec : {M : Type 1} → statement M
 close-end-spec =
     tie.close
-    (tie.spec (λ c κs. search needs) (λ c. search needs) (λ c. search needs) open-at-requires returns returns-2)
+    (tie.spec (λ c κs. search needs) (λ c. search needs) (λ c. search needs) exactly-at-requires returns returns-2)
