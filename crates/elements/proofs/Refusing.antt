@@ -10,7 +10,7 @@ use lib.ListN.{length, take}
 use lib.Dec.{leb, ltb, eqb}
 use borrow.Author.Tests.{leb-true}
 use Rattle.octets.specs.Limits.{longest, mostRows, bookRoom, mostLayouts, mostAttributes, mostListed}
-use Rattle.octets.specs.Reading.{Read, ok, no, _then_, choose, isOk, reach, overrun, numberIn, ledIn, number, text, count, exactly, run}
+use Rattle.octets.specs.Reading.{Read, ok, no, _then_, choose, isOk, part, reach, overrun, numberIn, number, count, exactly, run}
 use Rattle.octets.specs.declared.Room.{Room}
 use Rattle.octets.specs.declared.Room.the-variants.{Document, Stated}
 use Rattle.kinds.specs.declared.Basic.{Basic}
@@ -31,6 +31,10 @@ use Rattle.elements.specs.Walk.{Stop, ended, refused, Walk, onward, walk
 use Rattle.elements.specs.Steps.{lentBook, stepAt}
 use Rattle.elements.specs.Reading.{elementsOf, answerOf, elementsRead, reading, whole}
 use Rattle.octets.proofs.Ends.{number-room}
+use Rattle.utf8.specs.Utf8.{utf8}
+use Rattle.texts.specs.Texts.{holds, fault, ledIn, text}
+use Rattle.texts.specs.declared.Rule.{Rule}
+use Rattle.texts.specs.declared.Rule.the-variants.{Free, Characters}
 
 -- A reading that passes no end: neither by the place behind it nor by that of its refusal, of whose number P holds.
 abbrev pub Stays : {A : Type 0} → (ℕ → Type 0) → ℕ → Read A → Type 0
@@ -44,10 +48,10 @@ Inside P end (Stated to p) = P 13 × (to ≤ end) × (p ≤ end)
 
 -- What is assumed of the numbers of a header and of an element, besides 1.
 abbrev pub OfHeader : (ℕ → Type 0) → Type 0
-OfHeader P = P 2 × P 3 × P 4 × P 5 × P 6
+OfHeader P = P 2 × P 3 × P 4 × P 5 × P 6 × P 24
 
 abbrev pub OfElement : (ℕ → Type 0) → Type 0
-OfElement P = P 4 × P 7 × P 8 × P 9 × P 10 × P 11 × P 12 × P 13 × P 14 × P 15 × P 16
+OfElement P = P 4 × P 7 × P 8 × P 9 × P 10 × P 11 × P 12 × P 13 × P 14 × P 15 × P 16 × P 24
 
 -- Where a walk stands, or what stops it, passes no end.
 abbrev Halted : (ℕ → Type 0) → ℕ → ℕ → Option Stop → Type 0
@@ -92,33 +96,37 @@ module _ (P : ℕ → Type 0) (s : List ℕ) (end : ℕ) (long : length s ≤ en
     unfolding numberIn
     stays-number w at b = stays-choose (leb (at + w) (reach room s)) _ _ (λ t. within (at + w) t) (stays-over _ room inside at b)
 
-    stays-led : (at : ℕ) → at ≤ end → Stays P end (ledIn room s at)
+    stays-led : P 24 → (rule : Rule) (at : ℕ) → at ≤ end → Stays P end (ledIn rule room s at)
     unfolding ledIn
-    stays-led at b =
+    stays-led bad rule at b =
         stays-then (numberIn room 4 s at) _ (stays-number 4 at b) λ n next c.
-        stays-choose (leb (next + n) (reach room s)) _ _ (λ t. within (next + n) t) (stays-over _ room inside at b)
+        stays-choose (leb (next + n) (reach room s)) _ _ (λ t. by rule n next (within (next + n) t)) (stays-over _ room inside at b)
+      where
+        by : (rule : Rule) (n next : ℕ) → next + n ≤ end → Stays P end (choose (holds rule (part s next n)) (λ _. ok (part s next n) (next + n)) (λ _. no (fault rule) at))
+        by Free n next c = c
+        by Characters n next c = stays-choose (utf8 (part s next n)) _ _ (λ _. c) (bad, b)
 
-    stays-value : P 14 → (f : Form) (at : ℕ) → at ≤ end → Stays P end (valueIn room f s at)
+    stays-value : P 14 → P 24 → (f : Form) (at : ℕ) → at ≤ end → Stays P end (valueIn room f s at)
     unfolding valueIn
-    stays-value fourteen (form.Fixed w) at b = stays-then (numberIn room w s at) _ (stays-number w at b) λ n next c. c
-    stays-value fourteen form.Truth at b =
+    stays-value fourteen bad (form.Fixed w) at b = stays-then (numberIn room w s at) _ (stays-number w at b) λ n next c. c
+    stays-value fourteen bad form.Truth at b =
         stays-then (numberIn room 1 s at) _ (stays-number 1 at b) λ n next c. stays-choose (leb n 1) _ _ (λ _. c) (fourteen, b)
-    stays-value fourteen form.Led at b = stays-then (ledIn room s at) _ (stays-led at b) λ xs next c. c
+    stays-value fourteen bad (form.Led rule) at b = stays-then (ledIn rule room s at) _ (stays-led bad rule at b) λ xs next c. c
 
-    stays-fields : P 14 → (attributes : List Attribute) (at : ℕ) → at ≤ end → Stays P end (fieldsIn room attributes s at)
+    stays-fields : P 14 → P 24 → (attributes : List Attribute) (at : ℕ) → at ≤ end → Stays P end (fieldsIn room attributes s at)
     unfolding fieldsIn
-    stays-fields fourteen [] at b = b
-    stays-fields fourteen (a ∷ others) at b =
-        stays-then (valueIn room (formOf (a .kind)) s at) _ (stays-value fourteen (formOf (a .kind)) at b) λ v next c.
-        stays-then (fieldsIn room others s next) _ (stays-fields fourteen others next c) λ rest last d. d
+    stays-fields fourteen bad [] at b = b
+    stays-fields fourteen bad (a ∷ others) at b =
+        stays-then (valueIn room (formOf (a .kind)) s at) _ (stays-value fourteen bad (formOf (a .kind)) at b) λ v next c.
+        stays-then (fieldsIn room others s next) _ (stays-fields fourteen bad others next c) λ rest last d. d
 
   module _ (one : P 1) where
     -- The fields that only the document's end bounds.
     pub number-stays : (w at : ℕ) → at ≤ end → Stays P end (number w s at)
     number-stays = stays-number Document one
 
-    text-stays : (at : ℕ) → at ≤ end → Stays P end (text s at)
-    text-stays = stays-led Document one
+    text-stays : P 24 → (at : ℕ) → at ≤ end → Stays P end (text s at)
+    text-stays bad = stays-led Document one bad Characters
 
     count-stays : (most at : ℕ) → P 4 → at ≤ end → Stays P end (count most s at)
     unfolding count
@@ -129,9 +137,9 @@ module _ (P : ℕ → Type 0) (s : List ℕ) (end : ℕ) (long : length s ≤ en
     exactly-stays n refusal at h b = stays-then (number 4 s at) _ (number-stays 4 at b) λ m next c. stays-choose (eqb m n) _ _ (λ _. c) (h, b)
 
     -- The header.
-    namespace-stays : (at : ℕ) → at ≤ end → Stays P end (namespaceAt s at)
+    namespace-stays : P 24 → (at : ℕ) → at ≤ end → Stays P end (namespaceAt s at)
     unfolding namespaceAt
-    namespace-stays at b = stays-then (text s at) _ (text-stays at b) λ uri next c. stays-then (text s next) _ (text-stays next c) λ short last d. d
+    namespace-stays bad at b = stays-then (text s at) _ (text-stays bad at b) λ uri next c. stays-then (text s next) _ (text-stays bad next c) λ short last d. d
 
     id-stays : P 5 → (at : ℕ) → at ≤ end → Stays P end (idAt s at)
     unfolding idAt
@@ -141,20 +149,20 @@ module _ (P : ℕ → Type 0) (s : List ℕ) (end : ℕ) (long : length s ≤ en
 
     fields-stay : OfHeader P → (at : ℕ) → at ≤ end → Stays P end (headerFrom s at)
     unfolding headerFrom
-    fields-stay (two, three, four, five, six) at b =
+    fields-stay (two, three, four, five, six, bad) at b =
         stays-then (exactly 4 3 s at) _ (exactly-stays 4 3 at three b) λ _ a b₁.
-        stays-then (text s a) _ (text-stays a b₁) λ recorder b b₂.
+        stays-then (text s a) _ (text-stays bad a b₁) λ recorder b b₂.
         stays-then (number 8 s b) _ (number-stays 8 b b₂) λ start c b₃.
-        stays-then (text s c) _ (text-stays c b₃) λ default d b₄.
+        stays-then (text s c) _ (text-stays bad c b₃) λ default d b₄.
         stays-then (count mostListed s d) _ (count-stays mostListed d four b₄) λ k e b₅.
-        stays-then (run (namespaceAt s) k e) _ (stays-run (namespaceAt s) namespace-stays k e b₅) λ others f b₆.
+        stays-then (run (namespaceAt s) k e) _ (stays-run (namespaceAt s) (namespace-stays bad) k e b₅) λ others f b₆.
         stays-then (count mostListed s f) _ (count-stays mostListed f four b₆) λ m g b₇.
-        stays-then (run (text s) m g) _ (stays-run (text s) text-stays m g b₇) λ services h b₈.
+        stays-then (run (text s) m g) _ (stays-run (text s) (text-stays bad) m g b₇) λ services h b₈.
         stays-then (idAt s h) _ (id-stays five h b₈) λ id i b₉.
         stays-then (exactly 0xffffffff 6 s i) _ (exactly-stays 0xffffffff 6 i six b₉) λ _ last b₁₀. b₁₀
 
     -- A layout.
-    module _ (four : P 4) (eight : P 8) (nine : P 9) where
+    module _ (four : P 4) (eight : P 8) (nine : P 9) (bad : P 24) where
       kind-stays : (at : ℕ) → at ≤ end → Stays P end (kindAt s at)
       unfolding kindAt
       kind-stays at b =
@@ -168,13 +176,13 @@ module _ (P : ℕ → Type 0) (s : List ℕ) (end : ℕ) (long : length s ≤ en
 
       attribute-stays : (at : ℕ) → at ≤ end → Stays P end (attributeAt s at)
       unfolding attributeAt
-      attribute-stays at b = stays-then (text s at) _ (text-stays at b) λ name next c. stays-then (kindAt s next) _ (kind-stays next c) λ kind last d. d
+      attribute-stays at b = stays-then (text s at) _ (text-stays bad at b) λ name next c. stays-then (kindAt s next) _ (kind-stays next c) λ kind last d. d
 
       pub layout-stays : (at : ℕ) → at ≤ end → Stays P end (layoutAt s at)
       unfolding layoutAt
       layout-stays at b =
           stays-then (number 4 s at) _ (number-stays 4 at b) λ n a b₁.
-          stays-then (text s a) _ (text-stays a b₁) λ name b b₂.
+          stays-then (text s a) _ (text-stays bad a b₁) λ name b b₂.
           stays-then (count mostAttributes s b) _ (count-stays mostAttributes b four b₂) λ k c b₃.
           stays-then (run (attributeAt s) k c) _ (stays-run (attributeAt s) attribute-stays k c b₃) λ attributes last d. d
 
@@ -189,11 +197,11 @@ module _ (P : ℕ → Type 0) (s : List ℕ) (end : ℕ) (long : length s ≤ en
         go (Refused n) (inr e) = (subst P (sym e) eleven, b)
 
     -- A row.
-    module _ (thirteen : P 13) (fourteen : P 14) where
+    module _ (thirteen : P 13) (fourteen : P 14) (bad : P 24) where
       values-stays : (attributes : List Attribute) (length-at size : ℕ) → length-at + 4 ≤ end → Stays P end (valuesAt attributes s length-at size)
       unfolding valuesAt
       values-stays attributes length-at size b =
-          stays-choose (eqb size 0xffffffff) _ _ (λ _. stays-fields Document one fourteen attributes (length-at + 4) b)
+          stays-choose (eqb size 0xffffffff) _ _ (λ _. stays-fields Document one fourteen bad attributes (length-at + 4) b)
           (stays-choose (leb to (length s)) _ _ (λ t. filled-stays (leb-true to (length s) t)) (one, before))
         where
           to : ℕ
@@ -204,7 +212,7 @@ module _ (P : ℕ → Type 0) (s : List ℕ) (end : ℕ) (long : length s ≤ en
 
           filled-stays : to ≤ length s → Stays P end (filled attributes s length-at to)
           filled-stays h =
-              stays-then (fieldsIn (Stated to length-at) attributes s (length-at + 4)) _ (stays-fields (Stated to length-at) (thirteen, omega arith, before) fourteen attributes (length-at + 4) b) λ fields last c.
+              stays-then (fieldsIn (Stated to length-at) attributes s (length-at + 4)) _ (stays-fields (Stated to length-at) (thirteen, omega arith, before) fourteen bad attributes (length-at + 4) b) λ fields last c.
               stays-choose (eqb last to) _ _ (λ _. c) (thirteen, before)
 
       pub row-stays : P 12 → (book : Book) (at : ℕ) → at ≤ end → Stays P end (rowAt book s at)
@@ -229,12 +237,12 @@ module _ (P : ℕ → Type 0) (s : List ℕ) (end : ℕ) (long : length s ≤ en
       element-stays : (at rows : ℕ) (book : Book) → at ≤ end → Stays P end (elementAt s at rows book)
       unfolding elementAt
       element-stays at rows book b =
-          let (four, seven, eight, nine, ten, eleven, twelve, thirteen, fourteen, fifteen, sixteen) = all in
+          let (four, seven, eight, nine, ten, eleven, twelve, thirteen, fourteen, fifteen, sixteen, bad) = all in
           stays-then (number 4 s at) _ (number-stays 4 at b) λ kind next c.
           stays-choose (eqb kind 1) _ _
-          (λ _. stays-then (layoutAt s next) _ (layout-stays four eight nine next c) λ l last d.
+          (λ _. stays-then (layoutAt s next) _ (layout-stays four eight nine bad next c) λ l last d.
           stays-then (learn book l next) _ (learn-stays ten eleven book l next c) λ learnt _ _. d)
-          (stays-choose (eqb kind 2) _ _ (λ _. stays-then (rowAt book s next) _ (row-stays thirteen fourteen twelve book next c) λ r last d. d)
+          (stays-choose (eqb kind 2) _ _ (λ _. stays-then (rowAt book s next) _ (row-stays thirteen fourteen bad twelve book next c) λ r last d. d)
           (stays-choose (eqb kind 3) _ _ (λ _. stays-then (finishAt rows s next) _ (finish-stays fifteen sixteen rows next c) λ f last d. d) (seven, b)))
 
       walk-stays : (k : ℕ) (x : Spot) → x .at ≤ end → Halted P end (walk (turnAt s) k x .spot .at) (walk (turnAt s) k x .stop)

@@ -8,17 +8,19 @@ use lib.ListN.{length}
 use lib.Dec.{leb}
 use borrow.Author.Tests.{leb-true, leb-false}
 use Rattle.octets.specs.Limits.{longest}
-use Rattle.octets.specs.Reading.{Read, ok, no, _then_, choose, ends, isOk, be, part, number, text, exactly, run}
-use Rattle.octets.specs.Writing.{ledImage, images, Each, Octet}
+use Rattle.octets.specs.Reading.{Read, ok, no, _then_, choose, ends, isOk, be, part, number, exactly, run}
+use Rattle.octets.specs.Writing.{images, Each, Octet}
 use Rattle.octets.specs.Answers.{says}
 use Rattle.octets.specs.Asked.{nth, partOf, StandsAt, foundAt}
 use Rattle.octets.specs.declared.Ended.{Ended}
 use Rattle.octets.specs.declared.Ended.the-variants.{End, Refused}
 use Rattle.octets.proofs.Inverse.{several, chosen, after}
-use Rattle.octets.proofs.Fields.{text-whole}
-use Rattle.octets.proofs.Ends.{text-room, exactly-place, run-ends}
+use Rattle.octets.proofs.Ends.{exactly-place, run-ends}
 use Rattle.octets.proofs.Runs.{Item, run-item}
 use Rattle.octets.proofs.Asked.{part-stands, nth-none, nth-some, number-is}
+use Rattle.texts.specs.Texts.{text, ledImage}
+use Rattle.texts.proofs.Fields.{text-whole}
+use Rattle.texts.proofs.Ends.{text-stands}
 use Rattle.headers.specs.Header.{Namespace, Header, namespaceAt, idAt, headerAt, namespaceImage}
 use Rattle.headers.specs.Answers.{itemEnd, Located, Accepted}
 use Rattle.headers.specs.declared.Places.{Places}
@@ -65,8 +67,8 @@ module _ {A : Type 0} (s : List ℕ) (short : length s ≤ longest) (one : ℕ �
 module _ (s : List ℕ) (o : Each Octet s) (h : Header) (p : Places) (l : Located s h p) where
   text-place : (at : ℕ) (xs : List ℕ) (next : ℕ) → text s at ≡ ok xs next → (next ≡ at + length (ledImage xs)) × (next ≤ length s)
   text-place at xs next e =
-      let r = text-room s at (ap isOk e) in
-      let f = text-whole s .forth o (omega (arith, r .0)) e .2 in
+      let r = text-stands s at e in
+      let f = text-whole s .forth o (omega (arith, r .head)) e .2 in
       (f .place, f .inside)
 
   pub namespaces-place : p .namespaces ≡ namespacesPlace h

@@ -6,10 +6,11 @@ use mathlib.Core.Bool.{Bool, true, false}
 use lib.ListN.{length}
 use lib.Dec.{leb}
 use Rattle.octets.specs.Limits.{longest}
-use Rattle.octets.specs.Reading.{Read, no, choose, ends, isOk, be, text, run}
+use Rattle.octets.specs.Reading.{Read, no, choose, ends, isOk, be, run}
 use Rattle.octets.specs.declared.Ended.{Ended}
 use Rattle.octets.specs.declared.Ended.the-variants as ended
 use Rattle.octets.specs.Asked.{StandsAt}
+use Rattle.texts.specs.Texts.{text}
 use Rattle.headers.specs.Header.{Header, namespaceAt}
 use Rattle.header_questions.specs.Questions.{namespaceAsked, serviceAsked}
 

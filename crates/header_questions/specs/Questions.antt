@@ -3,9 +3,10 @@ use Prim.Native.Nat.{ℕ, _+_}
 use mathlib.Core.List.{List}
 use lib.ListN.{length}
 use Rattle.octets.specs.Reading.{Read, _then_}
-use Rattle.octets.specs.Writing.{ledImage, images}
+use Rattle.octets.specs.Writing.{images}
 use Rattle.headers.specs.Header.{Namespace, Header, headerAt, namespaceImage}
 use Rattle.octets.specs.Asked.{nth}
+use Rattle.texts.specs.Texts.{ledImage}
 
 -- Where the counts of a header's two lists stand: other namespaces behind the version, the recorder, the start time and the default namespace; service definitions behind those.
 unfoldable pub namespacesPlace : Header → ℕ

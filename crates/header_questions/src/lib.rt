@@ -6,9 +6,9 @@ ghost use mathlib.Core.List.{List};
 ghost use Prim.Native.Nat.{ℕ, _+_, _≤_};
 ghost use lib.ListN.{length};
 ghost use Rattle.octets.specs.Limits.{longest};
-ghost use Rattle.octets.specs.Reading.{text};
 ghost use Rattle.octets.specs.Answers.{says};
 ghost use Rattle.octets.specs.Asked.{refusalOf, partOf, foundAt};
+ghost use Rattle.texts.specs.Texts.{text};
 ghost use Rattle.headers.specs.Header.{headerAt};
 ghost use Rattle.headers.specs.Answers.{itemEnd};
 ghost use Rattle.header_questions.specs.Questions.{namespaceAsked, serviceAsked};
@@ -37,7 +37,7 @@ fn text_found<'d>(doc: &'d [u8], found: Ended) -> &'d [u8]
     let Ended::End(place) = found else {
         return &doc[..0];
     };
-    octets::led_part(doc, place)
+    texts::led_part(doc, place)
 }
 
 // The place of namespace n, or of service definition n.
@@ -91,9 +91,9 @@ fn front<'d>(doc: &'d [u8], second: bool) -> &'d [u8]
     };
     if second {
         let start = places.start;
-        return octets::led_part(doc, start + 8);
+        return texts::led_part(doc, start + 8);
     }
-    octets::led_part(doc, 4)
+    texts::led_part(doc, 4)
 }
 
 // The recorder, a part of the document; empty where there is a refusal, as are the strings that follow.
@@ -125,7 +125,7 @@ pub fn namespace_short<'d>(doc: &'d [u8], n: usize) -> &'d [u8]
     let Ended::End(place) = listed else {
         return &doc[..0];
     };
-    octets::led_part(doc, octets::led_skip(doc, place))
+    texts::led_part(doc, texts::text_skip(doc, place))
 }
 
 // Service definition n.

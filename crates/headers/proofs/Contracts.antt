@@ -3,10 +3,11 @@ use Prim.Native.Nat.{ℕ, _+_}
 use mathlib.Core.Path.{_≡_, refl, sym, ap, _∙_, subst}
 use mathlib.Core.List.{List}
 use lib.ListN.{length}
-use Rattle.octets.specs.Reading.{Read, text, ok, run}
+use Rattle.octets.specs.Reading.{Read, ok, run}
 use Rattle.octets.specs.Contracts.{Once, Settled}
 use Rattle.octets.proofs.Inverse.{ok-value, ok-place, no-ok}
 use Rattle.octets.proofs.Contracts.{says-once}
+use Rattle.texts.specs.Texts.{text}
 use Rattle.headers.specs.Header.{Header, namespaceAt}
 use Rattle.headers.specs.Answers.{Located, Locates}
 use Rattle.headers.specs.declared.Places.{Places}

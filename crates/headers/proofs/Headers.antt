@@ -13,7 +13,8 @@ use Rattle.octets.specs.Writing.{word, Each, Octet}
 use Rattle.headers.specs.Header.{Header, namespaceAt, idAt, headerFrom, headerAt, namespaceImage, headerImage, GoodNamespace, GoodHeader}
 use Rattle.octets.proofs.Spans.{join, middle, part-spans, part-is, spans-octets, word-octets, each-append}
 use Rattle.octets.proofs.Inverse.{Inverse, Answer, Any, after, settle, chosen, done, seq, seqOn, several, finally}
-use Rattle.octets.proofs.Fields.{number-whole, text-whole, count-inverse, exactly-inverse}
+use Rattle.octets.proofs.Fields.{number-whole, count-inverse, exactly-inverse}
+use Rattle.texts.proofs.Fields.{text-whole}
 
 module _ (s : List ℕ) where
   pub namespace-inverse : Inverse s (length s) (namespaceAt s) namespaceImage Any GoodNamespace

@@ -8,10 +8,11 @@ use lib.ListN.{length}
 use lib.Dec.{leb}
 use borrow.Author.Tests.{le-leb, lt-leb}
 use Rattle.octets.specs.Limits.{longest, mostListed}
-use Rattle.octets.specs.Reading.{Read, ok, no, _then_, choose, ends, part, number, text, count, exactly, run}
+use Rattle.octets.specs.Reading.{Read, ok, no, _then_, choose, ends, part, number, count, exactly, run}
 use Rattle.octets.proofs.Inverse.{after, chosen}
 use Rattle.octets.proofs.Ends.{on, made, stop, stop-both, ended, run-ends, count-is, exactly-place, number-place}
 use Rattle.octets.proofs.Runs.{run-length}
+use Rattle.texts.specs.Texts.{text}
 use Rattle.headers.specs.Header.{namespaceAt, idAt, headerFrom, headerAt}
 use Rattle.headers.specs.Answers.{itemEnd, Accepted}
 

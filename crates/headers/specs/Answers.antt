@@ -5,7 +5,8 @@ use mathlib.Core.List.{List}
 use mathlib.Core.Bool.{Bool, true, false}
 use lib.ListN.{length}
 use Rattle.octets.specs.Limits.{longest}
-use Rattle.octets.specs.Reading.{Read, ok, no, ends, number, text, run}
+use Rattle.octets.specs.Reading.{Read, ok, no, ends, number, run}
+use Rattle.texts.specs.Texts.{text}
 use Rattle.headers.specs.Header.{Header, namespaceAt, idAt}
 use Rattle.headers.specs.declared.Places.{Places}
 use Rattle.headers.specs.declared.Placing.{Placing}

@@ -5,8 +5,9 @@ use mathlib.Core.List.{List, _++_}
 use lib.ListN.{length}
 use lib.Dec.{leb}
 use Rattle.octets.specs.Limits.{longest, mostListed}
-use Rattle.octets.specs.Reading.{Read, ok, no, _then_, choose, part, number, text, count, exactly, run}
-use Rattle.octets.specs.Writing.{word, ledImage, images, Each, Octet, GoodLed}
+use Rattle.octets.specs.Reading.{Read, ok, no, _then_, choose, part, number, count, exactly, run}
+use Rattle.octets.specs.Writing.{word, images, Each, Octet}
+use Rattle.texts.specs.Texts.{text, ledImage, GoodText}
 
 pub record Namespace : Type 0 where
   pub uri : List ℕ
@@ -61,17 +62,17 @@ headerImage h =
     ++ word 4 16 ++ h .id ++ word 4 0xffffffff
 
 pub record GoodNamespace (n : Namespace) : Type 0 where
-  pub uri : GoodLed (n .uri)
-  pub short : GoodLed (n .short)
+  pub uri : GoodText (n .uri)
+  pub short : GoodText (n .short)
 
 -- A header inside the limits: at most 16 other namespaces and 16 service definitions, an id of 16 octets.
 pub record GoodHeader (h : Header) : Type 0 where
-  pub recorder : GoodLed (h .recorder)
+  pub recorder : GoodText (h .recorder)
   pub start : h .start < 2 ^ 64
-  pub default : GoodLed (h .default)
+  pub default : GoodText (h .default)
   pub few-others : length (h .others) ≤ mostListed
   pub others : Each GoodNamespace (h .others)
   pub few-services : length (h .services) ≤ mostListed
-  pub services : Each GoodLed (h .services)
+  pub services : Each GoodText (h .services)
   pub id-length : length (h .id) ≡ 16
   pub id : Each Octet (h .id)

@@ -4,13 +4,15 @@ ghost use mathlib.Core.Path.{_≡_};
 ghost use Prim.Native.Nat.{_+_, _≤_};
 ghost use lib.ListN.{length};
 ghost use Rattle.octets.specs.Limits.{longest, mostListed};
-ghost use Rattle.octets.specs.Reading.{ends, _then_, number, text, count, exactly, run};
+ghost use Rattle.octets.specs.Reading.{ends, _then_, number, count, exactly, run};
 ghost use Rattle.octets.specs.Answers.{says, Within};
+ghost use Rattle.texts.specs.Texts.{text};
 ghost use Rattle.headers.specs.Header.{idAt, headerFrom, headerAt};
 ghost use Rattle.headers.specs.Answers.{itemEnd, Locates};
 use octets::Counted;
 use octets::Ended;
 use octets::Room;
+use texts::Rule;
 
 // Where the fields of an accepted header stand: the start time, the counts of both lists, the document id, and what is behind the header.
 pub struct Places {
@@ -45,14 +47,14 @@ fn item_end(s: &[u8], at: usize, service: bool) -> Ended
     requires { ⌜ (at ≤ length (now s)) × (length (now s) ≤ longest) ⌝ }
     ensures { λ r. ⌜ (says r ≡ itemEnd service (now (s .entry)) at) × Within at r (length (now (s .entry))) ⌝ }
 {
-    let first = octets::led_end(s, at, Room::Document);
+    let first = texts::led_end(s, at, Room::Document, Rule::Characters);
     match first {
         Ended::Refused(n, p) => Ended::Refused(n, p),
         Ended::End(next) => {
             if service {
                 return Ended::End(next);
             }
-            octets::led_end(s, next, Room::Document)
+            texts::led_end(s, next, Room::Document, Rule::Characters)
         }
     }
 }
@@ -99,7 +101,7 @@ fn recorder_end(s: &[u8]) -> Ended
     let version = exactly_at(s, 0, 4, 3);
     match version {
         Ended::Refused(n, p) => Ended::Refused(n, p),
-        Ended::End(next) => octets::led_end(s, next, Room::Document),
+        Ended::End(next) => texts::led_end(s, next, Room::Document, Rule::Characters),
     }
 }
 
@@ -111,7 +113,7 @@ fn default_end(s: &[u8], at: usize) -> Ended
     if s.len() < at + 8 {
         return Ended::Refused(1, at);
     }
-    octets::led_end(s, at + 8, Room::Document)
+    texts::led_end(s, at + 8, Room::Document, Rule::Characters)
 }
 
 // The place behind the document id.

@@ -7,13 +7,17 @@ use native.Mathlib.Omega.{arith}
 use lib.ListN.{length}
 use lib.Dec.{leb, lit≤}
 use borrow.Author.Tests.{leb-true, le-leb, lt-leb}
-use Rattle.octets.specs.Reading.{ok, no, ends, isOk, be, reach, overrun, numberIn, ledIn}
+use Rattle.octets.specs.Reading.{ok, no, ends, isOk, be, reach, overrun, numberIn}
 use Rattle.octets.specs.Writing.{Each, Octet}
 use Rattle.octets.specs.declared.Room.{Room}
 use Rattle.octets.proofs.Spans.{Spans, word-octets}
 use Rattle.octets.proofs.Inverse.{Inverse, Answer, Any, after, settle, chosen}
-use Rattle.octets.proofs.Fields.{number-inverse, led-inverse}
-use Rattle.octets.proofs.Ends.{number-in, number-over, overrun-then, overrun-ends, number-carries, led-carries, made, stop, ended, value-is}
+use Rattle.octets.proofs.Fields.{number-inverse}
+use Rattle.octets.proofs.Ends.{number-in, number-over, overrun-then, overrun-ends, number-carries, made, stop, ended, value-is}
+use Rattle.texts.specs.Texts.{ledIn}
+use Rattle.texts.proofs.Fields.{led-inverse}
+use Rattle.texts.proofs.Ends.{led-carries}
+use Rattle.texts.specs.declared.Rule.{Rule}
 use Rattle.kinds.specs.Kinds.{formBy}
 use Rattle.kinds.specs.Forms.{Value, bits, held, valueIn, valueImage, GoodValue, Slim}
 use Rattle.kinds.specs.declared.Form.{Form}
@@ -26,9 +30,9 @@ module _ (room : Room) (s : List ℕ) (at : ℕ) where
   unfolding valueIn
   fixed-ends w = made (numberIn room w s at) _
 
-  pub led-ends : ends (valueIn room Led s at) ≡ ends (ledIn room s at)
+  pub led-ends : (rule : Rule) → ends (valueIn room (Led rule) s at) ≡ ends (ledIn rule room s at)
   unfolding valueIn
-  led-ends = made (ledIn room s at) _
+  led-ends rule = made (ledIn rule room s at) _
 
   pub truth-no : (n p : ℕ) → ends (numberIn room 1 s at) ≡ no n p → ends (valueIn room Truth s at) ≡ no n p
   unfolding valueIn
@@ -55,8 +59,8 @@ module _ (s : List ℕ) (room : Room) (fits : reach room s ≤ length s) where
   value-back (Fixed w) (held xs) g p = absurd g
   value-back Truth (bits n) g p = rw (number-inverse s room fits 1 .back n tt (omega arith) p, le-leb n 1 g)
   value-back Truth (held xs) g p = absurd g
-  value-back Led (bits n) g p = absurd g
-  value-back Led (held xs) g p = rw (led-inverse s room fits .back xs tt g p)
+  value-back (Led rule) (bits n) g p = absurd g
+  value-back (Led rule) (held xs) g p = rw (led-inverse rule s room fits .back xs tt g p)
 
   value-forth : (f : Form) → Each Octet s → {v : Value} {at next : ℕ} → at ≤ reach room s → valueIn room f s at ≡ ok v next
       → Answer s (reach room s) (valueImage f) Any (GoodValue f) at v next
@@ -68,32 +72,32 @@ module _ (s : List ℕ) (room : Room) (fits : reach room s ≤ length s) where
       after (numberIn room 1 s at) _ e λ n next e₁ e₂.
       let (t, e₃) = chosen (leb n 1) (λ _. ok (bits n) next) 14 at e₂ in
       settle (Answer s (reach room s) (valueImage Truth) Any (GoodValue Truth) at) e₃ (tt, leb-true n 1 t, number-inverse s room fits 1 .forth o h e₁ .2)
-  value-forth Led o {at = at} h e =
-      after (ledIn room s at) _ e λ xs next e₁ e₂.
-      settle (Answer s (reach room s) (valueImage Led) Any (GoodValue Led) at) e₂ (led-inverse s room fits .forth o h e₁)
+  value-forth (Led rule) o {at = at} h e =
+      after (ledIn rule room s at) _ e λ xs next e₁ e₂.
+      settle (Answer s (reach room s) (valueImage (Led rule)) Any (GoodValue (Led rule)) at) e₂ (led-inverse rule s room fits .forth o h e₁)
 
   value-octets : (f : Form) (v : Value) → GoodValue f v → Each Octet (valueImage f v)
   value-octets (Fixed w) (bits n) g = word-octets w n
   value-octets (Fixed w) (held xs) g = absurd g
   value-octets Truth (bits n) g = word-octets 1 n
   value-octets Truth (held xs) g = absurd g
-  value-octets Led (bits n) g = absurd g
-  value-octets Led (held xs) g = led-inverse s room fits .octets xs tt g
+  value-octets (Led rule) (bits n) g = absurd g
+  value-octets (Led rule) (held xs) g = led-inverse rule s room fits .octets xs tt g
 
   pub value-inverse : (f : Form) → Inverse s (reach room s) (valueIn room f s) (valueImage f) Any (GoodValue f)
   value-inverse f = record { back = λ v _ g p. value-back f v g p; forth = value-forth f; octets = λ v _ g. value-octets f v g }
 
--- What a room accepts, each of the same reach does, and refuses what it refuses.
+-- What a room accepts, each that reaches as far does; one of the same reach refuses what it refuses.
 module _ (s : List ℕ) (at : ℕ) where
-  pub value-carries : (f : Form) (r q : Room) → reach r s ≡ reach q s → {v : Value} {m : ℕ} → valueIn r f s at ≡ ok v m → valueIn q f s at ≡ ok v m
+  pub value-carries : (f : Form) (r q : Room) → reach r s ≤ reach q s → {v : Value} {m : ℕ} → valueIn r f s at ≡ ok v m → valueIn q f s at ≡ ok v m
   unfolding valueIn
-  value-carries (Fixed w) r q same e = after (numberIn r w s at) _ e λ n next e₁ e₂. rw (number-carries s at r q same w e₁) e₂
-  value-carries Truth r q same e = after (numberIn r 1 s at) _ e λ n next e₁ e₂. rw (number-carries s at r q same 1 e₁) e₂
-  value-carries Led r q same e = after (ledIn r s at) _ e λ xs next e₁ e₂. rw (led-carries s at r q same e₁) e₂
+  value-carries (Fixed w) r q far e = after (numberIn r w s at) _ e λ n next e₁ e₂. rw (number-carries s at r q far w e₁) e₂
+  value-carries Truth r q far e = after (numberIn r 1 s at) _ e λ n next e₁ e₂. rw (number-carries s at r q far 1 e₁) e₂
+  value-carries (Led rule) r q far e = after (ledIn rule r s at) _ e λ xs next e₁ e₂. rw (led-carries rule s at r q far e₁) e₂
 
   module _ (f : Form) (r q : Room) (same : reach r s ≡ reach q s) where
     pub value-ends : (p : ℕ) → ends (valueIn r f s at) ≡ ok p p → ends (valueIn q f s at) ≡ ok p p
-    value-ends p e = let (v, is) = ended (valueIn r f s at) p e in ap ends (value-carries f r q same is)
+    value-ends p e = let (v, is) = ended (valueIn r f s at) p e in ap ends (value-carries f r q (omega (arith, same)) is)
 
     pub value-refused : isOk (valueIn r f s at) ≡ false → isOk (valueIn q f s at) ≡ false
     value-refused e = go (isOk (valueIn q f s at)) refl
@@ -102,7 +106,7 @@ module _ (s : List ℕ) (at : ℕ) where
         go false t = t
         go true t =
             let (v, m, is) = value-is (valueIn q f s at) t in
-            let w : true ≡ false = sym (ap isOk (value-carries f q r (sym same) is)) ∙ e in
+            let w : true ≡ false = sym (ap isOk (value-carries f q r (omega (arith, same)) is)) ∙ e in
             absurd (let z : _≡_ {A = ℕ} 0 1 = cc in omega arith)
 
 -- Every form of the table is of at most eight octets.

@@ -19,7 +19,7 @@ use Rattle.kinds.proofs.Unsigned.{unsigned-signed}
 abbrev pub Bits : Form → ℕ → Type 0
 Bits (form.Fixed w) n = n < 256 ^ w
 Bits form.Truth n = n ≤ 1
-Bits form.Led n = n ≡ 0
+Bits (form.Led rule) n = n ≡ 0
 
 pub numeral-basic : (b : Basic) (n : ℕ) → basicOfValue (numeral b n) ≡ b
 numeral-basic basic.Int n = refl

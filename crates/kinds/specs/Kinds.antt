@@ -5,6 +5,7 @@ use mathlib.Core.Option.{Option, some, none}
 use lib.Dec.{leb, ltb, eqb}
 use lib.IntN.{ℤ, pos, negsuc, subℕ}
 use Rattle.octets.specs.Reading.{Read, ok, no, _then_, choose, number}
+use Rattle.texts.specs.declared.Rule.the-variants.{Free, Characters}
 use Rattle.kinds.specs.declared.Basic.{Basic}
 use Rattle.kinds.specs.declared.Basic.the-variants.{Int, UnsignedInt, Long, UnsignedLong, Float, Double, HexBinary, String, Boolean, Byte, UnsignedByte, Short, UnsignedShort}
 use Rattle.kinds.specs.declared.Kind.{Kind}
@@ -44,7 +45,7 @@ basicOf code = among code basics
 abbrev pub numberOf : Kind → ℕ
 numberOf k = k .derived * 256 + codeOf (k .basic)
 
--- The table's third column: so many octets, a 0 or 1 in one octet, octets behind a length.
+-- The table's third column: so many octets, a 0 or 1 in one octet, octets behind a length, which in a string are characters.
 abbrev pub formBy : Basic → Form
 formBy Int = Fixed 4
 formBy UnsignedInt = Fixed 4
@@ -52,8 +53,8 @@ formBy Long = Fixed 8
 formBy UnsignedLong = Fixed 8
 formBy Float = Fixed 4
 formBy Double = Fixed 8
-formBy HexBinary = Led
-formBy String = Led
+formBy HexBinary = Led Free
+formBy String = Led Characters
 formBy Boolean = Truth
 formBy Byte = Fixed 1
 formBy UnsignedByte = Fixed 1

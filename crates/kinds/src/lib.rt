@@ -14,6 +14,7 @@ ghost use Rattle.octets.specs.Reading.{ok, ends, isOk, reach};
 ghost use Rattle.octets.specs.Answers.{says, Within};
 use octets::Ended;
 use octets::Room;
+use texts::Rule;
 
 // A basic type.
 pub enum Basic {
@@ -66,11 +67,11 @@ impl Kind {
     pub const UNSIGNED_SHORT: u32 = 0x2d;
 }
 
-// How a value stands: in so many octets, as 0 or 1 in one octet, as octets behind a length.
+// How a value stands: in so many octets, as 0 or 1 in one octet, as octets behind a length, by their rule.
 pub enum Form {
     Fixed(usize),
     Truth,
-    Led,
+    Led(Rule),
 }
 
 // A value by its basic type: float and double as bits; octets are not held here, they stand in a document.
@@ -134,8 +135,8 @@ pub fn form_by(b: Basic) -> Form
         Basic::UnsignedLong => Form::Fixed(8),
         Basic::Float => Form::Fixed(4),
         Basic::Double => Form::Fixed(8),
-        Basic::HexBinary => Form::Led,
-        Basic::String => Form::Led,
+        Basic::HexBinary => Form::Led(Rule::Free),
+        Basic::String => Form::Led(Rule::Characters),
         Basic::Boolean => Form::Truth,
         Basic::Byte => Form::Fixed(1),
         Basic::UnsignedByte => Form::Fixed(1),
@@ -385,6 +386,6 @@ pub fn value_end(s: &[u8], at: usize, room: Room, form: Form) -> Ended
     match form {
         Form::Fixed(w) => octets::number_end(s, at, room, w),
         Form::Truth => truth_end(s, at, room),
-        Form::Led => octets::led_end(s, at, room),
+        Form::Led(rule) => texts::led_end(s, at, room, rule),
     }
 }

@@ -12,7 +12,8 @@ use Rattle.kinds.proofs.Table.{kind-inverse}
 use Rattle.layouts.specs.Layout.{Attribute, Layout, attributeAt, layoutAt, attributeImage, layoutImage, GoodAttribute, GoodLayout}
 use Rattle.octets.proofs.Spans.{Spans, all-spans, length-word}
 use Rattle.octets.proofs.Inverse.{Inverse, Any, done, seq, seqOn, several, finally, ok-value, reads-back, reads-forth}
-use Rattle.octets.proofs.Fields.{number-whole, text-whole, count-inverse}
+use Rattle.octets.proofs.Fields.{number-whole, count-inverse}
+use Rattle.texts.proofs.Fields.{text-whole}
 
 module _ (s : List ℕ) where
   pub attribute-inverse : Inverse s (length s) (attributeAt s) attributeImage Any GoodAttribute

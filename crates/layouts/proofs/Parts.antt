@@ -8,12 +8,13 @@ use lib.ListN.{length, drop}
 use native.Mathlib.Numerals.{add-one}
 use native.Mathlib.Omega.{arith}
 use Rattle.octets.specs.Limits.{mostAttributes}
-use Rattle.octets.specs.Reading.{Read, ok, ends, isOk, be, number, text, count, run}
+use Rattle.octets.specs.Reading.{Read, ok, ends, isOk, be, number, count, run}
 use Rattle.octets.specs.Writing.{Each, Octet}
 use Rattle.octets.proofs.Spans.{spans-front}
 use Rattle.octets.proofs.Inverse.{after, ok-value, ok-place}
 use Rattle.octets.proofs.Ends.{one-end, number-ok, number-room, count-ok, count-room, ends-ok, value-is, run-on, run-none, run-first}
 use Rattle.octets.proofs.Runs.{run-item, run-length}
+use Rattle.texts.specs.Texts.{text}
 use Rattle.kinds.specs.Kinds.{kindAt}
 use Rattle.kinds.proofs.Table.{kind-is}
 use Rattle.layouts.specs.Layout.{Attribute, Layout, attributeAt, layoutAt}

@@ -4,8 +4,9 @@ use mathlib.Core.Path.{_≡_, refl, _∙_}
 use mathlib.Core.List.{List}
 use lib.ListN.{length}
 use Rattle.octets.specs.Limits.{mostAttributes}
-use Rattle.octets.specs.Reading.{Read, ok, no, _then_, ends, be, number, text, count, run}
+use Rattle.octets.specs.Reading.{Read, ok, no, _then_, ends, be, number, count, run}
 use Rattle.octets.proofs.Ends.{on, stop, made, number-ok, number-no}
+use Rattle.texts.specs.Texts.{text}
 use Rattle.kinds.specs.Kinds.{kindAt}
 use Rattle.layouts.specs.Layout.{Layout, attributeAt, layoutAt}
 

@@ -3,8 +3,9 @@ use Prim.Native.Nat.{ℕ, _<_, _≤_, _^_}
 use mathlib.Core.List.{List, _++_}
 use lib.ListN.{length}
 use Rattle.octets.specs.Limits.{mostAttributes}
-use Rattle.octets.specs.Reading.{Read, ok, _then_, number, text, count, run}
-use Rattle.octets.specs.Writing.{word, ledImage, images, Each, GoodLed}
+use Rattle.octets.specs.Reading.{Read, ok, _then_, number, count, run}
+use Rattle.octets.specs.Writing.{word, images, Each}
+use Rattle.texts.specs.Texts.{text, ledImage, GoodText}
 use Rattle.kinds.specs.declared.Kind.{Kind}
 use Rattle.kinds.specs.Kinds.{numberOf, kindAt}
 
@@ -39,12 +40,12 @@ layoutImage l =
     word 4 (l .number) ++ ledImage (l .type-name) ++ word 4 (length (l .attributes)) ++ images attributeImage (l .attributes)
 
 pub record GoodAttribute (a : Attribute) : Type 0 where
-  pub name : GoodLed (a .name)
+  pub name : GoodText (a .name)
   pub derived : a .kind .derived < 256
 
 -- A layout inside the limits: numbers that fit their octets, strings of octets, at most 64 attributes.
 pub record GoodLayout (l : Layout) : Type 0 where
   pub number : l .number < 2 ^ 32
-  pub type-name : GoodLed (l .type-name)
+  pub type-name : GoodText (l .type-name)
   pub few : length (l .attributes) ≤ mostAttributes
   pub attributes : Each GoodAttribute (l .attributes)

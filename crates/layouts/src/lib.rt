@@ -7,8 +7,9 @@ ghost use mathlib.Core.List.{List, [], _∷_, _++_};
 ghost use Prim.Native.Nat.{ℕ, _+_, _≤_};
 ghost use lib.ListN.{length, take, drop};
 ghost use Rattle.octets.specs.Limits.{longest, bookRoom, mostLayouts};
-ghost use Rattle.octets.specs.Reading.{ok, ends, isOk, text, run, same};
+ghost use Rattle.octets.specs.Reading.{ok, ends, isOk, run, same};
 ghost use Rattle.octets.specs.Answers.{says, Within};
+ghost use Rattle.texts.specs.Texts.{text};
 ghost use Rattle.kinds.specs.Kinds.{kindAt};
 ghost use Rattle.layouts.specs.Layout.{Attribute, Layout, attributeAt, layoutAt, layoutImage};
 ghost use Rattle.layouts.specs.Book.{Book, bookImage, bookOf, bookIn, IsBook, layoutsAt, learning};
@@ -18,6 +19,7 @@ use kinds::Kinded;
 use octets::Counted;
 use octets::Ended;
 use octets::Room;
+use texts::Rule;
 
 // Where a number was looked up: the place of its layout, or how many layouts there are, none of them its.
 pub enum Looked {
@@ -49,7 +51,7 @@ fn attribute_end(s: &[u8], at: usize) -> Ended
     requires { ⌜ (at ≤ length (now s)) × (length (now s) ≤ longest) ⌝ }
     ensures { λ r. ⌜ (says r ≡ ends (attributeAt (now (s .entry)) at)) × Within at r (length (now (s .entry))) ⌝ }
 {
-    let name = octets::led_end(s, at, Room::Document);
+    let name = texts::led_end(s, at, Room::Document, Rule::Characters);
     match name {
         Ended::Refused(n, p) => Ended::Refused(n, p),
         Ended::End(next) => kind_end(s, next),
@@ -86,7 +88,7 @@ pub fn layout_end(s: &[u8], at: usize) -> Ended
     if s.len() < at + 4 {
         return Ended::Refused(1, at);
     }
-    let name = octets::led_end(s, at + 4, Room::Document);
+    let name = texts::led_end(s, at + 4, Room::Document, Rule::Characters);
     match name {
         Ended::Refused(n, p) => Ended::Refused(n, p),
         Ended::End(counted) => {
@@ -104,7 +106,7 @@ pub fn attribute_skip(s: &[u8], at: usize) -> usize
     requires { ⌜ (length (now s) ≤ longest) × (isOk (attributeAt (now s) at) ≡ true) ⌝ }
     ensures { λ r. ⌜ ends (attributeAt (now (s .entry)) at) ≡ ok r r ⌝ }
 {
-    octets::led_skip(s, at) + 4
+    texts::text_skip(s, at) + 4
 }
 
 // The place of the count of attributes of a layout that is known to be accepted: right behind its type name.
@@ -112,7 +114,7 @@ pub fn attributes_at(s: &[u8], at: usize) -> usize
     requires { ⌜ (length (now s) ≤ longest) × (isOk (layoutAt (now s) at) ≡ true) ⌝ }
     ensures { λ r. ⌜ (ends (text (now (s .entry)) (at + 4)) ≡ ok r r) × (r + 4 ≤ length (now (s .entry))) ⌝ }
 {
-    octets::led_skip(s, at + 4)
+    texts::text_skip(s, at + 4)
 }
 
 // The place behind a layout that is known to be accepted: lengths alone are read.
@@ -297,7 +299,7 @@ pub fn type_name<'s>(s: &'s [u8], at: usize) -> &'s [u8]
     requires { ⌜ (length (now s) ≤ longest) × (isOk (layoutAt (now s) at) ≡ true) ⌝ }
     ensures { λ r. ⌜ ((l : Layout) (end : ℕ) → layoutAt (now (s .entry)) at ≡ ok l end → now r ≡ l .type-name) ⌝ }
 {
-    octets::led_part(s, at + 4)
+    texts::led_part(s, at + 4)
 }
 
 // The count of attributes of a layout that is known to be accepted.
@@ -327,7 +329,7 @@ pub fn kind_behind(s: &[u8], at: usize) -> Kind
     requires { ⌜ (length (now s) ≤ longest) × (isOk (attributeAt (now s) at) ≡ true) ⌝ }
     ensures { λ r. ⌜ ((a : Attribute) (next : ℕ) → attributeAt (now (s .entry)) at ≡ ok a next → r ≡ a .kind) ⌝ }
 {
-    kinds::kind_here(s, octets::led_skip(s, at))
+    kinds::kind_here(s, texts::text_skip(s, at))
 }
 
 // The type of attribute n.

@@ -1,7 +1,8 @@
 -- The lines that the scope has proved of the specimen, computed.
 use mathlib.Core.Path.{refl}
-use Rattle.octets.specs.Reading.{be, part, numberIn, ledIn, count, exactly, run}
-use Rattle.octets.specs.Writing.{word, ledImage, images}
+use Rattle.octets.specs.Reading.{be, part, numberIn, count, exactly, run}
+use Rattle.octets.specs.Writing.{word, images}
+use Rattle.texts.specs.Texts.{ledIn, ledImage}
 use Rattle.kinds.specs.Kinds.{among, basicOf, signed, kindAt}
 use Rattle.layouts.specs.Layout.{attributeAt, layoutAt, attributeImage, layoutImage}
 use Rattle.layouts.specs.Book.{find, bookImage, learn}

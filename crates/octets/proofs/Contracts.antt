@@ -1,14 +1,11 @@
 -- The contracts of octets themselves: each allows one answer, and one final content of what is lent to be changed. Assumes nothing.
 use mathlib.Core.Path.{_≡_, refl, sym, _∙_}
-use Rattle.octets.specs.Contracts.{Once, OnceSeen}
+use Rattle.octets.specs.Contracts.{Once}
 use Rattle.octets.specs.Answers.{says, counts}
 use Rattle.octets.specs.declared.Ended.{Ended}
 use Rattle.octets.specs.declared.Ended.the-variants.{End, Refused}
 use Rattle.octets.specs.declared.Counted.{Counted}
 use Rattle.octets.specs.declared.Counted.the-variants as counted
-use denote.Ref.{now}
-use Rattle.octets.proofs.Ends.{value-is}
-use Rattle.octets.proofs.Inverse.{ok-place}
 use Rattle.octets.proofs.Alike.{_also_}
 use Rattle.octets.proofs.found_refusal as found-refusal
 use Rattle.octets.proofs.u8_at as u8-at
@@ -16,10 +13,8 @@ use Rattle.octets.proofs.u16_at as u16-at
 use Rattle.octets.proofs.u32_at as u32-at
 use Rattle.octets.proofs.u64_at as u64-at
 use Rattle.octets.proofs.reach as reach
+use Rattle.octets.proofs.overrun as overrun
 use Rattle.octets.proofs.number_end as number-end
-use Rattle.octets.proofs.led_end as led-end
-use Rattle.octets.proofs.led_skip as led-skip
-use Rattle.octets.proofs.led_part as led-part
 use Rattle.octets.proofs.count_at as count-at
 use Rattle.octets.proofs.octets_same as octets-same
 use Rattle.octets.proofs.copy_in as copy-in
@@ -34,10 +29,8 @@ pub record Contracts : Type 0 where
   pub of-u32-at : Once u32-at.Kinds.ps u32-at.Kinds.r u32-at.Reads.Pre u32-at.Reads.Post
   pub of-u64-at : Once u64-at.Kinds.ps u64-at.Kinds.r u64-at.Reads.Pre u64-at.Reads.Post
   pub of-reach : Once reach.Kinds.ps reach.Kinds.r reach.Reads.Pre reach.Reads.Post
+  pub of-overrun : Once overrun.Kinds.ps overrun.Kinds.r overrun.Reads.Pre overrun.Reads.Post
   pub of-number-end : Once number-end.Kinds.ps number-end.Kinds.r number-end.Reads.Pre number-end.Reads.Post
-  pub of-led-end : Once led-end.Kinds.ps led-end.Kinds.r led-end.Reads.Pre led-end.Reads.Post
-  pub of-led-skip : Once led-skip.Kinds.ps led-skip.Kinds.r led-skip.Reads.Pre led-skip.Reads.Post
-  pub of-led-part : OnceSeen led-part.Kinds.ps led-part.Kinds.r (λ κs x. now x) led-part.Reads.Pre led-part.Reads.Post
   pub of-count-at : Once count-at.Kinds.ps count-at.Kinds.r count-at.Reads.Pre count-at.Reads.Post
   pub of-octets-same : Once octets-same.Kinds.ps octets-same.Kinds.r octets-same.Reads.Pre octets-same.Reads.Post
   pub of-copy-in : Once copy-in.Kinds.ps copy-in.Kinds.r copy-in.Reads.Pre copy-in.Reads.Post
@@ -67,10 +60,8 @@ contracts =
       of-u32-at = λ κs a p x y u v e f. (e ∙ sym f, refl);
       of-u64-at = λ κs a p x y u v e f. (e ∙ sym f, refl);
       of-reach = λ κs a p x y u v e f. (e ∙ sym f, refl);
+      of-overrun = λ κs a p x y u v e f. (says-once x y (e ∙ sym f), refl);
       of-number-end = λ κs a p x y u v e f. (says-once x y (e .0 ∙ sym (f .0)), refl);
-      of-led-end = λ κs a p x y u v e f. (says-once x y (e .0 ∙ sym (f .0)), refl);
-      of-led-skip = λ κs a p x y u v e f. (ok-place (e .0) (f .0), refl);
-      of-led-part = λ κs a p x y u v e f. let (xs, next, is) = value-is _ (p .1) in (e xs next is ∙ sym (f xs next is), refl);
       of-count-at = λ κs a p x y u v e f. (counts-once x y (e .0 ∙ sym (f .0)), refl);
       of-octets-same = λ κs a p x y u v e f. (e ∙ sym f, refl);
       of-copy-in = λ κs a p x y u v e f. (refl, refl also (e ∙ sym f) also refl);

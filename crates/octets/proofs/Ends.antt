@@ -8,8 +8,7 @@ use lib.ListN.{length}
 use lib.Dec.{leb, eqb}
 use borrow.Author.Tests.{le-leb, lt-leb, leb-true, eq-eqb, ne-eqb}
 use native.Mathlib.Omega.{arith}
-use Rattle.octets.specs.Reading.{Read, ok, no, _then_, choose, ends, isOk, be, part, reach, overrun, numberIn, ledIn, number, text, count, exactly, run}
-use Rattle.octets.proofs.Inverse.{ok-value, ok-place}
+use Rattle.octets.specs.Reading.{Read, ok, no, _then_, choose, ends, isOk, be, reach, overrun, numberIn, number, count, exactly, run}
 use Rattle.octets.specs.Answers.{says, Within}
 use Rattle.octets.specs.declared.Room.{Room}
 use Rattle.octets.specs.declared.Room.the-variants.{Document, Stated}
@@ -84,7 +83,7 @@ overrun-within (Refused n q) room p at end e = tt
 overrun-within (End q) Document p at end e = absurd (let z : _≡_ {A = ℕ} 0 1 = cc in omega arith)
 overrun-within (End q) (Stated end′ l) p at end e = absurd (let z : _≡_ {A = ℕ} 0 1 = cc in omega arith)
 
--- Numbers and octets behind a length, once over the room.
+-- Numbers, once over the room.
 module _ (room : Room) (s : List ℕ) (at : ℕ) where
   pub number-in : (w : ℕ) → at + w ≤ reach room s → numberIn room w s at ≡ ok (be w s at) (at + w)
   unfolding numberIn
@@ -103,41 +102,12 @@ module _ (room : Room) (s : List ℕ) (at : ℕ) where
       go true t e = (leb-true (at + w) (reach room s) t, (let q : at + w ≡ p = cc in sym q))
       go false t e = absurd (never ℕ room at (sym (ends-ok (overrun room at)) ∙ ap isOk e))
 
-  pub led-in : at + 4 ≤ reach room s → at + 4 + be 4 s at ≤ reach room s → ledIn room s at ≡ ok (part s (at + 4) (be 4 s at)) (at + 4 + be 4 s at)
-  unfolding ledIn
-  led-in h g = rw (number-in 4 h, le-leb (at + 4 + be 4 s at) (reach room s) g) refl
-
-  pub led-cut : reach room s < at + 4 → ledIn room s at ≡ overrun room at
-  unfolding ledIn
-  led-cut h = rw (number-over 4 h) (overrun-then room at _)
-
-  pub led-over : at + 4 ≤ reach room s → reach room s < at + 4 + be 4 s at → ledIn room s at ≡ overrun room at
-  unfolding ledIn
-  led-over h g = rw (number-in 4 h, lt-leb (at + 4 + be 4 s at) (reach room s) g) refl
-
-  -- What accepted octets tell: their length is there, and all of them.
-  pub led-room : isOk (ledIn room s at) ≡ true → (at + 4 ≤ reach room s) × (at + 4 + be 4 s at ≤ reach room s)
-  unfolding ledIn numberIn
-  led-room t = go (leb (at + 4) (reach room s)) (leb (at + 4 + be 4 s at) (reach room s)) refl refl t
-    where
-      go : (a b : Bool) → leb (at + 4) (reach room s) ≡ a → leb (at + 4 + be 4 s at) (reach room s) ≡ b
-          → isOk (choose a (λ _. ok (be 4 s at) (at + 4)) (λ _. overrun room at) then λ n next. choose (leb (next + n) (reach room s)) (λ _. ok (part s next n) (next + n)) (λ _. overrun room at)) ≡ true
-          → (at + 4 ≤ reach room s) × (at + 4 + be 4 s at ≤ reach room s)
-      go true true e f h = (leb-true (at + 4) (reach room s) e, leb-true (at + 4 + be 4 s at) (reach room s) f)
-      go true false e f h = absurd (never (List ℕ) room at (rw f at h))
-      go false b e f h = absurd (never (List ℕ) room at (rw (overrun-then {B = List ℕ} room at _) at h))
-
--- What a room accepts, each of the same reach does.
-module _ (s : List ℕ) (at : ℕ) (r q : Room) (same : reach r s ≡ reach q s) where
+-- What a room accepts, each that reaches as far does.
+module _ (s : List ℕ) (at : ℕ) (r q : Room) (far : reach r s ≤ reach q s) where
   pub number-carries : (w : ℕ) {n m : ℕ} → numberIn r w s at ≡ ok n m → numberIn q w s at ≡ ok n m
   number-carries w e =
       let h = number-ended r s at w _ (ap ends e) .0 in
-      number-in q s at w (omega (arith, same)) ∙ (sym (number-in r s at w h) ∙ e)
-
-  pub led-carries : {xs : List ℕ} {m : ℕ} → ledIn r s at ≡ ok xs m → ledIn q s at ≡ ok xs m
-  led-carries e =
-      let (h, g) = led-room r s at (ap isOk e) in
-      led-in q s at (omega (arith, same)) (omega (arith, same)) ∙ (sym (led-in r s at h g) ∙ e)
+      number-in q s at w (omega (arith, far)) ∙ (sym (number-in r s at w h) ∙ e)
 
 module _ (s : List ℕ) (at : ℕ) where
   pub number-ok : (w : ℕ) → at + w ≤ length s → number w s at ≡ ok (be w s at) (at + w)
@@ -145,9 +115,6 @@ module _ (s : List ℕ) (at : ℕ) where
 
   pub number-no : (w : ℕ) → length s < at + w → number w s at ≡ no 1 at
   number-no w h = number-over Document s at w h
-
-  pub text-ok : at + 4 ≤ length s → at + 4 + be 4 s at ≤ length s → text s at ≡ ok (part s (at + 4) (be 4 s at)) (at + 4 + be 4 s at)
-  text-ok h g = led-in Document s at h g
 
   pub count-ok : (most : ℕ) → at + 4 ≤ length s → be 4 s at ≤ most → count most s at ≡ ok (be 4 s at) (at + 4)
   unfolding count
@@ -177,9 +144,6 @@ module _ (s : List ℕ) (at : ℕ) where
   pub number-room : (w : ℕ) → isOk (number w s at) ≡ true → at + w ≤ length s
   unfolding numberIn
   number-room w t = leb-true (at + w) (length s) (chosen-ok (leb (at + w) (length s)) (λ _. ok (be w s at) (at + w)) 1 at t)
-
-  pub text-room : isOk (text s at) ≡ true → (at + 4 ≤ length s) × (at + 4 + be 4 s at ≤ length s)
-  text-room t = led-room Document s at t
 
   pub count-room : (most : ℕ) → isOk (count most s at) ≡ true → (at + 4 ≤ length s) × (be 4 s at ≤ most)
   unfolding count
@@ -272,17 +236,3 @@ value-is (no n p) t = absurd (let z : _≡_ {A = ℕ} 0 1 = cc in omega arith)
 -- A reading that is accepted ends at one place.
 pub one-end : {A : Type 0} (r : Read A) {a : A} {n m : ℕ} → r ≡ ok a n → ends r ≡ ok m m → m ≡ n
 one-end r e f = cc (ap ends e, f)
-
--- A string where it stands: its octets are those behind its length.
-pub record TextAt (s : List ℕ) (at : ℕ) (xs : List ℕ) (next : ℕ) : Type 0 where
-  pub head : at + 4 ≤ length s
-  pub inside : next ≤ length s
-  pub place : next ≡ at + 4 + be 4 s at
-  pub is : part s (at + 4) (be 4 s at) ≡ xs
-
-pub text-stands : (s : List ℕ) (at : ℕ) {xs : List ℕ} {next : ℕ} → text s at ≡ ok xs next → TextAt s at xs next
-text-stands s at e =
-    let (h, g) = text-room s at (ap isOk e) in
-    let f = text-ok s at h g in
-    let p = ok-place e f in
-    record { head = h; inside = omega arith; place = p; is = ok-value f e }

@@ -1,4 +1,4 @@
--- The fields that every construct is made of: number, octets, string, count and fixed number each have a reading and an image that are inverse.
+-- The fields that every construct is made of: number, count and fixed number each have a reading and an image that are inverse.
 use mathlib.Core.Path.{_≡_, sym, ap, _∙_}
 use mathlib.Core.List.{List, _++_}
 use mathlib.Core.Bool.{Bool, true}
@@ -8,15 +8,15 @@ use native.Mathlib.Nat.{le-refl}
 use lib.ListN.{length}
 use lib.Dec.{leb, eqb}
 use borrow.Author.Tests.{leb-true, eqb-true, le-leb, eq-eqb}
-use Rattle.octets.specs.Reading.{Read, ok, no, _then_, choose, be, part, reach, overrun, numberIn, ledIn, number, text, count, exactly}
+use Rattle.octets.specs.Reading.{Read, ok, no, _then_, choose, be, part, reach, overrun, numberIn, number, count, exactly}
 use Rattle.octets.specs.declared.Room.{Room}
 use Rattle.octets.specs.declared.Room.the-variants.{Document, Stated}
-use Rattle.octets.specs.Writing.{word, ledImage, Each, Octet, GoodLed}
-use Rattle.octets.proofs.Spans.{join, middle, length-word, word-is, word-spans, word-octets, part-spans, part-is, spans-octets, each-append}
+use Rattle.octets.specs.Writing.{word, Each, Octet}
+use Rattle.octets.proofs.Spans.{length-word, word-is, word-spans, word-octets}
 use Rattle.octets.proofs.Inverse.{Inverse, Answer, Any, after, settle, chosen, reads-back, reads-forth}
 
 -- No reading succeeds where the room ends.
-roomy : {A : Type 0} (room : Room) (at : ℕ) (t : Bool) (x : Unit {0} → Read A) {a : A} {n : ℕ} → choose t x (λ _. overrun room at) ≡ ok a n
+pub roomy : {A : Type 0} (room : Room) (at : ℕ) (t : Bool) (x : Unit {0} → Read A) {a : A} {n : ℕ} → choose t x (λ _. overrun room at) ≡ ok a n
     → (t ≡ true) × (x tt ≡ ok a n)
 roomy Document at t x e = chosen t x 1 at e
 roomy (Stated end p) at t x e = chosen t x 13 p e
@@ -36,33 +36,9 @@ module _ (s : List ℕ) (room : Room) (fits : reach room s ≤ length s) where
         octets = λ n _ g. word-octets w n;
       }
 
-  pub led-inverse : Inverse s (reach room s) (ledIn room s) ledImage Any GoodLed
-  unfolding ledIn ledImage
-  led-inverse =
-      record {
-        back = λ xs {at} _ g p.
-            let (p₁, p₂) = middle (word 4 (length xs)) xs p in
-            rw (
-              number-inverse 4 .back (length xs) tt (g .1) p₁,
-              le-leb (at + length (word 4 (length xs)) + length xs) (reach room s) (omega (arith, p₂ .place, p₂ .inside)),
-              part-is p₂,
-              p₂ .place,
-            );
-        forth = λ o {a = xs} {at} h e.
-            after (numberIn room 4 s at) _ e λ n next e₁ e₂.
-            let (u, g, p) = number-inverse 4 .forth o h e₁ in
-            let (t, e₃) = roomy room at (leb (next + n) (reach room s)) (λ _. ok (part s next n) (next + n)) e₂ in
-            let (long, q) = part-spans next n (leb-true (next + n) (reach room s) t) fits in
-            settle (Answer s (reach room s) ledImage Any GoodLed at) e₃ (tt, (spans-octets o q, rw long g), join (rw (← long) at p) q);
-        octets = λ xs _ g. each-append (word 4 (length xs)) xs (word-octets 4 (length xs)) (g .0);
-      }
-
 module _ (s : List ℕ) where
   pub number-whole : (w : ℕ) → Inverse s (length s) (number w s) (word w) Any (λ n. n < 256 ^ w)
   number-whole w = number-inverse s Document (le-refl (length s)) w
-
-  pub text-whole : Inverse s (length s) (text s) ledImage Any GoodLed
-  text-whole = led-inverse s Document (le-refl (length s))
 
   -- A number of which more is asked, by a test.
   tested : (test : ℕ → Bool) (refusal : ℕ) {Good : ℕ → Type 0} → ((n : ℕ) → test n ≡ true → Good n) → ((n : ℕ) → Good n → (n < 256 ^ 4) × (test n ≡ true))
@@ -91,18 +67,12 @@ module _ (pre post : List ℕ) where
   pub number-back : (w n : ℕ) → n < 256 ^ w → number w (pre ++ (word w n ++ post)) (length pre) ≡ ok n (length pre + length (word w n))
   number-back w n g = reads-back (λ s. number-whole s w) n pre post g
 
-  pub text-back : (xs : List ℕ) → GoodLed xs → text (pre ++ (ledImage xs ++ post)) (length pre) ≡ ok xs (length pre + length (ledImage xs))
-  text-back xs g = reads-back text-whole xs pre post g
-
   pub count-back : (most n : ℕ) → most < 256 ^ 4 → n ≤ most → count most (pre ++ (word 4 n ++ post)) (length pre) ≡ ok n (length pre + length (word 4 n))
   count-back most n h g = reads-back (λ s. count-inverse s most h) n pre post g
 
 module _ (s : List ℕ) (o : Each Octet s) (at next : ℕ) (inside : at ≤ length s) where
   pub number-forth : (w n : ℕ) → number w s at ≡ ok n next → (n < 256 ^ w) × (at ≤ next) × (next ≤ length s) × (part s at (next - at) ≡ word w n)
   number-forth w n e = reads-forth (λ t. number-whole t w) s n at next o inside e
-
-  pub text-forth : (xs : List ℕ) → text s at ≡ ok xs next → GoodLed xs × (at ≤ next) × (next ≤ length s) × (part s at (next - at) ≡ ledImage xs)
-  text-forth xs e = reads-forth text-whole s xs at next o inside e
 
   pub count-forth : (most n : ℕ) → most < 256 ^ 4 → count most s at ≡ ok n next → (n ≤ most) × (at ≤ next) × (next ≤ length s) × (part s at (next - at) ≡ word 4 n)
   count-forth most n h e = reads-forth (λ t. count-inverse t most h) s n at next o inside e

@@ -60,18 +60,9 @@ overrun (Stated end length-at) at = no 13 length-at
 unfoldable pub numberIn : Room → ℕ → List ℕ → ℕ → Read ℕ
 numberIn room w s at = choose (leb (at + w) (reach room s)) (λ _. ok (be w s at) (at + w)) (λ _. overrun room at)
 
--- A four-octet length and that many octets, perhaps none; where they do not fit, the place is the length's.
-unfoldable pub ledIn : Room → List ℕ → ℕ → Read (List ℕ)
-ledIn room s at =
-    numberIn room 4 s at then λ n next.
-    choose (leb (next + n) (reach room s)) (λ _. ok (part s next n) (next + n)) (λ _. overrun room at)
-
--- A number and a string that only the document's end bounds; a string is octets behind a length, of which nothing more is asked.
+-- A number that only the document's end bounds.
 abbrev pub number : ℕ → List ℕ → ℕ → Read ℕ
 number = numberIn Document
-
-abbrev pub text : List ℕ → ℕ → Read (List ℕ)
-text = ledIn Document
 
 -- Refusal 4: a count over its limit, at the count.
 unfoldable pub count : ℕ → List ℕ → ℕ → Read ℕ

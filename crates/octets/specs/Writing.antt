@@ -1,5 +1,5 @@
 -- The image of a field: its octets.
-use Prim.Native.Nat.{ℕ, zero, suc, _+_, _/_, _%_, _<_, _^_}
+use Prim.Native.Nat.{ℕ, zero, suc, _+_, _/_, _%_, _<_}
 use mathlib.Core.List.{List, [], _∷_, _++_}
 use lib.ListN.{length, take, drop}
 
@@ -7,10 +7,6 @@ use lib.ListN.{length, take, drop}
 unfoldable pub word : ℕ → ℕ → List ℕ
 word zero n = []
 word (suc w) n = word w (n / 256) ++ n % 256 ∷ []
-
--- A four-octet length and that many octets. No padding anywhere.
-unfoldable pub ledImage : List ℕ → List ℕ
-ledImage xs = word 4 (length xs) ++ xs
 
 -- The images of a list's items, one after another.
 unfoldable pub images : {A : Type 0} → (A → List ℕ) → List A → List ℕ
@@ -28,7 +24,3 @@ Each P (a ∷ rest) = P a × Each P rest
 
 abbrev pub Octet : ℕ → Type 0
 Octet x = x < 256
-
--- Octets whose count fits a four-octet length: those that have an image.
-abbrev pub GoodLed : List ℕ → Type 0
-GoodLed xs = Each Octet xs × (length xs < 2 ^ 32)

@@ -1,13 +1,12 @@
-// Numbers and octets behind a length: read at a place, compared where they stand, put into the rest of a lent buffer.
+// Numbers and octets: read at a place, compared where they stand, put into the rest of a lent buffer. Octets behind a length are in texts.
 // What octets mean stands in specs/Reading.antt, their image in Writing.antt, the limits in Limits.antt; what is asked of a reading in Asked.antt, and of a contract in Contracts.antt.
 
 ghost use mathlib.Core.Path.{_≡_};
-ghost use mathlib.Core.Bool.{true};
-ghost use mathlib.Core.List.{List, _++_};
-ghost use Prim.Native.Nat.{ℕ, _+_, _≤_, _<_};
+ghost use mathlib.Core.List.{_++_};
+ghost use Prim.Native.Nat.{_+_, _≤_, _<_};
 ghost use lib.ListN.{length, drop};
 ghost use Rattle.octets.specs.Limits.{longest};
-ghost use Rattle.octets.specs.Reading.{ok, reach, overrun, be, same, ends, isOk, numberIn, ledIn, text, count};
+ghost use Rattle.octets.specs.Reading.{reach, overrun, be, same, ends, numberIn, count};
 ghost use Rattle.octets.specs.Writing.{word, over};
 ghost use Rattle.octets.specs.Answers.{says, counts, Within, CountWithin};
 ghost use Rattle.octets.specs.Asked.{refusalOf};
@@ -125,7 +124,7 @@ pub fn reach(room: Room, s: &[u8]) -> usize
 }
 
 // The refusal of a field that passes the end of its room.
-fn overrun(room: Room, at: usize) -> Ended
+pub fn overrun(room: Room, at: usize) -> Ended
     ensures { λ r. ⌜ says r ≡ overrun room at ⌝ }
 {
     match room {
@@ -143,48 +142,6 @@ pub fn number_end(s: &[u8], at: usize, room: Room, w: usize) -> Ended
         return overrun(room, at);
     }
     Ended::End(at + w)
-}
-
-// The place behind the octets whose length stands at a place: the one place that says where they end.
-fn led_behind(s: &[u8], at: usize) -> usize
-    requires { ⌜ (at + 4 ≤ length (now s)) × (length (now s) ≤ longest) ⌝ }
-    ensures { λ r. ⌜ r ≡ at + 4 + be 4 (now (s .entry)) at ⌝ }
-{
-    at + 4 + (u32_at(s, at) as usize)
-}
-
-// The place behind octets and their length.
-pub fn led_end(s: &[u8], at: usize, room: Room) -> Ended
-    requires { ⌜ (at ≤ 4294967296) × (reach room (now s) ≤ length (now s)) × (length (now s) ≤ longest) ⌝ }
-    ensures { λ r. ⌜ (says r ≡ ends (ledIn room (now (s .entry)) at)) × Within at r (reach room (now (s .entry))) ⌝ }
-{
-    let end = reach(room, s);
-    if end < at + 4 {
-        return overrun(room, at);
-    }
-    let next = led_behind(s, at);
-    if end < next {
-        return overrun(room, at);
-    }
-    Ended::End(next)
-}
-
-// The place behind octets that are known to be accepted.
-pub fn led_skip(s: &[u8], at: usize) -> usize
-    requires { ⌜ (length (now s) ≤ longest) × (isOk (text (now s) at) ≡ true) ⌝ }
-    ensures { λ r. ⌜ (ends (text (now (s .entry)) at) ≡ ok r r) × (at + 4 ≤ r) × (r ≤ length (now (s .entry))) ⌝ }
-{
-    led_behind(s, at)
-}
-
-// The octets behind a length that are known to be accepted.
-pub fn led_part<'s>(s: &'s [u8], at: usize) -> &'s [u8]
-    requires { ⌜ (length (now s) ≤ longest) × (isOk (text (now s) at) ≡ true) ⌝ }
-    ensures { λ r. ⌜ ((xs : List ℕ) (next : ℕ) → text (now (s .entry)) at ≡ ok xs next → now r ≡ xs) ⌝ }
-{
-    let stop = led_skip(s, at);
-    let start = at + 4;
-    return &s[start..stop];
 }
 
 // The count at a place, which is at most a limit.

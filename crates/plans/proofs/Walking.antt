@@ -8,13 +8,14 @@ use native.Mathlib.Omega.{arith}
 use lib.ListN.{length, getD}
 use lib.Dec.{leb}
 use borrow.Author.Tests.{leb-true, leb-false, eq-eqb, ne-eqb}
-use Rattle.octets.specs.Reading.{ok, ends, isOk, be, reach, ledIn}
+use Rattle.octets.specs.Reading.{ok, ends, isOk, be, reach}
 use Rattle.octets.specs.Answers.{says, Within}
 use Rattle.octets.specs.declared.Room.{Room}
 use Rattle.octets.specs.declared.Room.the-variants.{Stated}
 use Rattle.octets.specs.declared.Ended.{Ended}
 use Rattle.octets.specs.declared.Ended.the-variants.{End, Refused}
 use Rattle.octets.proofs.Spans.{Spans, middle, one-is, part-spans, part-is}
+use Rattle.texts.specs.declared.Rule.the-variants as rule
 use Rattle.kinds.specs.declared.Form.{Form}
 use Rattle.kinds.specs.declared.Form.the-variants as form
 use Rattle.kinds.specs.Kinds.{formOf}
@@ -22,10 +23,11 @@ use Rattle.layouts.specs.Layout.{Attribute}
 use Rattle.rows.specs.Row.{fieldsIn}
 use Rattle.kinds.specs.Forms.{valueIn}
 use Rattle.octets.proofs.Ends.{ends-ok, ok-alike, number-in, number-over, overrun-ends, overrun-no}
+use Rattle.texts.specs.Texts.{ledIn}
 use Rattle.kinds.proofs.Forms.{fixed-ends, led-ends, truth-ok, truth-over, truth-bad, value-ends, value-refused}
 use Rattle.rows.proofs.Values.{fields-none, fields-on, fields-no}
 use Rattle.plans.specs.Plan.{mark, planOf, Begins}
-use Rattle.plans.specs.Answers.{passedOf, closing, Closes}
+use Rattle.plans.specs.Answers.{passedOf, ruleAt, closing, Closes}
 
 -- What the first step of a plan behind v octets says, of values that end and of values that are refused.
 pub data Walk (v : ℕ) (xs : List Attribute) : Type 0 where
@@ -110,7 +112,8 @@ walk v (a ∷ others) = go (formOf (a .kind)) refl (λ w. walk (v + w) others)
     go : (f : Form) → formOf (a .kind) ≡ f → ((w : ℕ) → Walk (v + w) others) → Walk v (a ∷ others)
     go (form.Fixed w) e again = fixed v a others w e (again w)
     go form.Truth e again = closes v a others form.Truth 2 e refl (omega arith) (omega arith) refl
-    go form.Led e again = closes v a others form.Led 1 e refl (omega arith) (omega arith) refl
+    go (form.Led rule.Free) e again = closes v a others (form.Led rule.Free) 1 e refl (omega arith) (omega arith) refl
+    go (form.Led rule.Characters) e again = closes v a others (form.Led rule.Characters) 3 e refl (omega arith) (omega arith) refl
 
 -- What begins at a place, as a span and back.
 pub begins-spans : (s : List ℕ) (at : ℕ) (xs : List ℕ) → Begins s at xs → Spans s (length s) at (at + length xs) xs
@@ -205,23 +208,24 @@ module _ (s steps : List ℕ) (end : ℕ) (xs : List Attribute) (at pos j : ℕ)
             rest w m z y e = omega arith
 
 -- Octets that close a step, by their end in one room of that reach.
-pub closes-led : (s : List ℕ) (at end kind : ℕ) (x : Ended) → kind ≡ 1 → says x ≡ ends (ledIn (Stated end 0) s at) → Within at x end → Closes s at end kind (passedOf x)
+pub closes-led : (s : List ℕ) (at end kind : ℕ) (x : Ended) → (kind ≡ 2 → ⊥) → says x ≡ ends (ledIn (ruleAt kind) (Stated end 0) s at) → Within at x end
+    → Closes s at end kind (passedOf x)
 closes-led s at end kind (End p) k e w =
-    (w .0, w .1, λ room h. rw (eq-eqb kind 1 k) (value-ends s at form.Led (Stated end 0) room (sym h) p (led-ends (Stated end 0) s at ∙ sym e)))
+    (w .0, w .1, λ room h. rw (ne-eqb kind 2 k) (value-ends s at (form.Led (ruleAt kind)) (Stated end 0) room (sym h) p (led-ends (Stated end 0) s at (ruleAt kind) ∙ sym e)))
 closes-led s at end kind (Refused n p) k e w = λ room h.
-    rw (eq-eqb kind 1 k)
-    (value-refused s at form.Led (Stated end 0) room (sym h)
-    (sym (ends-ok (valueIn (Stated end 0) form.Led s at)) ∙ (ap isOk (led-ends (Stated end 0) s at) ∙ sym (ap isOk e))))
+    rw (ne-eqb kind 2 k)
+    (value-refused s at (form.Led (ruleAt kind)) (Stated end 0) room (sym h)
+    (sym (ends-ok (valueIn (Stated end 0) (form.Led (ruleAt kind)) s at)) ∙ (ap isOk (led-ends (Stated end 0) s at (ruleAt kind)) ∙ sym (ap isOk e))))
 
 -- A boolean that closes a step.
-module _ (room : Room) (s : List ℕ) (at kind : ℕ) (other : kind ≡ 1 → ⊥) where
+module _ (room : Room) (s : List ℕ) (at kind : ℕ) (is : kind ≡ 2) where
   pub close-truth : at + 1 ≤ reach room s → be 1 s at ≤ 1 → ends (valueIn room (closing kind) s at) ≡ ok (at + 1) (at + 1)
-  close-truth h g = rw (ne-eqb kind 1 other) (truth-ok room s at h g)
+  close-truth h g = rw (eq-eqb kind 2 is) (truth-ok room s at h g)
 
   pub close-none : reach room s < at + 1 → isOk (valueIn room (closing kind) s at) ≡ false
   close-none h =
-      rw (ne-eqb kind 1 other)
+      rw (eq-eqb kind 2 is)
       (overrun-no (valueIn room form.Truth s at) room at (truth-over room s at h))
 
   pub close-bad : at + 1 ≤ reach room s → 1 < be 1 s at → isOk (valueIn room (closing kind) s at) ≡ false
-  close-bad h g = rw (ne-eqb kind 1 other) (sym (ends-ok (valueIn room form.Truth s at)) ∙ ap isOk (truth-bad room s at h g))
+  close-bad h g = rw (eq-eqb kind 2 is) (sym (ends-ok (valueIn room form.Truth s at)) ∙ ap isOk (truth-bad room s at h g))

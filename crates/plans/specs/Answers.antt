@@ -9,6 +9,8 @@ use Rattle.octets.specs.Reading.{ok, ends, isOk, choose, be, reach}
 use Rattle.octets.specs.declared.Room.{Room}
 use Rattle.octets.specs.declared.Ended.{Ended}
 use Rattle.octets.specs.declared.Ended.the-variants as ended
+use Rattle.texts.specs.declared.Rule.{Rule}
+use Rattle.texts.specs.declared.Rule.the-variants as rule
 use Rattle.kinds.specs.declared.Form.{Form}
 use Rattle.kinds.specs.declared.Form.the-variants as form
 use Rattle.layouts.specs.Layout.{Attribute}
@@ -30,9 +32,12 @@ abbrev pub passedOf : Ended → Passed
 passedOf (ended.End p) = passed.To p
 passedOf (ended.Refused n p) = passed.Unsure
 
--- The form of the value that closes a step.
+-- The rule of octets that close a step, and the form of the value that closes it.
+abbrev pub ruleAt : ℕ → Rule
+ruleAt kind = choose (eqb kind 1) (λ _. rule.Free) (λ _. rule.Characters)
+
 abbrev pub closing : ℕ → Form
-closing kind = choose (eqb kind 1) (λ _. form.Led) (λ _. form.Truth)
+closing kind = choose (eqb kind 2) (λ _. form.Truth) (λ _. form.Led (ruleAt kind))
 
 -- The value that closes a step ends at a place, or is refused.
 abbrev pub Closes : List ℕ → ℕ → ℕ → ℕ → Passed → Type 0

@@ -5,16 +5,23 @@ use mathlib.Core.List.{List, [], _∷_}
 use lib.ListN.{length}
 use lib.Dec.{eqb}
 use Rattle.octets.specs.Reading.{choose, part}
+use Rattle.texts.specs.declared.Rule.{Rule}
+use Rattle.texts.specs.declared.Rule.the-variants as rule
 use Rattle.kinds.specs.declared.Form.{Form}
 use Rattle.kinds.specs.declared.Form.the-variants as form
 use Rattle.kinds.specs.Kinds.{formOf}
 use Rattle.layouts.specs.Layout.{Attribute, Layout}
 
--- What a form adds to a step: four for each octet of a number; one for octets behind a length, two for a boolean, and these close the step.
+-- The number that says what rule the octets obey that close a step.
+abbrev pub closer : Rule → ℕ
+closer rule.Free = 1
+closer rule.Characters = 3
+
+-- What a form adds to a step: four for each octet of a number; two for a boolean, one or three for octets behind a length, and these close the step.
 abbrev pub mark : Form → ℕ
 mark (form.Fixed w) = w * 4
 mark form.Truth = 2
-mark form.Led = 1
+mark (form.Led rule) = closer rule
 
 -- The steps of attributes behind a sum. The last step is a multiple of four, every other is not.
 unfoldable pub planOf : ℕ → List Attribute → List ℕ

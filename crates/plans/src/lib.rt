@@ -1,5 +1,5 @@
 // Plans: a layout's values as steps made once, so that a row's values are passed without its layout's octets.
-// A step is four times the octets of numbers that stand side by side; one or two more where octets behind a length or a boolean close it. The last step of a plan is a multiple of four.
+// A step is four times the octets of numbers that stand side by side; more by one where free octets behind a length close it, by two where a boolean, by three where a string does. The last step of a plan is a multiple of four.
 // A plan is defined in specs/Plan.antt; what it must agree with is rows Row, and where plans are kept is walks.
 
 ghost use mathlib.Core.Path.{_≡_};
@@ -11,11 +11,12 @@ ghost use Rattle.octets.specs.Reading.{ok, run};
 ghost use Rattle.layouts.specs.Layout.{Attribute, attributeAt};
 ghost use Rattle.rows.specs.Answers.{Attributes};
 ghost use Rattle.kinds.specs.Forms.{Slim};
-ghost use Rattle.plans.specs.Plan.{mark, planOf, mostSteps, Plan};
-ghost use Rattle.plans.specs.Answers.{Puts, passedOf, Closes, Follows, Lasts};
+ghost use Rattle.plans.specs.Plan.{closer, mark, planOf, mostSteps, Plan};
+ghost use Rattle.plans.specs.Answers.{Puts, passedOf, ruleAt, Closes, Follows, Lasts};
 use kinds::Form;
 use octets::Ended;
 use octets::Room;
+use texts::Rule;
 
 // How many steps there are in all, with those that say where plans stand.
 pub const MOST_STEPS: usize = 1216;
@@ -39,6 +40,16 @@ pub fn wide(x: u16) -> usize
     x as usize
 }
 
+// The number that says what rule the octets obey that close a step.
+fn closer_of(rule: Rule) -> u16
+    ensures { λ r. ⌜ (r ≡ closer rule) × (r < 4) ⌝ }
+{
+    match rule {
+        Rule::Free => 1,
+        Rule::Characters => 3,
+    }
+}
+
 // What a form adds to a step.
 fn mark_of(form: Form) -> u16
     requires { ⌜ Slim form ⌝ }
@@ -47,7 +58,7 @@ fn mark_of(form: Form) -> u16
     match form {
         Form::Fixed(w) => (w * 4) as u16,
         Form::Truth => 2,
-        Form::Led => 1,
+        Form::Led(rule) => closer_of(rule),
     }
 }
 
@@ -68,7 +79,7 @@ pub fn put_plan<'d, 'p>(
     let mut sum: u16 = 0;
     let mut i: u32 = 0;
     while i < count {
-        let kind = octets::led_skip(doc, place);
+        let kind = texts::text_skip(doc, place);
         let form = kinds::form_here(doc, kind);
         let more = mark_of(form);
         place = kind + 4;
@@ -101,13 +112,23 @@ fn passed_of(ended: Ended) -> Passed
     }
 }
 
+// And back: the rule of octets that close a step.
+fn rule_at(kind: usize) -> Rule
+    ensures { λ r. ⌜ r ≡ ruleAt kind ⌝ }
+{
+    if kind == 1 {
+        return Rule::Free;
+    }
+    Rule::Characters
+}
+
 // The place behind the value that closes a step.
 fn close_end(doc: &[u8], at: usize, end: usize, kind: usize) -> Passed
     requires { ⌜ (end ≤ length (now doc)) × (length (now doc) ≤ longest) × (at ≤ 2097152) ⌝ }
     ensures { λ r. ⌜ Closes (now (doc .entry)) at end kind r ⌝ }
 {
-    if kind == 1 {
-        return passed_of(octets::led_end(doc, at, Room::Stated(end, 0)));
+    if kind != 2 {
+        return passed_of(texts::led_end(doc, at, Room::Stated(end, 0), rule_at(kind)));
     }
     if end < at + 1 {
         return Passed::Unsure;

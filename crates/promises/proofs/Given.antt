@@ -6,8 +6,9 @@ use lib.ListN.{length, take, set, replicate, length-replicate}
 use lib.Dec.{lit<}
 use borrow.Author.Tests.{lt-leb}
 use Rattle.octets.specs.Limits.{longest}
-use Rattle.octets.specs.Reading.{Read, no, be, part, numberIn, ledIn, count, exactly, run}
-use Rattle.octets.specs.Writing.{word, ledImage, images}
+use Rattle.octets.specs.Reading.{Read, no, be, part, numberIn, count, exactly, run}
+use Rattle.octets.specs.Writing.{word, images}
+use Rattle.texts.specs.Texts.{ledIn, ledImage}
 use Rattle.kinds.specs.Kinds.{among, basicOf, kindAt}
 use Rattle.layouts.specs.Layout.{attributeAt, layoutAt, attributeImage, layoutImage}
 use Rattle.layouts.specs.Book.{find, bookImage, layoutsAt, bookOf, learn}

@@ -8,7 +8,7 @@ use lib.ListN.{length, drop, length-append}
 use lib.Dec.{leb}
 use Rattle.octets.specs.Limits.{longest}
 use Rattle.octets.specs.Reading.{Read, ok, no, number}
-use Rattle.octets.specs.Writing.{word, ledImage, images, Each, Octet}
+use Rattle.octets.specs.Writing.{word, images, Each, Octet}
 use Rattle.octets.proofs.Spans.{Spans, middle, length-word}
 use Rattle.octets.proofs.Fields.{number-whole}
 use Rattle.octets.proofs.Inverse.{chosen}
@@ -25,6 +25,7 @@ use Rattle.questions.specs.Questions.{rowOf, layoutOf, rowAsked}
 use Rattle.kinds.specs.Values.{octetsOf}
 use Rattle.questions.specs.Answers.{fieldTells, kindTells}
 use Rattle.octets.proofs.Asked.{nth-none, nth-some}
+use Rattle.texts.specs.Texts.{ledImage}
 use Rattle.questions.proofs.Asked.{attribute-asked, field-asked, field-unasked}
 use Rattle.questions.proofs.After.{row-after, layout-after}
 use Rattle.header_questions.specs.Questions.{namespacesPlace, servicesPlace, namespaceAsked, serviceAsked}

@@ -1,7 +1,7 @@
 -- Every case marked as proved gets its answer: one statement, which antt computes. Assumes nothing.
 use mathlib.Core.Path.{_≡_, refl}
-use Rattle.octets.specs.Reading.{be, part, numberIn, ledIn, count, exactly, run}
-use Rattle.octets.specs.Writing.{word, ledImage, images}
+use Rattle.octets.specs.Reading.{be, part, numberIn, count, exactly, run}
+use Rattle.octets.specs.Writing.{word, images}
 use Rattle.kinds.specs.Kinds.{among, basicOf, signed, kindAt}
 use Rattle.layouts.specs.Layout.{attributeAt, layoutAt, attributeImage, layoutImage}
 use Rattle.layouts.specs.Book.{find, bookImage, layoutsAt, bookOf, learn}
@@ -13,6 +13,7 @@ use Rattle.elements.specs.Steps.{lentBook}
 use Rattle.elements.specs.Walk.{walk, through}
 use Rattle.elements.specs.Reading.{readingFrom, reading, whole}
 use Rattle.octets.specs.Asked.{nth}
+use Rattle.texts.specs.Texts.{ledIn, ledImage}
 use Rattle.questions.specs.Questions.{kindAsked, bookAsked, rowAsked, fieldAsked}
 use Rattle.promises.specs.Specimen.{specimen, shorts, layoutBook, shortBook, emptyBook}
 use Rattle.promises_questions.specs.Cases.{cases, asks, expects}

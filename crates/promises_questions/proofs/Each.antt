@@ -5,8 +5,8 @@ use mathlib.Core.List.{List, [], _∷_, _++_}
 use lib.ListN.{length, set}
 use borrow.Author.Tests.{lt-leb}
 use Rattle.octets.specs.Limits.{longest}
-use Rattle.octets.specs.Reading.{Read, no, be, part, numberIn, ledIn, count, exactly, run}
-use Rattle.octets.specs.Writing.{word, ledImage, images}
+use Rattle.octets.specs.Reading.{Read, no, be, part, numberIn, count, exactly, run}
+use Rattle.octets.specs.Writing.{word, images}
 use Rattle.kinds.specs.Kinds.{among, basicOf, kindAt}
 use Rattle.layouts.specs.Layout.{Attribute, Layout, attributeAt, layoutAt, attributeImage, layoutImage}
 use Rattle.layouts.specs.Book.{find, bookImage, layoutsAt, bookOf, learn}
@@ -16,6 +16,7 @@ use Rattle.headers.specs.Header.{Namespace, namespaceAt, idAt, headerFrom, head
 use Rattle.elements.specs.Element.{elementAt}
 use Rattle.elements.specs.Steps.{lentBook}
 use Rattle.octets.specs.Asked.{nth}
+use Rattle.texts.specs.Texts.{ledIn, ledImage}
 use Rattle.questions.specs.Questions.{kindAsked, bookAsked, rowAsked, fieldAsked, layoutAsked, attributeAsked}
 use Rattle.header_questions.specs.Questions.{namespaceAsked, serviceAsked}
 use Rattle.promises.specs.Specimen.{specimen, layoutBook, emptyBook}

@@ -9,8 +9,9 @@ use lib.ListN.{length, length-append}
 use lib.Dec.{leb, eqb, lit<}
 use borrow.Author.Tests.{eqb-true, leb-true}
 use Rattle.octets.specs.Limits.{longest, mostListed}
-use Rattle.octets.specs.Writing.{word, ledImage, images, Each, Octet, GoodLed}
+use Rattle.octets.specs.Writing.{word, images, Each, Octet}
 use Rattle.octets.proofs.Spans.{each-join}
+use Rattle.texts.specs.Texts.{ledImage, GoodText}
 use Rattle.headers.specs.Header.{Namespace, Header, headerImage, GoodNamespace, GoodHeader}
 use Rattle.writing_parts.specs.Faults.{fine, unless}
 use Rattle.writing_parts.proofs.Faults.{holds}
@@ -24,7 +25,7 @@ use Rattle.promises_writing.proofs.Put.{octetsOf, images-snoc, each-sno
 use Rattle.promises_writing.proofs.Shapes.{InHeader, namespaced, served, Shape, Stand, rest, Inv, PassesHere, leftHere, put-keeps}
 
 -- A string whose octets were put fits a length.
-pub is-text : (xs : List ℕ) → Each Octet xs → length (ledImage xs) ≤ longest → GoodLed xs
+pub is-text : (xs : List ℕ) → Each Octet xs → length (ledImage xs) ≤ longest → GoodText xs
 unfolding ledImage
 is-text xs e h = (e, omega (arith, length-append (word 4 (length xs)) xs))
 
@@ -32,14 +33,14 @@ is-text xs e h = (e, omega (arith, length-append (word 4 (length xs)) xs))
 abbrev header : List ℕ → ℕ → List ℕ → List Namespace → List (List ℕ) → List ℕ → Header
 header r s d o v i = record { recorder = r; start = s; default = d; others = o; services = v; id = i }
 
-good-header : {r : List ℕ} {s : ℕ} {d : List ℕ} {o : List Namespace} {v : List (List ℕ)} {i : List ℕ} → GoodLed r → s < 2 ^ 64 → GoodLed d → length o ≤ 16 → Each GoodNamespace o
-    → length v ≤ 16 → Each GoodLed v → length i ≡ 16 → Each Octet i → GoodHeader (header r s d o v i)
+good-header : {r : List ℕ} {s : ℕ} {d : List ℕ} {o : List Namespace} {v : List (List ℕ)} {i : List ℕ} → GoodText r → s < 2 ^ 64 → GoodText d → length o ≤ 16 → Each GoodNamespace o
+    → length v ≤ 16 → Each GoodText v → length i ≡ 16 → Each Octet i → GoodHeader (header r s d o v i)
 good-header g₁ g₂ g₃ g₄ g₅ g₆ g₇ g₈ g₉ =
     record { recorder = g₁; start = g₂; default = g₃; few-others = g₄; others = g₅; few-services = g₆; services = g₇; id-length = g₈; id = g₉ }
 
 -- One call more of a header.
 on : {calls more : Header → ℕ → List ℕ → List Call} {Counts Next : Header → ℕ → Type 0} {x : Spot} {done : List ℕ} {told : Account} (c : Call) (u : Wanted) (j : ℕ)
-    (i : InHeader calls Counts x done told) (h : Header) (n : ℕ) (name : List ℕ) → GoodHeader h → GoodLed name → Next h n
+    (i : InHeader calls Counts x done told) (h : Header) (n : ℕ) (name : List ℕ) → GoodHeader h → GoodText name → Next h n
     → calls (i .h) (i .n) (i .name) ++ c ∷ [] ≡ more h n name → InHeader more Next (spot (x .book) u j (x .start) (x .rows)) (done ++ octetsOf c) (adds told c)
 on {told = told} c u j i h n name good text counts said =
     record {
@@ -69,7 +70,7 @@ module _ {buffer lent : List ℕ} {told : Account} (now : Stand buffer lent told
       put-keeps now (adds told (recorder xs)) wants.Recorder wants.StartTime fine (word 4 4 ++ ledImage xs) 0 (now .at .start) p λ i _ small.
       let h = i .h in
       let g = i .good in
-      let text : GoodLed xs = is-text xs o (omega (arith, length-append (word 4 4) (ledImage xs))) in
+      let text : GoodText xs = is-text xs o (omega (arith, length-append (word 4 4) (ledImage xs))) in
       on (recorder xs) wants.StartTime 0 i (header xs (h .start) (h .default) (h .others) (h .services) (h .id)) 0 []
       (good-header text (g .start) (g .default) (g .few-others) (g .others) (g .few-services) (g .services) (g .id-length) (g .id)) (tt, lit< tt) tt refl
 
@@ -159,7 +160,7 @@ module _ {buffer lent : List ℕ} {told : Account} (now : Stand buffer lent told
       let long : length services ≡ length (h .services) + 1 = length-append (h .services) (xs ∷ []) in
       let h₁ : Header = header (h .recorder) (h .start) (h .default) (h .others) services (h .id) in
       let g₁ : GoodHeader h₁ =
-      good-header (g .recorder) (g .start) (g .default) (g .few-others) (g .others) (omega arith) (each-join GoodLed (h .services) (xs ∷ []) (g .services) (is-text xs o small, tt)) (g .id-length) (g .id) in
+      good-header (g .recorder) (g .start) (g .default) (g .few-others) (g .others) (omega arith) (each-join GoodText (h .services) (xs ∷ []) (g .services) (is-text xs o small, tt)) (g .id-length) (g .id) in
       let said : served h (i .n) ++ service xs ∷ [] ≡ served h₁ (i .n) = rw (each-snoc serviceCalls (h .services) xs) (simp append-assoc) in
       at-turn (λ u. Shape u (spot (now .at .book) u left (now .at .start) (now .at .rows)) (now .done ++ ledImage xs) (adds told (service xs))) left wants.Service wants.DocumentId
       (λ _. on (service xs) wants.Service left i h₁ (i .n) [] g₁ (tt, lit< tt) (omega arith, sum .1) said)

@@ -11,9 +11,10 @@ use lib.Dec.{leb, ltb, eqb, lit<}
 use borrow.Author.Tests.{eqb-true, eqb-false, leb-true, ltb-true}
 use Rattle.octets.specs.Limits.{mostAttributes}
 use Rattle.octets.specs.Reading.{ok}
-use Rattle.octets.specs.Writing.{word, ledImage, images, Each, Octet}
+use Rattle.octets.specs.Writing.{word, images, Each, Octet}
 use Rattle.octets.proofs.Spans.{each-join}
 use Rattle.octets.proofs.Inverse.{chosen, refused}
+use Rattle.texts.specs.Texts.{ledImage}
 use Rattle.kinds.specs.declared.Kind.{Kind}
 use Rattle.kinds.specs.Kinds.{numberOf, basicOf, kindFor, kindOf}
 use Rattle.kinds.proofs.Table.{kind-for, code-of-basic}

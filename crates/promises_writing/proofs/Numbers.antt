@@ -5,8 +5,9 @@ use mathlib.Core.List.{List, [], _∷_, _++_}
 use mathlib.Core.Bool.{true, false}
 use lib.IntN.{negsuc}
 use lib.ListN.{replicate, set}
-use Rattle.octets.specs.Reading.{be, part, numberIn, ledIn, count, run}
-use Rattle.octets.specs.Writing.{word, ledImage, images, over}
+use Rattle.octets.specs.Reading.{be, part, numberIn, count, run}
+use Rattle.octets.specs.Writing.{word, images, over}
+use Rattle.texts.specs.Texts.{ledIn, ledImage}
 use Rattle.kinds.specs.declared.Basic.the-variants as b
 use Rattle.kinds.specs.declared.Value.the-variants as value
 use Rattle.kinds.specs.Values.{basicOfValue}

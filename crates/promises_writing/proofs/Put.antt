@@ -3,7 +3,8 @@
 use Prim.Native.Nat.{ℕ}
 use mathlib.Core.Path.{_≡_, refl, sym, ap, _∙_}
 use mathlib.Core.List.{List, [], _∷_, _++_, append-assoc, append-nil}
-use Rattle.octets.specs.Writing.{word, ledImage, images}
+use Rattle.octets.specs.Writing.{word, images}
+use Rattle.texts.specs.Texts.{ledImage}
 use Rattle.layouts.specs.Layout.{Layout, attributeImage, layoutImage}
 use Rattle.rows.specs.Row.{Row, fieldImage, lengthImage}
 use Rattle.headers.specs.Header.{Header, namespaceImage, headerImage}

@@ -8,7 +8,8 @@ use mathlib.Core.Option.{some}
 use native.Mathlib.Omega.{arith}
 use lib.ListN.{length, take, drop, length-append, length-drop}
 use Rattle.octets.specs.Limits.{longest}
-use Rattle.octets.specs.Writing.{images, GoodLed}
+use Rattle.octets.specs.Writing.{images}
+use Rattle.texts.specs.Texts.{GoodText}
 use Rattle.layouts.specs.Layout.{Layout, GoodLayout}
 use Rattle.layouts.specs.Book.{Book, find, bookImage, GoodBook}
 use Rattle.rows.specs.Row.{Row, FieldsOf}
@@ -32,7 +33,7 @@ pub record InHeader (calls : Header → ℕ → List ℕ → List Call) (Counts 
   pub n : ℕ
   pub name : List ℕ
   pub good : GoodHeader h
-  pub text : GoodLed name
+  pub text : GoodText name
   pub counts : Counts h n
   pub said : told .latest ≡ calls h n name
   pub is : done ≡ images octetsOf (told .latest)
@@ -66,7 +67,7 @@ pub record InLayout (calls : Layout → ℕ → List ℕ → List Call) (Counts 
   pub n : ℕ
   pub name : List ℕ
   pub good : GoodLayout l
-  pub text : GoodLed name
+  pub text : GoodText name
   pub counts : Counts l n
   pub said : told .latest ≡ calls l n name
 

@@ -10,8 +10,9 @@ use lib.ListN.{length, take, drop, length-append}
 use lib.Seq.{take-append-seam}
 use Rattle.octets.specs.Limits.{mostRows, bookRoom}
 use Rattle.octets.specs.Reading.{ok, choose}
-use Rattle.octets.specs.Writing.{word, images, Each, GoodLed}
+use Rattle.octets.specs.Writing.{word, images, Each}
 use Rattle.octets.proofs.Spans.{each-join}
+use Rattle.texts.specs.Texts.{GoodText}
 use Rattle.kinds.specs.declared.Form.{Form}
 use Rattle.kinds.specs.declared.Form.the-variants as form
 use Rattle.kinds.specs.Kinds.{formOf}
@@ -131,7 +132,7 @@ unfolding callsOf headerCalls
 given d g =
     let h = d .header in
     let others = given-each GoodNamespace namespaceCalls (λ n k. (k .uri .0, (k .short .0, tt))) (h .others) (g .header .others) in
-    let services = given-each GoodLed serviceCalls (λ xs k. (k .0, tt)) (h .services) (g .header .services) in
+    let services = given-each GoodText serviceCalls (λ xs k. (k .0, tt)) (h .services) (g .header .services) in
     let last = each-join Given (each serviceCalls (h .services)) (documentId (h .id) ∷ []) services (g .header .id, tt) in
     let lists = each-join Given (each namespaceCalls (h .others)) (serviceCount (length (h .services)) ∷ (each serviceCalls (h .services) ++ documentId (h .id) ∷ [])) others (tt, last) in
     each-join Given (headerCalls h) (each itemCalls (d .items) ++ finish (d .end) ∷ []) (g .header .recorder .0, (g .header .start, (g .header .default .0, (tt, lists))))

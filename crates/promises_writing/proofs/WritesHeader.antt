@@ -8,7 +8,8 @@ use lib.ListN.{length, drop, length-append}
 use lib.Dec.{leb, eqb, eqb·suc-zero}
 use borrow.Author.Tests.{le-leb, eq-eqb}
 use Rattle.octets.specs.Limits.{mostRows, bookRoom}
-use Rattle.octets.specs.Writing.{word, ledImage, images}
+use Rattle.octets.specs.Writing.{word, images}
+use Rattle.texts.specs.Texts.{ledImage}
 use Rattle.layouts.specs.Book.{Book, bookImage, GoodBook}
 use Rattle.headers.specs.Header.{Namespace, Header, namespaceImage, headerImage, GoodHeader}
 use Rattle.elements.proofs.Behind.{holding-of}

@@ -10,8 +10,9 @@ use lib.Arith.{digits-mod}
 use borrow.Author.Tests.{le-leb, eq-eqb}
 use Rattle.octets.specs.Limits.{mostRows, bookRoom, mostAttributes}
 use Rattle.octets.specs.Reading.{ok}
-use Rattle.octets.specs.Writing.{word, ledImage, images, Each}
+use Rattle.octets.specs.Writing.{word, images, Each}
 use Rattle.octets.proofs.Spans.{length-word}
+use Rattle.texts.specs.Texts.{ledImage}
 use Rattle.kinds.specs.declared.Kind.{Kind}
 use Rattle.kinds.specs.Kinds.{numberOf, kindOf}
 use Rattle.kinds.proofs.Table.{code-known, kind-some}

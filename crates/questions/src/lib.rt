@@ -143,7 +143,7 @@ pub fn field_name<'d, 'b>(
     let FieldSpot::At(attribute, value) = spot else {
         return &book[..0];
     };
-    octets::led_part(&book[..used], attribute)
+    texts::led_part(&book[..used], attribute)
 }
 
 // The octets of field n of the row at a place, a part of the document; empty where there is a refusal, and where the value is a number.
@@ -163,7 +163,7 @@ pub fn field_octets<'d, 'b>(
     };
     let kind = layouts::kind_behind(&book[..used], attribute);
     if row_fields::is_held(kind) {
-        return octets::led_part(doc, value);
+        return texts::led_part(doc, value);
     }
     return &doc[..0];
 }
@@ -282,7 +282,7 @@ pub fn attribute_name<'d, 'b>(
     let Ended::End(place) = attribute else {
         return &doc[..0];
     };
-    octets::led_part(doc, place)
+    texts::led_part(doc, place)
 }
 
 // The type of attribute n of the layout at a place.

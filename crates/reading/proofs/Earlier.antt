@@ -4,8 +4,9 @@ use mathlib.Core.List.{List, _++_}
 use Prim.Native.Nat.{ℕ}
 use lib.IntN.{negsuc}
 use lib.ListN.{replicate}
-use Rattle.octets.specs.Reading.{be, part, numberIn, ledIn, count, exactly, run}
+use Rattle.octets.specs.Reading.{be, part, numberIn, count, exactly, run}
 use Rattle.octets.specs.Writing.{word}
+use Rattle.texts.specs.Texts.{ledIn}
 use Rattle.kinds.specs.Kinds.{signed}
 use Rattle.headers.specs.Header.{namespaceAt, idAt, headerFrom, headerAt}
 use Rattle.elements.specs.Element.{finish}

@@ -7,10 +7,12 @@ use native.Mathlib.Omega.{arith}
 use lib.ListN.{length}
 use lib.Dec.{leb}
 use borrow.Author.Tests.{leb-true}
-use Rattle.octets.specs.Reading.{ok, isOk, be, numberIn, ledIn, text}
-use Rattle.octets.specs.declared.Room.the-variants.{Stated}
+use Rattle.octets.specs.Reading.{ok, be, numberIn}
+use Rattle.octets.specs.declared.Room.the-variants.{Document, Stated}
 use Rattle.octets.proofs.Inverse.{after, chosen, ok-value, ok-place}
-use Rattle.octets.proofs.Ends.{text-ok, led-in, led-room}
+use Rattle.texts.specs.Texts.{ledIn}
+use Rattle.texts.specs.declared.Rule.{Rule}
+use Rattle.texts.proofs.Ends.{led-carries}
 use Rattle.kinds.specs.declared.Basic.{Basic}
 use Rattle.kinds.specs.declared.Form.{Form}
 use Rattle.kinds.specs.declared.Form.the-variants as form
@@ -41,19 +43,15 @@ module _ (s : List ℕ) (end at : ℕ) where
       let (t, f) = chosen (leb n 1) (λ _. ok (bits n) mid) 14 at e₂ in
       (h, sym (ap bitsOf (ok-value refl f)) ∙ is)
 
-  led-stood : (inside : end ≤ length s) {xs : List ℕ} {next : ℕ} → ledIn (Stated end 0) s at ≡ ok xs next → text s at ≡ ok xs next
-  led-stood inside e =
-      let (h, g) = led-room (Stated end 0) s at (ap isOk e) in
-      text-ok s at (omega arith) (omega arith) ∙ (sym (led-in (Stated end 0) s at h g) ∙ e)
-
-  -- Octets are read as a string in the document, and a number holds none.
-  pub held-stood : (f : Form) (inside : end ≤ length s) {v : Value} {next : ℕ} → isHeld f ≡ true → valueIn (Stated end 0) f s at ≡ ok v next → text s at ≡ ok (octetsOf v) next
+  -- Octets are read by their rule in the document, and a number holds none.
+  pub held-stood : (f : Form) (inside : end ≤ length s) {v : Value} {next : ℕ} → isHeld f ≡ true → valueIn (Stated end 0) f s at ≡ ok v next
+      → (rule : Rule) × (ledIn rule Document s at ≡ ok (octetsOf v) next)
   unfolding valueIn
   held-stood (form.Fixed w) inside t e = absurd (let z : _≡_ {A = ℕ} 0 1 = cc in omega arith)
   held-stood form.Truth inside t e = absurd (let z : _≡_ {A = ℕ} 0 1 = cc in omega arith)
-  held-stood form.Led inside {next = next} t e =
-      after (ledIn (Stated end 0) s at) _ e λ xs mid e₁ e₂.
-      led-stood inside e₁ ∙ (ap (ok xs) (ok-place refl e₂) ∙ ap (λ (x : Value). ok (octetsOf x) next) (ok-value refl e₂))
+  held-stood (form.Led rule) inside {next = next} t e =
+      after (ledIn rule (Stated end 0) s at) _ e λ xs mid e₁ e₂.
+      (rule, led-carries rule s at (Stated end 0) Document inside e₁ ∙ (ap (ok xs) (ok-place refl e₂) ∙ ap (λ (x : Value). ok (octetsOf x) next) (ok-value refl e₂)))
 
   pub number-held : (f : Form) {v : Value} {next : ℕ} → isHeld f ≡ false → valueIn (Stated end 0) f s at ≡ ok v next → octetsOf v ≡ []
   unfolding valueIn
@@ -64,20 +62,20 @@ module _ (s : List ℕ) (end at : ℕ) where
       after (numberIn (Stated end 0) 1 s at) _ e λ n mid e₁ e₂.
       let (t₁, f) = chosen (leb n 1) (λ _. ok (bits n) mid) 14 at e₂ in
       sym (ap octetsOf (ok-value refl f))
-  number-held form.Led t e = absurd (let z : _≡_ {A = ℕ} 0 1 = cc in omega arith)
+  number-held (form.Led rule) t e = absurd (let z : _≡_ {A = ℕ} 0 1 = cc in omega arith)
 
 -- The width of a number.
 abbrev pub Wide : Form → ℕ → Type 0
 Wide (form.Fixed v) w = v ≡ w
 Wide form.Truth w = 1 ≡ w
-Wide form.Led w = ⊥
+Wide (form.Led rule) w = ⊥
 
 -- A number of w octets stands within the document, and by its octets its value is said.
 module _ (s : List ℕ) (b c : Basic) (at w : ℕ) (told : b ≡ c) (wide : Wide (formBy c) w) (v : Stood s b at) where
   by-form : (f : Form) → Wide f w → valueIn (Stated (v .end) 0) f s at ≡ ok (v .value) (v .next) → (at + w ≤ v .end) × (bitsOf (v .value) ≡ be w s at)
   by-form (form.Fixed u) e r = subst (λ (x : ℕ). (at + x ≤ v .end) × (bitsOf (v .value) ≡ be x s at)) e (fixed-stood s (v .end) at u r)
   by-form form.Truth e r = subst (λ (x : ℕ). (at + x ≤ v .end) × (bitsOf (v .value) ≡ be x s at)) e (truth-stood s (v .end) at r)
-  by-form form.Led e r = absurd e
+  by-form (form.Led rule) e r = absurd e
 
   spelt : (at + w ≤ v .end) × (bitsOf (v .value) ≡ be w s at)
   spelt = by-form (formBy b) (subst (λ (x : Basic). Wide (formBy x) w) (sym told) wide) (v .reads)

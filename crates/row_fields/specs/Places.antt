@@ -91,4 +91,4 @@ Spots s book read (spot.Refused n p) = read ≡ no n p
 abbrev pub isHeld : Form → Bool
 isHeld (form.Fixed w) = false
 isHeld form.Truth = false
-isHeld form.Led = true
+isHeld (form.Led rule) = true

@@ -127,6 +127,6 @@ pub fn is_held(kind: Kind) -> bool
     match form {
         Form::Fixed(w) => false,
         Form::Truth => false,
-        Form::Led => true,
+        Form::Led(rule) => true,
     }
 }

@@ -32,7 +32,7 @@ pub fn fields_end<'d, 'b>(
     let mut place = first;
     let mut i: u32 = 0;
     while i < count {
-        let kind = octets::led_skip(book, place);
+        let kind = texts::text_skip(book, place);
         let form = kinds::form_here(book, kind);
         place = kind + 4;
         i += 1;

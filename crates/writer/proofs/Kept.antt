@@ -12,8 +12,9 @@ use lib.Dec.{leb, ltb, eqb}
 use borrow.Author.Tests.{leb-true, leb-false, eqb-true, eqb-false, ltb-true}
 use Rattle.octets.specs.Limits.{mostRows, bookRoom, mostAttributes, mostListed}
 use Rattle.octets.specs.Reading.{ok, choose, isOk, be}
-use Rattle.octets.specs.Writing.{word, ledImage, Each, Octet}
+use Rattle.octets.specs.Writing.{word, Each, Octet}
 use Rattle.octets.proofs.Spans.{length-word}
+use Rattle.texts.specs.Texts.{ledImage}
 use Rattle.kinds.specs.declared.Basic.{Basic}
 use Rattle.kinds.specs.Kinds.{kindOf}
 use Rattle.layouts.specs.Layout.{Attribute, Layout, GoodLayout}

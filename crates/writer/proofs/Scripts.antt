@@ -1,8 +1,9 @@
 -- Every script answers and leaves what it says: the definition is run. Assumes nothing.
 use mathlib.Core.Path.{_≡_, refl}
 use mathlib.Core.Bool.{true}
-use Rattle.octets.specs.Reading.{be, part, numberIn, ledIn, count, run}
-use Rattle.octets.specs.Writing.{word, ledImage, images, over}
+use Rattle.octets.specs.Reading.{be, part, numberIn, count, run}
+use Rattle.octets.specs.Writing.{word, images, over}
+use Rattle.texts.specs.Texts.{ledIn, ledImage}
 use Rattle.kinds.specs.Kinds.{among, basicOf, kindAt}
 use Rattle.layouts.specs.Layout.{attributeAt, layoutAt, attributeImage, layoutImage}
 use Rattle.layouts.specs.Book.{find, layoutsAt, bookOf, bookIn}

@@ -7,7 +7,8 @@ use lib.ListN.{length, drop, replicate}
 use lib.Dec.{leb, ltb, eqb}
 use Rattle.octets.specs.Limits.{longest, mostRows, mostAttributes, mostListed}
 use Rattle.octets.specs.Reading.{Read, ok, no, _then_, choose, isOk, be, part}
-use Rattle.octets.specs.Writing.{word, ledImage, over}
+use Rattle.octets.specs.Writing.{word, over}
+use Rattle.texts.specs.Texts.{ledImage}
 use Rattle.kinds.specs.declared.Basic.{Basic}
 use Rattle.kinds.specs.declared.Form.{Form}
 use Rattle.kinds.specs.declared.Form.the-variants as form

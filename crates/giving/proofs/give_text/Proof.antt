@@ -5,7 +5,8 @@ use mathlib.Core.List.{List, [], _++_, append-nil}
 use Prim.Native.Nat.{ℕ}
 use denote.Ref.{now}
 use lib.ListN.{length}
-use Rattle.octets.specs.Writing.{word, ledImage}
+use Rattle.octets.specs.Writing.{word}
+use Rattle.texts.specs.Texts.{ledImage}
 use Rattle.writer.proofs.Tests.{same-put, gave}
 use Rattle.giving.proofs.give_text.Statement.{statement}
 use Rattle.giving.proofs.give_text.Tie as tie

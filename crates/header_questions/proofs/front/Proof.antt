@@ -6,7 +6,8 @@ use mathlib.Core.Path.{_≡_, sym, ap, _∙_, subst}
 use mathlib.Core.Bool.{Bool}
 use Rattle.octets.specs.Reading.{isOk}
 use Rattle.octets.specs.Asked.{partOf}
-use Rattle.octets.proofs.Ends.{text-room}
+use Rattle.texts.specs.declared.Rule.the-variants.{Characters}
+use Rattle.texts.proofs.Ends.{text-stands, text-there}
 use Rattle.headers.specs.Header.{Header, headerAt}
 use Rattle.headers.specs.Answers.{Accepted, Locates}
 use Rattle.headers.specs.declared.Placing.{Placing}
@@ -32,17 +33,17 @@ returns-2 c =
     let f = c .before in
     let h = head (f .before) in
     let s = now (f .before .before .before .before .before .before .args .doc) in
-    c .led-part .ensures _ _ (h .located .default) ∙ (sym (ap (partOf (λ (x : Header). x .default)) (h .reads)) ∙ ap (λ (b : Bool). partOf (frontOf b) (headerAt s)) (sym (f .if1 .taken)))
+    c .led-part .ensures Characters _ _ (h .located .default) ∙ (sym (ap (partOf (λ (x : Header). x .default)) (h .reads)) ∙ ap (λ (b : Bool). partOf (frontOf b) (headerAt s)) (sym (f .if1 .taken)))
 
 returns-3 : tie.Need-returns-3
 returns-3 c =
     let f = c .before in
     let h = head (f .before) in
     let s = now (f .before .before .before .before .before .before .args .doc) in
-    c .led-part2 .ensures _ _ (h .located .recorder) ∙ (sym (ap (partOf (λ (x : Header). x .recorder)) (h .reads)) ∙ ap (λ (b : Bool). partOf (frontOf b) (headerAt s)) (sym (f .if1 .left)))
+    c .led-part2 .ensures Characters _ _ (h .located .recorder) ∙ (sym (ap (partOf (λ (x : Header). x .recorder)) (h .reads)) ∙ ap (λ (b : Bool). partOf (frontOf b) (headerAt s)) (sym (f .if1 .left)))
 
 pub front-spec : {M : Type 1} → statement M
 front-spec =
     tie.close
-    (tie.spec (λ c κs. search needs) (λ c. search needs) (λ c. search needs) (λ c. search needs) returns (λ c. let h = head (c .before) in omega (arith, h .short, text-room _ _ (ap isOk (h .located .default)) .0))
-    (λ c κs. let h = head (c .before) in (h .short, ap isOk (h .located .default))) returns-2 (λ c κs. let h = head (c .before) in (h .short, ap isOk (h .located .recorder))) returns-3)
+    (tie.spec (λ c κs. search needs) (λ c. search needs) (λ c. search needs) (λ c. search needs) returns (λ c. let h = head (c .before) in omega (arith, h .short, text-stands _ _ (h .located .default) .head))
+    (λ c κs. let h = head (c .before) in (h .short, text-there _ _ (ap isOk (h .located .default)))) returns-2 (λ c κs. let h = head (c .before) in (h .short, text-there _ _ (ap isOk (h .located .recorder)))) returns-3)

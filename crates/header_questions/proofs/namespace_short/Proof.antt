@@ -3,11 +3,14 @@ use borrow.Author.Needs.{needs}
 use Prim.Native.Nat.{ℕ}
 use denote.Ref.{now}
 use mathlib.Core.Path.{_≡_, sym, ap, _∙_, subst}
-use Rattle.octets.specs.Reading.{ok, ends, isOk, text}
+use Rattle.octets.specs.Reading.{ok, ends, isOk}
 use Rattle.octets.specs.declared.Ended.{Ended}
 use Rattle.headers.specs.Header.{Namespace, namespaceAt}
 use Rattle.octets.specs.Asked.{partOf, Standing, StandsAt}
 use Rattle.octets.proofs.Inverse.{ok-place}
+use Rattle.texts.specs.Texts.{text}
+use Rattle.texts.specs.declared.Rule.the-variants.{Characters}
+use Rattle.texts.proofs.Ends.{text-there}
 use Rattle.header_questions.specs.Questions.{namespaceAsked}
 use Rattle.header_questions.proofs.Lists.{namespace-parts}
 use Rattle.header_questions.proofs.namespace_short.Statement.{statement}
@@ -33,20 +36,20 @@ item : (k : At) → Standing (now (Start k .args .doc)) (namespaceAt (now (Start
 item k = found (k .before .before .before) _ (k .before .listed .given .1)
 
 -- The short name stands where the URI ends.
-behind : (m : tie.After-led-skip) → text (now (Start (m .before) .args .doc)) (m .led-skip .result) ≡ ok (item (m .before) .item .short) (item (m .before) .last)
+behind : (m : tie.After-text-skip) → text (now (Start (m .before) .args .doc)) (m .text-skip .result) ≡ ok (item (m .before) .item .short) (item (m .before) .last)
 behind m =
     let i = item (m .before) in
     let s = now (Start (m .before) .args .doc) in
     let (mid, first, second) = namespace-parts s _ _ _ (i .reads) in
-    subst (λ (p : ℕ). text s p ≡ ok (i .item .short) (i .last)) (ok-place (ap ends first) (m .led-skip .ensures .0)) second
+    subst (λ (p : ℕ). text s p ≡ ok (i .item .short) (i .last)) (ok-place (ap ends first) (m .text-skip .ensures .0)) second
 
 returns-2 : tie.Need-returns-2
 returns-2 c =
     let i = item (c .before .before) in
-    c .led-part .ensures _ _ (behind (c .before)) ∙ sym (ap (partOf (λ (x : Namespace). x .short)) (i .is))
+    c .led-part .ensures Characters _ _ (behind (c .before)) ∙ sym (ap (partOf (λ (x : Namespace). x .short)) (i .is))
 
 pub namespace-short-spec : {M : Type 1} → statement M
 namespace-short-spec =
     tie.close
     (tie.spec (λ c κs. search needs) (λ c. search needs) (λ c. search needs) (λ c. search needs) returns (λ c κs. (item c .short, ap isOk (namespace-parts _ _ _ _ (item c .reads) .1)))
-    (λ c κs. (item (c .before) .short, ap isOk (behind c))) returns-2)
+    (λ c κs. (item (c .before) .short, text-there _ _ (ap isOk (behind c)))) returns-2)

@@ -4,7 +4,8 @@ use Prim.Native.Nat.{ℕ}
 use denote.Ref.{now}
 use mathlib.Core.Path.{_≡_, _∙_}
 use mathlib.Core.List.{List}
-use Rattle.octets.specs.Reading.{ok, text}
+use Rattle.octets.specs.Reading.{ok}
+use Rattle.texts.specs.Texts.{text}
 use Rattle.headers.specs.Header.{Namespace, namespaceAt}
 use Rattle.header_questions.proofs.Lists.{namespace-parts, is-text, text-shown}
 use Rattle.header_questions.proofs.namespace_uri.Statement.{statement}

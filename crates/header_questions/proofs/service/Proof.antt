@@ -2,7 +2,7 @@
 use borrow.Author.Needs.{needs}
 use denote.Ref.{now}
 use mathlib.Core.Path.{_∙_}
-use Rattle.octets.specs.Reading.{text}
+use Rattle.texts.specs.Texts.{text}
 use Rattle.header_questions.proofs.Lists.{is-text, text-shown}
 use Rattle.header_questions.proofs.service.Statement.{statement}
 use Rattle.header_questions.proofs.service.Tie as tie

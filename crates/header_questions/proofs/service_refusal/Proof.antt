@@ -2,8 +2,8 @@
 use borrow.Author.Needs.{needs}
 use denote.Ref.{now}
 use mathlib.Core.Path.{_∙_}
-use Rattle.octets.specs.Reading.{text}
 use Rattle.octets.proofs.Asked.{refusal-stands}
+use Rattle.texts.specs.Texts.{text}
 use Rattle.header_questions.proofs.service_refusal.Statement.{statement}
 use Rattle.header_questions.proofs.service_refusal.Tie as tie
 

@@ -6,10 +6,11 @@ use denote.Ref.{now}
 use mathlib.Core.Path.{_≡_, sym, ap, _∙_}
 use mathlib.Core.List.{List}
 use lib.ListN.{length}
-use Rattle.octets.specs.Reading.{ok, ends, text}
+use Rattle.octets.specs.Reading.{ok, ends}
 use Rattle.octets.specs.Answers.{says, Within}
 use Rattle.octets.specs.declared.Ended.the-variants.{End}
 use Rattle.octets.proofs.Ends.{behind}
+use Rattle.texts.specs.Texts.{text}
 use Rattle.headers.proofs.Parts.{item-stop, namespace-on}
 use Rattle.headers.proofs.item_end.Statement.{statement}
 use Rattle.headers.proofs.item_end.Tie as tie

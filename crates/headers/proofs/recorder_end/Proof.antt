@@ -4,9 +4,10 @@ use native.Mathlib.Omega.{arith}
 use denote.Ref.{now}
 use mathlib.Core.Path.{refl, sym, ap, _∙_}
 use lib.ListN.{length}
-use Rattle.octets.specs.Reading.{ends, text, exactly}
+use Rattle.octets.specs.Reading.{ends, exactly}
 use Rattle.octets.specs.Answers.{says}
 use Rattle.octets.proofs.Ends.{on, stop, behind}
+use Rattle.texts.specs.Texts.{text}
 use Rattle.headers.proofs.recorder_end.Statement.{statement}
 use Rattle.headers.proofs.recorder_end.Tie as tie
 

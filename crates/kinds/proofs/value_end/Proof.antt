@@ -35,9 +35,9 @@ returns-2 c =
 
 returns-3 : tie.Need-returns-3
 returns-3 c =
-    let a = c .before .before .before .before .args in
+    let a = c .before .before .before .before .before .args in
     let v = c .led-end .ensures in
-    (v .0 ∙ (sym (led-ends (a .room) (now (a .s)) (a .at)) ∙ matched (a .room) (now (a .s)) (a .at) (c .before .enum-told2 .given .1)), v .1)
+    (v .0 ∙ (sym (led-ends (a .room) (now (a .s)) (a .at) _) ∙ matched (a .room) (now (a .s)) (a .at) (c .before .before .form2 .given .1)), v .1)
 
 pub value-end-spec : {M : Type 1} → statement M
 value-end-spec =

@@ -2,7 +2,11 @@
 use borrow.Author.Needs.{needs}
 use native.Mathlib.Omega.{arith}
 use denote.Ref.{now}
-use mathlib.Core.Path.{sym, subst}
+use mathlib.Core.Path.{sym, ap, _∙_, subst}
+use Rattle.octets.specs.Reading.{ends}
+use Rattle.octets.specs.declared.Room.the-variants.{Stated}
+use Rattle.texts.specs.Texts.{ledIn}
+use Rattle.texts.specs.declared.Rule.{Rule}
 use Rattle.plans.specs.Answers.{Closes}
 use Rattle.plans.proofs.Walking.{closes-led, close-truth, close-none, close-bad}
 use Rattle.plans.proofs.close_end.Statement.{statement}
@@ -11,9 +15,11 @@ use Rattle.plans.proofs.close_end.Tie as tie
 returns : tie.Need-returns
 returns c =
     let l = c .before in
-    let a = l .before .before .before .args in
+    let r = l .before in
+    let a = r .before .before .before .args in
+    let rule = ap (λ (x : Rule). ends (ledIn x (Stated (a .end) 0) (now (a .doc)) (a .at))) (r .rule-at .ensures) in
     subst (Closes (now (a .doc)) (a .at) (a .end) (a .kind)) (sym (c .passed-of .ensures))
-    (closes-led (now (a .doc)) (a .at) (a .end) (a .kind) (l .led-end .result) (l .before .if1 .taken) (l .led-end .ensures .0) (l .led-end .ensures .1))
+    (closes-led (now (a .doc)) (a .at) (a .end) (a .kind) (l .led-end .result) (r .before .if1 .taken) (l .led-end .ensures .0 ∙ rule) (l .led-end .ensures .1))
 
 returns-2 : tie.Need-returns-2
 returns-2 c = λ room h.
@@ -34,5 +40,5 @@ returns-4 c =
 pub close-end-spec : {M : Type 1} → statement M
 close-end-spec =
     tie.close
-    (tie.spec (λ c κs. search needs) (λ c κs. search needs) returns (λ c. search needs) returns-2 (λ c κs. search needs) returns-3
+    (tie.spec (λ c κs. search needs) (λ c κs. search needs) (λ c κs. search needs) returns (λ c. search needs) returns-2 (λ c κs. search needs) returns-3
     (λ c. search needs) returns-4)

@@ -73,10 +73,10 @@ abbrev Of : Marked → Turn
 Of s = s .before .before .before
 
 abbrev Kind : Marked → ℕ
-Kind s = s .before .before .led-skip .result
+Kind s = s .before .before .text-skip .result
 
 described : (s : Marked) (a : Attribute) (next : ℕ) → attributeAt (Doc (Of s)) (Of s .before .loop .place) ≡ ok a next → Described (Doc (Of s)) (Of s .before .loop .place) a next (Kind s)
-described s a next e = attribute-fields (Doc (Of s)) (Of s .before .loop .place) (Kind s) (s .before .before .led-skip .ensures .0) e
+described s a next e = attribute-fields (Doc (Of s)) (Of s .before .loop .place) (Kind s) (s .before .before .text-skip .ensures .0) e
 
 is-mark : (s : Marked) (a : Attribute) (next : ℕ) → attributeAt (Doc (Of s)) (Of s .before .loop .place) ≡ ok a next → mark (formOf (a .kind)) ≡ s .mark-of .result
 is-mark s a next e = sym (s .mark-of .ensures .0 ∙ ap mark (s .before .form-here .ensures .0 (a .kind) next (described s a next e .kind)))
@@ -176,8 +176,8 @@ pub put-plan-spec : {M : Type 1} → statement M
 put-plan-spec =
     tie.close
     (tie.spec Inv-loop μ-loop loop-holds (λ c κs. (Start c .pre .0, attribute-named (Doc c) (c .before .loop .place) (accepted c)))
-    (λ c κs. attribute-typed (Doc (c .before)) (c .before .before .loop .place) (c .led-skip .result) (c .led-skip .ensures .0) (accepted (c .before))) (λ c κs. c .form-here .ensures .1)
-    (λ c. omega (arith, c .before .before .led-skip .ensures .2, Start (Of c) .pre .0)) (λ c. let t = Of c in omega (arith, t .loop-test .taken))
+    (λ c κs. attribute-typed (Doc (c .before)) (c .before .before .loop .place) (c .text-skip .result) (c .text-skip .ensures .0) (accepted (c .before))) (λ c κs. c .form-here .ensures .1)
+    (λ c. omega (arith, c .before .before .text-skip .ensures .2, Start (Of c) .pre .0)) (λ c. let t = Of c in omega (arith, t .loop-test .taken))
     (λ c. omega (arith, sum-small (c .before))) (λ c. let t = Of (c .before) in omega (arith, t .loop-test .taken)) loop-again returns
     (λ c. omega (arith, sum-small (c .before .before))) (λ c. omega (arith, c .if2 .left, Start (Of (c .before .before)) .pre .3)) (λ c. omega (arith, c .if2 .left, Start (Of (c .before .before)) .pre .3))
     (λ c. omega (arith, c .if2 .left, Start (Of (c .before .before)) .pre .3))

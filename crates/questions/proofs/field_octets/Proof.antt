@@ -4,8 +4,9 @@ use native.Mathlib.Omega.{arith}
 use denote.Ref.{now}
 use mathlib.Core.Path.{_≡_, sym, ap, _∙_}
 use mathlib.Core.Bool.{Bool, true, false}
-use Rattle.octets.specs.Reading.{ok, isOk, text}
+use Rattle.octets.specs.Reading.{ok, isOk}
 use Rattle.octets.specs.Asked.{partOf}
+use Rattle.texts.specs.Texts.{text}
 use Rattle.kinds.specs.Kinds.{formOf}
 use Rattle.kinds.specs.Values.{octetsOf}
 use Rattle.kinds.specs.declared.Kind.{Kind}

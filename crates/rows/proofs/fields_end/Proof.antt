@@ -84,7 +84,7 @@ answered : (v : Answered) (x : Ended) → v .value-end .result ≡ x → (a : At
     → ends (valueIn (In (Of v)) (formOf (a .kind)) (Doc (Of v)) (Pos (Of v))) ≡ says x
 answered v x e a next r =
     let f = v .before in
-    let n = f .before .led-skip in
+    let n = f .before .text-skip in
     let form = f .form-here .ensures .0 (a .kind) next (attribute-fields (Book (Of v)) (Place (Of v)) (n .result) (n .ensures .0) r .kind) in
     ap (λ (f : Form). ends (valueIn (In (Of v)) f (Doc (Of v)) (Pos (Of v)))) (sym form) ∙ (sym (v .value-end .ensures .0) ∙ ap says e)
 
@@ -98,7 +98,7 @@ loop-again c =
       w .1,
       λ xs last e.
           let n = next-of t xs last e in
-          let m = v .before .before .led-skip in
+          let m = v .before .before .text-skip in
           let place : n .next ≡ m .result + 4 = attribute-fields (Book t) (Place t) (m .result) (m .ensures .0) (n .reads) .place in
           subst (λ (p : ℕ). Left (Book t) (Doc t) (In t) xs (Start t .args .at) last (More t) p (c .before .one .given .0 .0)) place
           (n .on _ (answered v _ (c .before .one .given .1) (n .attribute) (n .next) (n .reads))),
@@ -127,7 +127,7 @@ pub fields-end-spec : {M : Type 1} → statement M
 fields-end-spec =
     tie.close
     (tie.spec Inv-loop μ-loop loop-holds (λ c κs. (Start c .pre .3, attribute-named (Book c) (Place c) (accepted c)))
-    (λ c κs. let t = c .before in attribute-typed (Book t) (Place t) (c .led-skip .result) (c .led-skip .ensures .0) (accepted t))
+    (λ c κs. let t = c .before in attribute-typed (Book t) (Place t) (c .text-skip .result) (c .text-skip .ensures .0) (accepted t))
     (λ c. search needs) (λ c. search needs)
     (λ c κs. let t = c .before .before in (omega (arith, t .before .loop .inv .2, Start t .pre .1, Start t .pre .2), Start t .pre .1, Start t .pre .2, c .form-here .ensures .1)) (λ c. search needs)
     (λ c. omega arith) loop-again (λ c. search needs) returns returns-2)

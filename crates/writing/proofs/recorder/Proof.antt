@@ -4,7 +4,8 @@ use mathlib.Core.Path.{refl}
 use mathlib.Core.List.{append-assoc}
 use denote.Ref.{now}
 use lib.ListN.{length}
-use Rattle.octets.specs.Writing.{word, ledImage}
+use Rattle.octets.specs.Writing.{word}
+use Rattle.texts.specs.Texts.{ledImage}
 use Rattle.writer.specs.declared.Wanted.the-variants as wants
 use Rattle.writer.specs.Writer.{does}
 use Rattle.writer.specs.Answers.{callLeaves}

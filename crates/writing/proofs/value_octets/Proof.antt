@@ -7,7 +7,8 @@ use mathlib.Core.Bool.{true}
 use mathlib.Core.List.{List, _++_}
 use denote.Ref.{now}
 use lib.ListN.{length}
-use Rattle.octets.specs.Writing.{word, ledImage}
+use Rattle.octets.specs.Writing.{word}
+use Rattle.texts.specs.Texts.{ledImage}
 use Rattle.kinds.specs.declared.Form.{Form}
 use Rattle.kinds.specs.declared.Form.the-variants as form
 use Rattle.kinds.specs.Kinds.{formBy}
