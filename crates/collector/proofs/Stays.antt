@@ -25,10 +25,10 @@ abbrev Positive : ℕ → Type 0
 Positive n = 0 < n
 
 of-header : OfHeader Positive
-of-header = (lit< tt, lit< tt, lit< tt, lit< tt, lit< tt)
+of-header = (lit< tt, lit< tt, lit< tt, lit< tt, lit< tt, lit< tt)
 
 of-element : OfElement Positive
-of-element = (lit< tt, lit< tt, lit< tt, lit< tt, lit< tt, lit< tt, lit< tt, lit< tt, lit< tt, lit< tt, lit< tt)
+of-element = (lit< tt, lit< tt, lit< tt, lit< tt, lit< tt, lit< tt, lit< tt, lit< tt, lit< tt, lit< tt, lit< tt, lit< tt)
 
 packs : {A : Type 0} (end : ℕ) (r : Read A) → end < 4294967296 → Stays Positive end r → Packs r
 packs end (ok a next) small h = tt

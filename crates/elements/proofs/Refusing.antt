@@ -31,7 +31,6 @@ use Rattle.elements.specs.Walk.{Stop, ended, refused, Walk, onward, walk
 use Rattle.elements.specs.Steps.{lentBook, stepAt}
 use Rattle.elements.specs.Reading.{elementsOf, answerOf, elementsRead, reading, whole}
 use Rattle.octets.proofs.Ends.{number-room}
-use Rattle.utf8.specs.Utf8.{utf8}
 use Rattle.texts.specs.Texts.{holds, fault, ledIn, text}
 use Rattle.texts.specs.declared.Rule.{Rule}
 use Rattle.texts.specs.declared.Rule.the-variants.{Free, Characters}
@@ -104,7 +103,7 @@ module _ (P : ℕ → Type 0) (s : List ℕ) (end : ℕ) (long : length s ≤ en
       where
         by : (rule : Rule) (n next : ℕ) → next + n ≤ end → Stays P end (choose (holds rule (part s next n)) (λ _. ok (part s next n) (next + n)) (λ _. no (fault rule) at))
         by Free n next c = c
-        by Characters n next c = stays-choose (utf8 (part s next n)) _ _ (λ _. c) (bad, b)
+        by Characters n next c = stays-choose (holds Characters (part s next n)) _ _ (λ _. c) (bad, b)
 
     stays-value : P 14 → P 24 → (f : Form) (at : ℕ) → at ≤ end → Stays P end (valueIn room f s at)
     unfolding valueIn

@@ -8,14 +8,16 @@ ghost use Prim.Native.Nat.{ℕ, _-_, _≤_};
 ghost use lib.ListN.{length};
 ghost use Rattle.octets.specs.Writing.{word};
 ghost use Rattle.texts.specs.Texts.{ledImage};
+ghost use Rattle.texts.specs.declared.Rule.the-variants.{Characters};
 ghost use Rattle.kinds.specs.Kinds.{formBy};
 ghost use Rattle.kinds.specs.Forms.{Value, valueImage};
 ghost use Rattle.writing_parts.specs.Faults.{fine};
-ghost use Rattle.writer.specs.Writer.{room, rule, orderOf, sameTurn, single, listed, isOpen, bounded, put, puts, attributes, turnAt, counts, lists, suits, value};
+ghost use Rattle.writer.specs.Writer.{room, asks, orderOf, sameTurn, single, listed, isOpen, bounded, put, puts, attributes, turnAt, counts, lists, suits, breach, valueBreach, value};
 ghost use Rattle.writer.specs.Answers.{left, early, deedLeaves, restLeaves, callLeaves};
 use kinds::Basic;
+use texts::Rule;
 use writer::Answer;
-use writer::Rule;
+use writer::Asks;
 use writer::State;
 use writer::Wanted;
 use writing_parts::Completed;
@@ -28,20 +30,20 @@ const LAYOUT_HEAD: usize = 8;
 const ROW_HEAD: usize = 12;
 
 // A turn that is no list's, and one of a list of at most so many.
-fn single(head: usize) -> Rule
+fn single(head: usize) -> Asks
     ensures { λ r. ⌜ (r .least ≡ single head .least) × (r .most ≡ single head .most) × (r .head ≡ head) ⌝ }
 {
-    Rule {
+    Asks {
         least: 0,
         most: octets::MOST_ATTRIBUTES,
         head,
     }
 }
 
-fn listed(most: u32, head: usize) -> Rule
+fn listed(most: u32, head: usize) -> Asks
     ensures { λ r. ⌜ (r .least ≡ listed most head .least) × (r .most ≡ most) × (r .head ≡ head) ⌝ }
 {
-    Rule {
+    Asks {
         least: 1,
         most,
         head,
@@ -49,8 +51,8 @@ fn listed(most: u32, head: usize) -> Rule
 }
 
 // What a turn asks of a state.
-fn rule_of(t: Wanted) -> Rule
-    ensures { λ r. ⌜ (r .least ≡ rule t .least) × (r .most ≡ rule t .most) × (r .head ≡ rule t .head) ⌝ }
+fn asks_of(t: Wanted) -> Asks
+    ensures { λ r. ⌜ (r .least ≡ asks t .least) × (r .most ≡ asks t .most) × (r .head ≡ asks t .head) ⌝ }
 {
     match t {
         Wanted::Recorder => single(0),
@@ -112,10 +114,10 @@ fn in_bounds(s: State, len: usize) -> bool
     let count = s.count;
     let start = s.start;
     let rows = s.rows;
-    let rule = rule_of(turn);
-    let least = rule.least;
-    let most = rule.most;
-    let head = rule.head;
+    let asks = asks_of(turn);
+    let least = asks.least;
+    let most = asks.most;
+    let head = asks.head;
     let room = writing_parts::room_of(len);
     if room < place {
         return false;
@@ -223,7 +225,7 @@ pub fn give(
     give_on(s, buf, used, all, head, body, tail, next, count, start)
 }
 
-// A string.
+// A string, with 24 for one that is not UTF-8.
 pub fn give_text(
     s: State,
     buf: &mut [u8],
@@ -234,8 +236,9 @@ pub fn give_text(
     next: Wanted,
     count: u32,
 ) -> Answer
-    ensures { λ r. ⌜ left r (now (buf .exit)) (now (book .entry)) ≡ deedLeaves s (now (buf .entry)) (now (book .entry)) used (puts s turn fine (ledImage (now (xs .entry))) next count) ⌝ }
+    ensures { λ r. ⌜ left r (now (buf .exit)) (now (book .entry)) ≡ deedLeaves s (now (buf .entry)) (now (book .entry)) used (puts s turn (breach Characters (now (xs .entry))) (ledImage (now (xs .entry))) next count) ⌝ }
 {
+    let fault = writer::breach(Rule::Characters, xs);
     let head = writing_parts::word4(xs.len() as u64);
     give(
         s,
@@ -243,7 +246,7 @@ pub fn give_text(
         book,
         used,
         turn,
-        Fault::None,
+        fault,
         &head,
         xs,
         b"",
@@ -287,20 +290,21 @@ pub fn give_number(
     )
 }
 
-// Two numbers of four octets and octets behind them, from which an element may start.
+// Two numbers of four octets and octets behind them, from which an element may start, with their own fault.
 pub fn give_pair(
     s: State,
     buf: &mut [u8],
     book: &[u8],
     used: usize,
     turn: Wanted,
+    fault: Fault,
     a: u64,
     b: u64,
     xs: &[u8],
     next: Wanted,
     start: usize,
 ) -> Answer
-    ensures { λ r. ⌜ left r (now (buf .exit)) (now (book .entry)) ≡ deedLeaves s (now (buf .entry)) (now (book .entry)) used (put s turn fine (word 4 a ++ word 4 b ++ now (xs .entry)) next 0 start) ⌝ }
+    ensures { λ r. ⌜ left r (now (buf .exit)) (now (book .entry)) ≡ deedLeaves s (now (buf .entry)) (now (book .entry)) used (put s turn fault (word 4 a ++ word 4 b ++ now (xs .entry)) next 0 start) ⌝ }
 {
     let head = writing_parts::pair(a, b);
     give(
@@ -309,7 +313,7 @@ pub fn give_pair(
         book,
         used,
         turn,
-        Fault::None,
+        fault,
         &head,
         xs,
         b"",
@@ -379,7 +383,7 @@ fn complete(
     fault: Fault,
     last: &[u8],
 ) -> Answer
-    requires { ⌜ 8 ≤ rule turn .head ⌝ }
+    requires { ⌜ 8 ≤ asks turn .head ⌝ }
     ensures { λ r. ⌜ left r (now (buf .exit)) (now (book .exit)) ≡ deedLeaves s (now (buf .entry)) (now (book .entry)) used (attributes s turn fault (now (last .entry)) 0) ⌝ }
 {
     let place = s.place;
@@ -418,7 +422,7 @@ pub fn give_attribute(
     n: u32,
     more: u32,
 ) -> Answer
-    requires { ⌜ 8 ≤ rule turn .head ⌝ }
+    requires { ⌜ 8 ≤ asks turn .head ⌝ }
     ensures { λ r. ⌜ left r (now (buf .exit)) (now (book .exit)) ≡ deedLeaves s (now (buf .entry)) (now (book .entry)) used (attributes s turn fault (word 4 n) more) ⌝ }
 {
     if more == 0 {
@@ -439,7 +443,7 @@ pub fn give_attribute(
     )
 }
 
-// A value of a basic type, of which it is known whether it has an image there, and which.
+// A value of a basic type, of which it is known whether it has an image there, and which, and whether it breaks its rule.
 pub fn give_value(
     s: State,
     buf: &mut [u8],
@@ -447,10 +451,11 @@ pub fn give_value(
     used: usize,
     b: Basic,
     fits: bool,
+    breach: Fault,
     head: &[u8],
     body: &[u8],
 ) -> Answer
-    ensures { λ r. ⌜ ((v : Value) → fits ≡ suits (formBy b) v → (fits ≡ true → now (head .entry) ++ now (body .entry) ≡ valueImage (formBy b) v) → left r (now (buf .exit)) (now (book .entry)) ≡ callLeaves s (now (buf .entry)) (now (book .entry)) used (value b v)) ⌝ }
+    ensures { λ r. ⌜ ((v : Value) → fits ≡ suits (formBy b) v → breach ≡ valueBreach (formBy b) v → (fits ≡ true → now (head .entry) ++ now (body .entry) ≡ valueImage (formBy b) v) → left r (now (buf .exit)) (now (book .entry)) ≡ callLeaves s (now (buf .entry)) (now (book .entry)) used (value b v)) ⌝ }
 {
     let place = s.place;
     let start = s.start;
@@ -460,7 +465,8 @@ pub fn give_value(
         return Answer::Refused(n, place);
     }
     let next = writing_parts::row_next(buf, start, book, used, count);
-    let fault = writer::value_fault(next, b, fits);
+    let own = writer::value_fault(next, b, fits);
+    let fault = writing_parts::first_fault(own, breach);
     give_on(
         s,
         buf,
@@ -479,6 +485,6 @@ pub fn give_value(
 pub fn is_open(t: Wanted) -> bool
     ensures { λ r. ⌜ r ≡ isOpen t ⌝ }
 {
-    let rule = rule_of(t);
-    0 < rule.head
+    let asks = asks_of(t);
+    0 < asks.head
 }

@@ -30,7 +30,7 @@ use Rattle.elements.specs.Document.{itemImage}
 use Rattle.writer.specs.declared.Wanted.{Wanted}
 use Rattle.writer.specs.declared.Wanted.the-variants as wants
 use Rattle.writer.specs.declared.State.{State}
-use Rattle.writer.specs.Writer.{Call, openLayout, typeName, attributeCount, attributeName, attributeType, rule, Deed, put, attributes, does}
+use Rattle.writer.specs.Writer.{Call, openLayout, typeName, attributeCount, attributeName, attributeType, asks, Deed, put, attributes, does}
 use Rattle.writing_parts.specs.declared.Fault.{Fault}
 use Rattle.writing_parts.specs.Faults.{fine, unless, refusedBy}
 use Rattle.writing_parts.specs.Answers.{learningOf, refusal}
@@ -106,11 +106,11 @@ module _ {buffer lent : List ℕ} {told : Account} (now : Stand buffer lent told
       record { stand = stand; is = complete-leaves lent (now .done) (rest now) x t fault xs l next takes so-far-is ∙ is }
 
   -- A call whose octets have so many attributes behind them: it puts its octets, or completes the layout.
-  attributes-keep : (c : Call) (t : Wanted) (fault : Fault) (left : ℕ) → rule t .head ≡ 8
+  attributes-keep : (c : Call) (t : Wanted) (fault : Fault) (left : ℕ) → asks t .head ≡ 8
       → PassesHere now (part t fault c left)
-      → (Shape t (now .at) (now .done) told → rule t .least ≤ now .at .count → (left ≡ 0 → ⊥)
+      → (Shape t (now .at) (now .done) told → asks t .least ≤ now .at .count → (left ≡ 0 → ⊥)
       → Shape wants.AttributeName (spot (now .at .book) wants.AttributeName left (now .at .start) (now .at .rows)) (now .done ++ octetsOf c) (adds told c))
-      → (Shape t (now .at) (now .done) told → rule t .least ≤ now .at .count → left ≡ 0 → Completes c (now .at) (now .done) told)
+      → (Shape t (now .at) (now .done) told → asks t .least ≤ now .at .count → left ≡ 0 → Completes c (now .at) (now .done) told)
       → Inv buffer lent (adds told c) (leftHere now (part t fault c left))
   attributes-keep c t fault left eight p more last = go (eqb left 0) refl
     where

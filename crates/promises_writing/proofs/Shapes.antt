@@ -19,7 +19,7 @@ use Rattle.elements.specs.Document.{Document, itemImage, rowCount, image, GoodI
 use Rattle.writing_parts.specs.declared.Fault.{Fault}
 use Rattle.writer.specs.declared.Wanted.{Wanted}
 use Rattle.writer.specs.declared.Wanted.the-variants as wants
-use Rattle.writer.specs.Writer.{Call, recorder, startTime, defaultNamespace, namespaceCount, uri, serviceCount, openLayout, typeName, attributeCount, attributeName, openRow, Written, room, rule, sameTurn, Deed, put}
+use Rattle.writer.specs.Writer.{Call, recorder, startTime, defaultNamespace, namespaceCount, uri, serviceCount, openLayout, typeName, attributeCount, attributeName, openRow, Written, room, asks, sameTurn, Deed, put}
 use Rattle.writer.proofs.Bounds.{same-turn, turn-count}
 use Rattle.writer.proofs.Calls.{Passes}
 use Rattle.promises_writing.specs.Promise.{each, namespaceCalls, serviceCalls, attributeCalls, fieldCalls, itemCalls, headerCalls, callsOf, bookBehind, Account}
@@ -174,7 +174,7 @@ module _ {buffer lent : List ℕ} {told : Account} (now : Stand buffer lent told
 
   -- A call that puts octets, by what stands at its turn.
   pub put-keeps : (next : Account) (t u : Wanted) (fault : Fault) (xs : List ℕ) (j i : ℕ) → PassesHere (put (stateAt (now .done) (now .at)) t fault xs u j i)
-      → (Shape t (now .at) (now .done) told → rule t .least ≤ now .at .count → length xs ≤ longest
+      → (Shape t (now .at) (now .done) told → asks t .least ≤ now .at .count → length xs ≤ longest
       → Shape u (spot (now .at .book) u j i (now .at .rows)) (now .done ++ xs) next)
       → Inv buffer lent next (leftHere (put (stateAt (now .done) (now .at)) t fault xs u j i))
   put-keeps next t u fault xs j i p step =

@@ -17,7 +17,7 @@ use Rattle.writing_parts.specs.declared.Fault.{Fault}
 use Rattle.writing_parts.specs.Faults.{fine, unless}
 use Rattle.writer.specs.declared.Wanted.{Wanted}
 use Rattle.writer.specs.declared.Wanted.the-variants as wants
-use Rattle.writer.specs.Writer.{Call, recorder, startTime, defaultNamespace, namespaceCount, uri, shortName, serviceCount, service, documentId, Written, room, rule, orderOf, put, turnAt, does}
+use Rattle.writer.specs.Writer.{Call, recorder, startTime, defaultNamespace, namespaceCount, uri, shortName, serviceCount, service, documentId, Written, room, asks, orderOf, put, turnAt, does}
 use Rattle.writer.proofs.Bounds.{Bounds}
 use Rattle.writer.proofs.Calls.{Passes, accepted}
 use Rattle.promises_writing.specs.Promise.{each, namespaceCalls, serviceCalls, headerCalls, onto}
@@ -59,10 +59,10 @@ module _ {buffer lent : List ℕ} where
 
 -- A state in which a call may put octets.
 pub record Ready (x : Spot) (place : ℕ) : Type 0 where
-  pub least : rule (x .turn) .least ≤ x .count
-  pub most : x .count ≤ rule (x .turn) .most
+  pub least : asks (x .turn) .least ≤ x .count
+  pub most : x .count ≤ asks (x .turn) .most
   pub rows : x .rows ≤ mostRows
-  pub head : x .start + rule (x .turn) .head ≤ place
+  pub head : x .start + asks (x .turn) .head ≤ place
 
 pub ready-bounds : (buffer done : List ℕ) (x : Spot) → Ready x (length done) → length done ≤ room (length buffer) → Bounds (stateAt done x) (length (onto buffer done))
 ready-bounds buffer done x r h =

@@ -33,7 +33,7 @@ pub fn rule_holds(rule: Rule, s: &[u8], from: usize, to: usize) -> bool
 }
 
 // The refusal of octets that are not what a rule asks.
-fn fault_of(rule: Rule) -> u32
+pub fn fault_of(rule: Rule) -> u32
     ensures { λ r. ⌜ r ≡ fault rule ⌝ }
 {
     match rule {

@@ -13,7 +13,7 @@ use Rattle.octets.proofs.Copies.{both-true}
 use Rattle.writer.specs.declared.Wanted.{Wanted}
 use Rattle.writer.specs.declared.Wanted.the-variants as wants
 use Rattle.writer.specs.declared.State.{State}
-use Rattle.writer.specs.Writer.{room, rule, orderOf, sameTurn, isOpen, bounded}
+use Rattle.writer.specs.Writer.{room, asks, orderOf, sameTurn, isOpen, bounded}
 
 abbrev turns : List Wanted
 turns =
@@ -46,10 +46,10 @@ same-turn t u e =
 -- A state inside its bounds.
 pub record Bounds (s : State) (size : ℕ) : Type 0 where
   pub place : s .place ≤ room size
-  pub least : rule (s .turn) .least ≤ s .count
-  pub most : s .count ≤ rule (s .turn) .most
+  pub least : asks (s .turn) .least ≤ s .count
+  pub most : s .count ≤ asks (s .turn) .most
   pub rows : s .rows ≤ mostRows
-  pub head : isOpen (s .turn) ≡ true → s .start + rule (s .turn) .head ≤ s .place
+  pub head : isOpen (s .turn) ≡ true → s .start + asks (s .turn) .head ≤ s .place
 
 chosen-true : (t u : Bool) → choose t (λ _. u) (λ _. true) ≡ true → t ≡ true → u ≡ true
 chosen-true true u e f = e
@@ -77,58 +77,58 @@ module _ (s : State) (size : ℕ) where
   place-over h = rw (lt-leb (s .place) (room size) h) refl
 
   module _ (p : s .place ≤ room size) where
-    pub count-under : s .count < rule (s .turn) .least → bounded s size ≡ false
+    pub count-under : s .count < asks (s .turn) .least → bounded s size ≡ false
     unfolding bounded
-    count-under h = rw (le-leb (s .place) (room size) p, lt-leb (rule (s .turn) .least) (s .count) h) refl
+    count-under h = rw (le-leb (s .place) (room size) p, lt-leb (asks (s .turn) .least) (s .count) h) refl
 
-    module _ (l : rule (s .turn) .least ≤ s .count) where
-      pub count-over : rule (s .turn) .most < s .count → bounded s size ≡ false
+    module _ (l : asks (s .turn) .least ≤ s .count) where
+      pub count-over : asks (s .turn) .most < s .count → bounded s size ≡ false
       unfolding bounded
-      count-over h = rw (le-leb (s .place) (room size) p, le-leb (rule (s .turn) .least) (s .count) l, lt-leb (s .count) (rule (s .turn) .most) h) refl
+      count-over h = rw (le-leb (s .place) (room size) p, le-leb (asks (s .turn) .least) (s .count) l, lt-leb (s .count) (asks (s .turn) .most) h) refl
 
-      module _ (m : s .count ≤ rule (s .turn) .most) where
+      module _ (m : s .count ≤ asks (s .turn) .most) where
         pub rows-over : mostRows < s .rows → bounded s size ≡ false
         unfolding bounded
         rows-over h =
             rw (
               le-leb (s .place) (room size) p,
-              le-leb (rule (s .turn) .least) (s .count) l,
-              le-leb (s .count) (rule (s .turn) .most) m,
+              le-leb (asks (s .turn) .least) (s .count) l,
+              le-leb (s .count) (asks (s .turn) .most) m,
               lt-leb (s .rows) mostRows h,
             )
             refl
 
         module _ (r : s .rows ≤ mostRows) where
           -- What is open is left.
-          head-left : bounded s size ≡ choose (isOpen (s .turn)) (λ _. leb (s .start + rule (s .turn) .head) (s .place)) (λ _. true)
+          head-left : bounded s size ≡ choose (isOpen (s .turn)) (λ _. leb (s .start + asks (s .turn) .head) (s .place)) (λ _. true)
           unfolding bounded
           head-left =
               rw (
                 le-leb (s .place) (room size) p,
-                le-leb (rule (s .turn) .least) (s .count) l,
-                le-leb (s .count) (rule (s .turn) .most) m,
+                le-leb (asks (s .turn) .least) (s .count) l,
+                le-leb (s .count) (asks (s .turn) .most) m,
                 le-leb (s .rows) mostRows r,
               )
               refl
 
-          pub none-open : rule (s .turn) .head ≡ 0 → bounded s size ≡ true
-          none-open h = head-left ∙ rw (le-ltb 0 (rule (s .turn) .head) (omega arith)) refl
+          pub none-open : asks (s .turn) .head ≡ 0 → bounded s size ≡ true
+          none-open h = head-left ∙ rw (le-ltb 0 (asks (s .turn) .head) (omega arith)) refl
 
-          pub one-open : 0 < rule (s .turn) .head → bounded s size ≡ leb (s .start + rule (s .turn) .head) (s .place)
-          one-open h = head-left ∙ rw (lt-ltb 0 (rule (s .turn) .head) h) refl
+          pub one-open : 0 < asks (s .turn) .head → bounded s size ≡ leb (s .start + asks (s .turn) .head) (s .place)
+          one-open h = head-left ∙ rw (lt-ltb 0 (asks (s .turn) .head) h) refl
 
 pub bounded-is : (s : State) (size : ℕ) → Bounds s size → bounded s size ≡ true
 bounded-is s size b = go (isOpen (s .turn)) refl
   where
     go : (t : Bool) → isOpen (s .turn) ≡ t → bounded s size ≡ true
     go true e = one-open s size (b .place) (b .least) (b .most) (b .rows) (ltb-true _ _ e) ∙ le-leb _ _ (b .head e)
-    go false e = none-open s size (b .place) (b .least) (b .most) (b .rows) (let none : rule (s .turn) .head ≤ 0 = ltb-false 0 (rule (s .turn) .head) e in omega arith)
+    go false e = none-open s size (b .place) (b .least) (b .most) (b .rows) (let none : asks (s .turn) .head ≤ 0 = ltb-false 0 (asks (s .turn) .head) e in omega arith)
 
 -- At the turn of a state that is inside its bounds: the count's limits, and the first octets of what is open.
 module _ (s : State) (size : ℕ) (w : Bounds s size) (u : Wanted) (e : sameTurn (s .turn) u ≡ true) where
-  pub turn-count : (rule u .least ≤ s .count) × (s .count ≤ rule u .most)
-  turn-count = subst (λ (x : Wanted). (rule x .least ≤ s .count) × (s .count ≤ rule x .most)) (same-turn (s .turn) u e) (w .least, w .most)
+  pub turn-count : (asks u .least ≤ s .count) × (s .count ≤ asks u .most)
+  turn-count = subst (λ (x : Wanted). (asks x .least ≤ s .count) × (s .count ≤ asks x .most)) (same-turn (s .turn) u e) (w .least, w .most)
 
-  pub open-head : 0 < rule u .head → s .start + rule u .head ≤ s .place
+  pub open-head : 0 < asks u .head → s .start + asks u .head ≤ s .place
   open-head h =
-      subst (λ (x : Wanted). isOpen x ≡ true → s .start + rule x .head ≤ s .place) (same-turn (s .turn) u e) (w .head) (lt-ltb 0 (rule u .head) h)
+      subst (λ (x : Wanted). isOpen x ≡ true → s .start + asks x .head ≤ s .place) (same-turn (s .turn) u e) (w .head) (lt-ltb 0 (asks u .head) h)

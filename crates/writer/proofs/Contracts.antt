@@ -10,6 +10,8 @@ use Rattle.writer.proofs.value_fault as value-fault
 use Rattle.writer.proofs.close_fault as close-fault
 use Rattle.writer.proofs.suits_number as suits-number
 use Rattle.writer.proofs.suits_octets as suits-octets
+use Rattle.writer.proofs.breach as breach
+use Rattle.writer.proofs.value_breach as value-breach
 use Rattle.writer.proofs.width_of as width-of
 
 pub record Contracts : Type 0 where
@@ -21,6 +23,8 @@ pub record Contracts : Type 0 where
   pub of-close-fault : Once close-fault.Kinds.ps close-fault.Kinds.r close-fault.Reads.Pre close-fault.Reads.Post
   pub of-suits-number : Once suits-number.Kinds.ps suits-number.Kinds.r suits-number.Reads.Pre suits-number.Reads.Post
   pub of-suits-octets : Once suits-octets.Kinds.ps suits-octets.Kinds.r suits-octets.Reads.Pre suits-octets.Reads.Post
+  pub of-breach : Once breach.Kinds.ps breach.Kinds.r breach.Reads.Pre breach.Reads.Post
+  pub of-value-breach : Once value-breach.Kinds.ps value-breach.Kinds.r value-breach.Reads.Pre value-breach.Reads.Post
   pub of-width-of : Once width-of.Kinds.ps width-of.Kinds.r width-of.Reads.Pre width-of.Reads.Post
 
 pub contracts : Contracts
@@ -34,5 +38,7 @@ contracts =
       of-close-fault = λ κs a p x y u v e f. (e ∙ sym f, refl);
       of-suits-number = λ κs a p x y u v e f. (e ∙ sym f, refl);
       of-suits-octets = λ κs a p x y u v e f. (e [] ∙ sym (f []), refl);
+      of-breach = λ κs a p x y u v e f. (e ∙ sym f, refl);
+      of-value-breach = λ κs a p x y u v e f. (e ∙ sym f, refl);
       of-width-of = λ κs a p x y u v e f. (e .0 ∙ sym (f .0), refl);
     }

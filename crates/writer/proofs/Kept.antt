@@ -28,14 +28,14 @@ use Rattle.kinds.specs.Forms.{Value}
 use Rattle.writing_parts.specs.declared.Fault.{Fault}
 use Rattle.writing_parts.specs.Faults.{fine, unless, refusedBy}
 use Rattle.writing_parts.specs.Answers.{learningOf, added}
-use Rattle.writing_parts.proofs.Faults.{fine-not, holds}
+use Rattle.writing_parts.proofs.Faults.{both-fine, fine-not, holds}
 use Rattle.writing_parts.proofs.Over.{over-length, over-behind}
 use Rattle.writing_parts.proofs.Meets.{added-fits}
 use Rattle.writer.specs.declared.Wanted.{Wanted}
 use Rattle.writer.specs.declared.Wanted.the-variants as wants
 use Rattle.writer.specs.declared.State.{State}
 use Rattle.writer.specs.Writer.{Call, recorder, startTime, defaultNamespace, namespaceCount, uri, shortName, serviceCount, service, documentId, openLayout, typeName, attributeCount, attributeName, attributeType, openRow, value, closeRow, giveUp, finish}
-use Rattle.writer.specs.Writer.{Written, room, rule, Deed, attributes, between, turnAt, inBook, rowLayout, isNext, does, layoutSoFar, taken, leftBy, call}
+use Rattle.writer.specs.Writer.{Written, room, asks, Deed, attributes, between, turnAt, inBook, rowLayout, isNext, does, layoutSoFar, taken, leftBy, call}
 use Rattle.writer.proofs.Bounds.{Bounds, turn-count, open-head}
 use Rattle.writer.proofs.Tests.{length-size}
 use Rattle.writer.proofs.Calls.{accepted-is}
@@ -147,9 +147,9 @@ kept s buffer lent used c e =
 
 -- A state's count, and what it says of what is open.
 pub record Inside (s : State) : Type 0 where
-  pub least : rule (s .turn) .least ≤ s .count
-  pub most : s .count ≤ rule (s .turn) .most
-  pub head : 0 < rule (s .turn) .head → s .start + rule (s .turn) .head ≤ s .place
+  pub least : asks (s .turn) .least ≤ s .count
+  pub most : s .count ≤ asks (s .turn) .most
+  pub head : 0 < asks (s .turn) .head → s .start + asks (s .turn) .head ≤ s .place
 
 -- Where a list's turn leads.
 pub at-turn : (P : Wanted → Type 0) (n : ℕ) (more behind : Wanted) → ((n ≡ 0 → ⊥) → P more) → (n ≡ 0 → P behind) → P (turnAt n more behind)
@@ -232,7 +232,7 @@ module _ (s : State) (buffer : List ℕ) (book : Book) (w : Bounds s (length buf
       omega arith
   inside (value b v) e f =
       let (l, found, g) = in-book (rowLayout s buffer book) _ f in
-      let left = some-left (drop (s .count) (l .attributes)) b v (holds (isNext (drop (s .count) (l .attributes)) b v) 21 g) in
+      let left = some-left (drop (s .count) (l .attributes)) b v (holds (isNext (drop (s .count) (l .attributes)) b v) 21 (both-fine _ _ g .0)) in
       let long = length-drop (s .count) (l .attributes) in
       let most = row-few found in
       let head = open-head s (length buffer) w wants.Value e (omega arith) in

@@ -17,20 +17,20 @@ use Rattle.kinds.specs.Kinds.{codeOf, formBy}
 use Rattle.layouts.specs.Layout.{Attribute, Layout}
 use Rattle.kinds.specs.Forms.{Value, bits, valueImage}
 use Rattle.writing_parts.specs.declared.Fault.the-variants.{Refused}
-use Rattle.writing_parts.specs.Faults.{unless}
+use Rattle.writing_parts.specs.Faults.{fine, unless, _or_}
 use Rattle.writing_parts.specs.Answers.{firstOf, nextOf}
 use Rattle.writing_parts.specs.declared.Next.{Next}
 use Rattle.writing_parts.specs.declared.Next.the-variants as next
-use Rattle.writer.specs.Writer.{inBook, suits, isNext}
+use Rattle.writer.specs.Writer.{inBook, suits, valueBreach, isNext}
 use Rattle.writer.specs.Own.{widthOf, valueFault, closeFault}
 
 -- A value's own fault, by the next field.
 pub value-own : (o : Option Layout) (n : ℕ) (b : Basic) (v : Value)
-    → valueFault (nextOf o n) b (suits (formBy b) v) ≡ inBook o (λ l. unless (isNext (drop n (l .attributes)) b v) 21)
+    → (valueFault (nextOf o n) b (suits (formBy b) v) or valueBreach (formBy b) v) ≡ inBook o (λ l. unless (isNext (drop n (l .attributes)) b v) 21 or valueBreach (formBy b) v)
 value-own none n b v = refl
 value-own (some l) n b v = go (drop n (l .attributes))
   where
-    go : (xs : List Attribute) → valueFault (firstOf xs) b (suits (formBy b) v) ≡ unless (isNext xs b v) 21
+    go : (xs : List Attribute) → (valueFault (firstOf xs) b (suits (formBy b) v) or valueBreach (formBy b) v) ≡ (unless (isNext xs b v) 21 or valueBreach (formBy b) v)
     go [] = refl
     go (a ∷ rest) = refl
 
@@ -53,11 +53,17 @@ close-own (some l) n = go (drop n (l .attributes)) (length-drop n (l .attributes
     go [] e = rw (le-leb (length (l .attributes)) n (omega arith)) refl
     go (a ∷ rest) e = rw (lt-leb (length (l .attributes)) n (omega arith)) refl
 
+-- A number breaks no rule.
+pub number-free : (f : Form) (n : ℕ) → fine ≡ valueBreach f (bits n)
+number-free (form.Fixed w) n = refl
+number-free form.Truth n = refl
+number-free (form.Led rule) n = refl
+
 pub number-image : (f : Form) (n : ℕ) → word (widthOf f) n ≡ valueImage f (bits n)
 unfolding word
 number-image (form.Fixed w) n = refl
 number-image form.Truth n = refl
-number-image form.Led n = refl
+number-image (form.Led rule) n = refl
 
 pub width-most : (b : Basic) → widthOf (formBy b) ≤ 8
 width-most basic.Int = omega arith

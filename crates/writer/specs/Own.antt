@@ -16,7 +16,7 @@ use Rattle.writing_parts.specs.Faults.{fine, unless}
 abbrev pub widthOf : Form → ℕ
 widthOf (form.Fixed w) = w
 widthOf form.Truth = 1
-widthOf form.Led = 0
+widthOf (form.Led rule) = 0
 
 -- The own fault of a value, by the next field and whether it suits its own type; and of closing a row, by the next field.
 abbrev pub valueFault : Next → Basic → Bool → Fault

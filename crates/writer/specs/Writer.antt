@@ -8,7 +8,10 @@ use lib.Dec.{leb, ltb, eqb}
 use Rattle.octets.specs.Limits.{longest, mostRows, mostAttributes, mostListed}
 use Rattle.octets.specs.Reading.{Read, ok, no, _then_, choose, isOk, be, part}
 use Rattle.octets.specs.Writing.{word, over}
-use Rattle.texts.specs.Texts.{ledImage}
+use Rattle.texts.specs.Texts as texts
+use Rattle.texts.specs.Texts.{holds, ledImage}
+use Rattle.texts.specs.declared.Rule.{Rule}
+use Rattle.texts.specs.declared.Rule.the-variants.{Characters}
 use Rattle.kinds.specs.declared.Basic.{Basic}
 use Rattle.kinds.specs.declared.Form.{Form}
 use Rattle.kinds.specs.declared.Form.the-variants as form
@@ -28,7 +31,7 @@ use Rattle.writing_parts.specs.Answers.{learningOf, refusal, added}
 use Rattle.writer.specs.declared.Wanted.{Wanted}
 use Rattle.writer.specs.declared.Wanted.the-variants as wants
 use Rattle.writer.specs.declared.State.{State}
-use Rattle.writer.specs.declared.Rule.{Rule}
+use Rattle.writer.specs.declared.Asks.{Asks}
 
 -- A call: a field in image order, each count ahead of what it counts; an element opened or closed; the open one given up; the finish.
 pub data Call : Type 0 where
@@ -56,7 +59,7 @@ pub data Call : Type 0 where
 abbrev pub inForm : Form → ℕ → List ℕ → Value
 inForm (form.Fixed w) n xs = bits n
 inForm form.Truth n xs = bits n
-inForm form.Led n xs = held xs
+inForm (form.Led rule) n xs = held xs
 
 -- The call that gives a value as reading hands it out, with its octets beside it.
 abbrev pub valueCall : given.Value → List ℕ → Call
@@ -88,29 +91,29 @@ abbrev pub noHead : ℕ
 noHead = 0
 
 -- What a turn asks of a state: the least and the most of its count, and the first octets of what is open. A list's turn has something to come, and no more than its limit; elsewhere the greatest limit bounds the count.
-abbrev pub listed : ℕ → ℕ → Rule
+abbrev pub listed : ℕ → ℕ → Asks
 listed most head = record { least = 1; most = most; head = head }
 
-abbrev pub single : ℕ → Rule
+abbrev pub single : ℕ → Asks
 single head = record { least = 0; most = mostAttributes; head = head }
 
-abbrev pub rule : Wanted → Rule
-rule wants.Recorder = single noHead
-rule wants.StartTime = single noHead
-rule wants.DefaultNamespace = single noHead
-rule wants.NamespaceCount = single noHead
-rule wants.Uri = listed mostListed noHead
-rule wants.ShortName = listed mostListed noHead
-rule wants.ServiceCount = single noHead
-rule wants.Service = listed mostListed noHead
-rule wants.DocumentId = single noHead
-rule wants.Element = single noHead
-rule wants.TypeName = single layoutHead
-rule wants.AttributeCount = single layoutHead
-rule wants.AttributeName = listed mostAttributes layoutHead
-rule wants.AttributeType = listed mostAttributes layoutHead
-rule wants.Value = single rowHead
-rule wants.Nothing = single noHead
+abbrev pub asks : Wanted → Asks
+asks wants.Recorder = single noHead
+asks wants.StartTime = single noHead
+asks wants.DefaultNamespace = single noHead
+asks wants.NamespaceCount = single noHead
+asks wants.Uri = listed mostListed noHead
+asks wants.ShortName = listed mostListed noHead
+asks wants.ServiceCount = single noHead
+asks wants.Service = listed mostListed noHead
+asks wants.DocumentId = single noHead
+asks wants.Element = single noHead
+asks wants.TypeName = single layoutHead
+asks wants.AttributeCount = single layoutHead
+asks wants.AttributeName = listed mostAttributes layoutHead
+asks wants.AttributeType = listed mostAttributes layoutHead
+asks wants.Value = single rowHead
+asks wants.Nothing = single noHead
 
 -- A turn's place in the order of a document, by which turns are compared.
 abbrev pub orderOf : Wanted → ℕ
@@ -136,13 +139,13 @@ sameTurn t u = eqb (orderOf t) (orderOf u)
 
 -- Whether a layout or a row is open.
 abbrev pub isOpen : Wanted → Bool
-isOpen t = ltb 0 (rule t .head)
+isOpen t = ltb 0 (asks t .head)
 
 -- Refusal 20 is for a state whose place passes the room, whose counts pass the limits, or whose open layout's first 8 or row's first 12 octets pass the place; this is one that does none of it, over a buffer of so many octets.
 unfoldable pub bounded : State → ℕ → Bool
 bounded s size =
-    leb (s .place) (room size) && leb (rule (s .turn) .least) (s .count) && leb (s .count) (rule (s .turn) .most) && leb (s .rows) mostRows
-    && choose (isOpen (s .turn)) (λ _. leb (s .start + rule (s .turn) .head) (s .place)) (λ _. true)
+    leb (s .place) (room size) && leb (asks (s .turn) .least) (s .count) && leb (s .count) (asks (s .turn) .most) && leb (s .rows) mostRows
+    && choose (isOpen (s .turn)) (λ _. leb (s .start + asks (s .turn) .head) (s .place)) (λ _. true)
 
 -- What a call is: whether it is its turn, its own fault, the octets that it puts and where, the state behind it, and whether it completes a layout.
 pub record Deed : Type 0 where
@@ -194,12 +197,22 @@ attributes s turn fault xs left =
 abbrev pub turnAt : ℕ → Wanted → Wanted → Wanted
 turnAt n more behind = choose (eqb n 0) (λ _. behind) (λ _. more)
 
+-- Refusal 24, as in reading: octets that are not what their rule asks; of a value, where its form has octets.
+abbrev pub breach : Rule → List ℕ → Fault
+breach rule xs = unless (holds rule xs) (texts.fault rule)
+
+abbrev pub valueBreach : Form → Value → Fault
+valueBreach (form.Fixed w) v = fine
+valueBreach form.Truth v = fine
+valueBreach (form.Led rule) (bits n) = fine
+valueBreach (form.Led rule) (held xs) = breach rule xs
+
 -- The count of a list of the header, and the last string of an item of it: one less is to come.
 abbrev pub counts : State → Wanted → ℕ → Wanted → Wanted → Deed
 counts s turn n more behind = puts s turn (unless (leb n mostListed) 4) (word 4 n) (turnAt n more behind) n
 
 abbrev pub lists : State → Wanted → List ℕ → Wanted → Wanted → Deed
-lists s turn xs more behind = puts s turn fine (ledImage xs) (turnAt (s .count - 1) more behind) (s .count - 1)
+lists s turn xs more behind = puts s turn (breach Characters xs) (ledImage xs) (turnAt (s .count - 1) more behind) (s .count - 1)
 
 -- Refusal 12: a layout that is not in the book; one that is there has the fault that is asked of it.
 abbrev pub inBook : Option Layout → (Layout → Fault) → Fault
@@ -216,37 +229,37 @@ suits (form.Fixed w) (bits n) = ltb n (256 ^ w)
 suits (form.Fixed w) (held xs) = false
 suits form.Truth (bits n) = leb n 1
 suits form.Truth (held xs) = false
-suits form.Led (bits n) = false
-suits form.Led (held xs) = true
+suits (form.Led rule) (bits n) = false
+suits (form.Led rule) (held xs) = true
 
 -- Refusal 21 is for a value whose kind is not the next field's basic type, or with no field left; this is one of that type, over the fields left.
 abbrev pub isNext : List Attribute → Basic → Value → Bool
 isNext [] b v = false
 isNext (a ∷ rest) b v = eqb (codeOf (a .kind .basic)) (codeOf b) && suits (formBy b) v
 
--- Each call. Version, the four octets FF and the end count are the writer's own. Refusals 4, 5, 8, 9 and 12 are as in reading, then 21 for a value, 22 for a row closed with fields missing.
+-- Each call. Version, the four octets FF and the end count are the writer's own. Refusals 4, 5, 8, 9, 12 and 24 are as in reading; 21 stands between 12 and 24 for a value, 22 is for a row closed with fields missing.
 -- A stated row length stands as zero until the row is closed. Giving up sets the open element's octets to zero and moves the place back to its start; its row is not counted.
 unfoldable pub does : State → List ℕ → Book → Call → Deed
-does s buffer book (recorder xs) = puts s wants.Recorder fine (word 4 4 ++ ledImage xs) wants.StartTime 0
+does s buffer book (recorder xs) = puts s wants.Recorder (breach Characters xs) (word 4 4 ++ ledImage xs) wants.StartTime 0
 does s buffer book (startTime n) = puts s wants.StartTime fine (word 8 n) wants.DefaultNamespace 0
-does s buffer book (defaultNamespace xs) = puts s wants.DefaultNamespace fine (ledImage xs) wants.NamespaceCount 0
+does s buffer book (defaultNamespace xs) = puts s wants.DefaultNamespace (breach Characters xs) (ledImage xs) wants.NamespaceCount 0
 does s buffer book (namespaceCount n) = counts s wants.NamespaceCount n wants.Uri wants.ServiceCount
-does s buffer book (uri xs) = puts s wants.Uri fine (ledImage xs) wants.ShortName (s .count)
+does s buffer book (uri xs) = puts s wants.Uri (breach Characters xs) (ledImage xs) wants.ShortName (s .count)
 does s buffer book (shortName xs) = lists s wants.ShortName xs wants.Uri wants.ServiceCount
 does s buffer book (serviceCount n) = counts s wants.ServiceCount n wants.Service wants.DocumentId
 does s buffer book (service xs) = lists s wants.Service xs wants.Service wants.DocumentId
 does s buffer book (documentId xs) =
     puts s wants.DocumentId (unless (eqb (length xs) 16) 5) (word 4 16 ++ xs ++ word 4 0xffffffff) wants.Element 0
 does s buffer book (openLayout n) = opens s fine (word 4 1 ++ word 4 n) wants.TypeName
-does s buffer book (typeName xs) = puts s wants.TypeName fine (ledImage xs) wants.AttributeCount 0
+does s buffer book (typeName xs) = puts s wants.TypeName (breach Characters xs) (ledImage xs) wants.AttributeCount 0
 does s buffer book (attributeCount n) = attributes s wants.AttributeCount (unless (leb n mostAttributes) 4) (word 4 n) n
-does s buffer book (attributeName xs) = puts s wants.AttributeName fine (ledImage xs) wants.AttributeType (s .count)
+does s buffer book (attributeName xs) = puts s wants.AttributeName (breach Characters xs) (ledImage xs) wants.AttributeType (s .count)
 does s buffer book (attributeType t) =
     attributes s wants.AttributeType (refusedBy (kindOf (s .place) t (s .place + 4))) (word 4 t) (s .count - 1)
 does s buffer book (openRow n stated) =
     opens s (inBook (find n book) λ _. fine) (word 4 2 ++ word 4 n ++ lengthImage stated 0) wants.Value
 does s buffer book (value b v) =
-    puts s wants.Value (inBook (rowLayout s buffer book) λ l. unless (isNext (drop (s .count) (l .attributes)) b v) 21)
+    puts s wants.Value (inBook (rowLayout s buffer book) λ l. unless (isNext (drop (s .count) (l .attributes)) b v) 21 or valueBreach (formBy b) v)
     (valueImage (formBy b) v) wants.Value (s .count + 1)
 does s buffer book closeRow =
     record {

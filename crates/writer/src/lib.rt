@@ -8,12 +8,13 @@ ghost use Rattle.kinds.specs.Kinds.{formBy, kindOf};
 ghost use Rattle.kinds.specs.Forms.{bits, held};
 ghost use Rattle.layouts.specs.Book.{find, bookIn, IsBook};
 ghost use Rattle.writing_parts.specs.Faults.{fine, unless, refusedBy};
-ghost use Rattle.writer.specs.Writer.{inBook, suits};
+ghost use Rattle.writer.specs.Writer.{inBook, suits, breach, valueBreach};
 ghost use Rattle.writer.specs.Own.{widthOf, valueFault, closeFault};
 use kinds::Basic;
 use kinds::Form;
 use kinds::Typed;
 use layouts::Looked;
+use texts::Rule;
 use writing_parts::Fault;
 use writing_parts::Next;
 
@@ -53,7 +54,7 @@ pub enum Answer {
 }
 
 // What a turn asks of a state: the least and the most of its count, and the first octets of the element that is open.
-pub struct Rule {
+pub struct Asks {
     pub least: u32,
     pub most: u32,
     pub head: usize,
@@ -143,7 +144,7 @@ pub fn suits_number(b: Basic, n: u64) -> bool
     match form {
         Form::Fixed(w) => writing_parts::fits_octets(n, w),
         Form::Truth => n <= 1,
-        Form::Led => false,
+        Form::Led(rule) => false,
     }
 }
 
@@ -155,7 +156,30 @@ pub fn suits_octets(b: Basic) -> bool
     match form {
         Form::Fixed(w) => false,
         Form::Truth => false,
-        Form::Led => true,
+        Form::Led(rule) => true,
+    }
+}
+
+// 24 for octets that are not what their rule asks.
+pub fn breach(rule: Rule, xs: &[u8]) -> Fault
+    ensures { λ r. ⌜ r ≡ breach rule (now (xs .entry)) ⌝ }
+{
+    if texts::rule_holds(rule, xs, 0, xs.len()) {
+        Fault::None
+    } else {
+        Fault::Refused(texts::fault_of(rule))
+    }
+}
+
+// The same of octets that are given as a value of a basic type.
+pub fn value_breach(b: Basic, xs: &[u8]) -> Fault
+    ensures { λ r. ⌜ r ≡ valueBreach (formBy b) (held (now (xs .entry))) ⌝ }
+{
+    let form = kinds::form_by(b);
+    match form {
+        Form::Fixed(w) => Fault::None,
+        Form::Truth => Fault::None,
+        Form::Led(rule) => breach(rule, xs),
     }
 }
 
@@ -167,6 +191,6 @@ pub fn width_of(b: Basic) -> usize
     match form {
         Form::Fixed(w) => w,
         Form::Truth => 1,
-        Form::Led => 0,
+        Form::Led(rule) => 0,
     }
 }

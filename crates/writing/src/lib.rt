@@ -8,6 +8,7 @@ ghost use Rattle.writer.specs.Writer.{fresh, recorder, startTime, defaultNamesp
 ghost use Rattle.writer.specs.Writer.{openLayout, typeName, attributeCount, attributeName, attributeType, openRow, value, valueCall, closeRow, giveUp, finish};
 ghost use Rattle.writer.specs.Answers.{left, callLeaves};
 use kinds::Basic;
+use texts::Rule;
 use writer::Answer;
 use writer::State;
 use writer::Wanted;
@@ -36,6 +37,7 @@ pub fn recorder(s: State, buf: &mut [u8], book: &[u8], used: usize, xs: &[u8]) -
         book,
         used,
         Wanted::Recorder,
+        writer::breach(Rule::Characters, xs),
         4,
         xs.len() as u64,
         xs,
@@ -190,6 +192,7 @@ pub fn open_layout(s: State, buf: &mut [u8], book: &[u8], used: usize, n: u32) -
         book,
         used,
         Wanted::Element,
+        Fault::None,
         1,
         n as u64,
         b"",
@@ -280,7 +283,7 @@ pub fn value_number(s: State, buf: &mut [u8], book: &[u8], used: usize, b: Basic
     let fits = writer::suits_number(b, n);
     let from = 8 - writer::width_of(b);
     let head = writing_parts::word8(n);
-    giving::give_value(s, buf, book, used, b, fits, &head[from..], b"")
+    giving::give_value(s, buf, book, used, b, fits, Fault::None, &head[from..], b"")
 }
 
 // A value of the open row that is octets or a string.
@@ -296,7 +299,8 @@ pub fn value_octets(
 {
     let fits = writer::suits_octets(b);
     let head = writing_parts::word4(xs.len() as u64);
-    giving::give_value(s, buf, book, used, b, fits, &head, xs)
+    let breach = writer::value_breach(b, xs);
+    giving::give_value(s, buf, book, used, b, fits, breach, &head, xs)
 }
 
 // A value of the open row as reading hands it out: its number, or the octets given beside it where its type has those.
@@ -384,6 +388,7 @@ pub fn finish(s: State, buf: &mut [u8], book: &[u8], used: usize, time: i64) -> 
         book,
         used,
         Wanted::Element,
+        Fault::None,
         3,
         s.rows as u64,
         &body,

@@ -19,7 +19,7 @@ use Rattle.writing_parts.specs.declared.Fault.the-variants as faults
 use Rattle.writer.specs.declared.Wanted.{Wanted}
 use Rattle.writer.specs.declared.State.{State}
 use Rattle.writer.specs.declared.Answer.the-variants.{Done, Refused}
-use Rattle.writer.specs.Writer.{room, rule, sameTurn, between, attributes, layoutSoFar}
+use Rattle.writer.specs.Writer.{room, asks, sameTurn, between, attributes, layoutSoFar}
 use Rattle.writer.specs.Answers.{left, early, deedLeaves, restLeaves}
 use Rattle.writer.proofs.Bounds.{bounds, open-head}
 use Rattle.writing_parts.specs.Faults.{_or_}
@@ -36,7 +36,7 @@ module _ (s : State) (b l : List ℕ) (used : ℕ) (turn : Wanted) (f : Fault) (
   refused n e = sym (leaves-fault s b l used (attributes s turn g xs 0) n e) ∙ on
 
   module _ (e : g ≡ faults.None) where
-    asked : 8 ≤ rule turn .head → Each Octet l → IsBook l used × (s .start + 8 ≤ s .place) × (s .place ≤ room (length b))
+    asked : 8 ≤ asks turn .head → Each Octet l → IsBook l used × (s .start + 8 ≤ s .place) × (s .place ≤ room (length b))
     asked h o =
         let k = all-ready s b l used (attributes s turn f xs 0) is all e in
         let w = bounds s (length b) (k .within) in

@@ -19,11 +19,11 @@ returns : tie.Need-returns
 returns c =
     let g = c .before .before in
     let w = g .before .before .before .before in
-    let a = w .before .before .before .before .args in
+    let a = w .before .before .before .before .before .args in
     gave (a .s) (now (a .buf)) (now (a .book)) (a .used) (g .give .ensures)
-    (same-put (a .s) (a .turn) (a .s .start) refl (image (now (a .xs)) (w .word4 .ensures)) refl refl)
+    (same-put (a .s) (a .turn) (a .s .start) (w .before .breach .ensures) (image (now (a .xs)) (w .word4 .ensures)) refl refl)
 
 pub give-text-spec : {M : Type 1} → statement M
 give-text-spec =
     tie.close
-    (tie.spec (λ c κs. search needs) (λ c. search needs) (λ c. search needs) (λ c κs. search needs) (λ c. search needs) returns)
+    (tie.spec (λ c κs. search needs) (λ c κs. search needs) (λ c. search needs) (λ c. search needs) (λ c κs. search needs) (λ c. search needs) returns)

@@ -17,11 +17,12 @@ use Rattle.kinds.specs.Forms.{Value, valueImage}
 use Rattle.writing_parts.specs.Answers.{nextOf}
 use Rattle.writing_parts.specs.declared.Fault.{Fault}
 use Rattle.writing_parts.specs.declared.Fault.the-variants as faults
+use Rattle.writing_parts.specs.Faults.{_or_}
 use Rattle.writing_parts.specs.declared.Next.{Next}
 use Rattle.writer.specs.declared.Wanted.the-variants as wants
 use Rattle.writer.specs.declared.State.{State}
 use Rattle.writer.specs.declared.Answer.the-variants.{Refused}
-use Rattle.writer.specs.Writer.{room, sameTurn, suits, rowLayout, put, does, value}
+use Rattle.writer.specs.Writer.{room, sameTurn, suits, valueBreach, rowLayout, put, does, value}
 use Rattle.writer.specs.Answers.{Left, left, early, restLeaves, callLeaves}
 use Rattle.writer.specs.Own.{valueFault}
 use Rattle.writer.proofs.Tests.{stopped, passed, ready, same-put, same-refused}
@@ -39,11 +40,11 @@ module _ (s : State) (b l : List ℕ) (used : ℕ) (a : Basic) (r : Fault) (is :
     inside : Each Octet l → InRow s (length b) l used
     inside o = in-row s (length b) l used o (ready s (length b) l used (sameTurn (s .turn) wants.Value) (sym is ∙ e))
 
-    module _ {x : Next} (f : Fault) {t : Bool} (j : x ≡ nextOf (find (be 4 b (s .start + 4)) (bookIn l used)) (s .count)) (k : f ≡ valueFault x a t) (v : Value)
-        (g : t ≡ suits (formBy a) v) (h xs : List ℕ) (image : t ≡ true → h ++ xs ≡ valueImage (formBy a) v) where
+    module _ {x : Next} (f : Fault) {t : Bool} {o : Fault} (j : x ≡ nextOf (find (be 4 b (s .start + 4)) (bookIn l used)) (s .count)) (k : f ≡ valueFault x a t or o) (v : Value)
+        (g : t ≡ suits (formBy a) v) (own : o ≡ valueBreach (formBy a) v) (h xs : List ℕ) (image : t ≡ true → h ++ xs ≡ valueImage (formBy a) v) where
       fault : f ≡ does s b (bookIn l used) (value a v) .fault
       unfolding does rowLayout
-      fault = k ∙ rw (j, g) (value-own (find (be 4 b (s .start + 4)) (bookIn l used)) (s .count) a v)
+      fault = k ∙ rw (j, g, own) (value-own (find (be 4 b (s .start + 4)) (bookIn l used)) (s .count) a v)
 
       same : (u : Bool) → t ≡ u
           → restLeaves s b l used (put s wants.Value f (h ++ (xs ++ [])) wants.Value (s .count + 1) (s .start)) ≡ restLeaves s b l used (does s b (bookIn l used) (value a v))
@@ -51,14 +52,14 @@ module _ (s : State) (b l : List ℕ) (used : ℕ) (a : Basic) (r : Fault) (is :
       same true q = ap (restLeaves s b l used) (same-put s wants.Value (s .start) fault (rw (append-nil xs) (image q)) refl refl)
       same false q =
           let (m, z) = unfit x a in
-          same-refused s b l used (put s wants.Value f (h ++ (xs ++ [])) wants.Value (s .count + 1) (s .start)) (does s b (bookIn l used) (value a v)) m (k ∙ rw q z) (sym fault)
+          same-refused s b l used (put s wants.Value f (h ++ (xs ++ [])) wants.Value (s .count + 1) (s .start)) (does s b (bookIn l used) (value a v)) m (k ∙ rw (q, z) refl) (sym fault)
 
       done : {y : Left} → y ≡ restLeaves s b l used (put s wants.Value f (h ++ (xs ++ [])) wants.Value (s .count + 1) (s .start)) → y ≡ callLeaves s b l used (value a v)
       unfolding callLeaves does
       done m = m ∙ (same t refl ∙ sym (passed s b l used (does s b (bookIn l used) (value a v)) r is e))
 
 returns : tie.Need-returns
-returns c = λ v _ _.
+returns c = λ v _ _ _.
     let f = c .before in
     let r = f .before .before in
     let a = r .before .before .before .before .before .args in
@@ -78,18 +79,20 @@ unfolding room
 row-next-requires c κs = let w = behind (c .before) in (omega arith, w .book)
 
 returns-2 : tie.Need-returns-2
-returns-2 c = λ v m image.
+returns-2 c = λ v m own image.
     let g = c .before .before in
     let f = g .before .before .before in
-    let n = f .before in
+    let o = f .before in
+    let n = o .before in
     let e = n .before .before in
     let r = e .before .before in
     let a = r .before .before .before .before .before .args in
-    done (a .s) (now (a .buf)) (now (a .book)) (a .used) (a .b) (r .in-turn .result) (r .in-turn .ensures) (e .enum-told .given .1) (f .value-fault .result) (n .row-next .ensures) (f .value-fault .ensures) v m
+    done (a .s) (now (a .buf)) (now (a .book)) (a .used) (a .b) (r .in-turn .result) (r .in-turn .ensures) (e .enum-told .given .1) (f .first-fault .result) (n .row-next .ensures) (f .first-fault .ensures ∙ ap (λ (x : Fault). x or a .breach) (o .value-fault .ensures)) v m own
     (now (a .head)) (now (a .body)) image (g .give-on .ensures wants.Value (now (a .book)))
 
 pub give-value-spec : {M : Type 1} → statement M
 give-value-spec =
     tie.close
-    (tie.spec (λ c κs. search needs) (λ c. search needs) returns (λ c. search needs) row-next-requires (λ c κs. search needs)
-    (λ c. search needs) (λ c. let w = behind (c .before .before .before .before .before) in omega arith) (λ c κs. λ _. behind (c .before .before .before .before .before) .place) (λ c. search needs) returns-2)
+    (tie.spec (λ c κs. search needs) (λ c. search needs) returns (λ c. search needs) row-next-requires (λ c κs. search needs) (λ c κs. search needs)
+    (λ c. search needs) (λ c. let w = behind (c .before .before .before .before .before .before) in omega arith)
+    (λ c κs. λ _. behind (c .before .before .before .before .before .before) .place) (λ c. search needs) returns-2)

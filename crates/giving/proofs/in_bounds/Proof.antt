@@ -5,7 +5,7 @@ use Prim.Native.Nat.{_+_}
 use mathlib.Core.Path.{sym, _∙_}
 use borrow.Author.Tests.{lt-leb}
 use Rattle.writing_parts.proofs.Over.{sub-leb}
-use Rattle.writer.specs.Writer.{room, rule}
+use Rattle.writer.specs.Writer.{room, asks}
 use Rattle.writer.proofs.Bounds.{place-over, count-under, count-over, rows-over, none-open, one-open}
 use Rattle.giving.proofs.in_bounds.Statement.{statement}
 use Rattle.giving.proofs.in_bounds.Tie as tie
@@ -40,7 +40,7 @@ returns-6 c =
     let a = c .before .before .before .before .before .before .before .before .args in
     let s = a .s in
     sym (one-open s (a .len) (omega arith) (omega arith) (omega arith) (omega arith) (omega arith)
-    ∙ lt-leb (s .start + rule (s .turn) .head) (s .place) (omega arith))
+    ∙ lt-leb (s .start + asks (s .turn) .head) (s .place) (omega arith))
 
 returns-7 : tie.Need-returns-7
 unfolding room
@@ -48,8 +48,8 @@ returns-7 c =
     let r = c .before .before .before .before .before .before .before in
     let a = r .before .args in
     let s = a .s in
-    sub-leb (s .start) (r .rule-of .result .head) (s .place) (omega arith)
-    ∙ rw (r .rule-of .ensures .2) (sym (one-open s (a .len) (omega arith) (omega arith) (omega arith) (omega arith) (omega arith)))
+    sub-leb (s .start) (r .asks-of .result .head) (s .place) (omega arith)
+    ∙ rw (r .asks-of .ensures .2) (sym (one-open s (a .len) (omega arith) (omega arith) (omega arith) (omega arith) (omega arith)))
 
 pub in-bounds-spec : {M : Type 1} → statement M
 in-bounds-spec =

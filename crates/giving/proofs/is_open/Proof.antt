@@ -5,7 +5,7 @@ use Rattle.giving.proofs.is_open.Statement.{statement}
 use Rattle.giving.proofs.is_open.Tie as tie
 
 returns : tie.Need-returns
-returns c = rw (c .before .rule-of .ensures .2) refl
+returns c = rw (c .before .asks-of .ensures .2) refl
 
 pub is-open-spec : {M : Type 1} → statement M
 is-open-spec =

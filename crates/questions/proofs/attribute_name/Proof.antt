@@ -4,6 +4,8 @@ use denote.Ref.{now}
 use mathlib.Core.Path.{sym, ap, _∙_}
 use Rattle.octets.specs.Reading.{isOk}
 use Rattle.octets.specs.Asked.{partOf, Standing}
+use Rattle.texts.specs.declared.Rule.the-variants.{Characters}
+use Rattle.texts.proofs.Ends.{text-there}
 use Rattle.layouts.specs.Layout.{Attribute, attributeAt}
 use Rattle.layouts.proofs.Parts.{attribute-named, attribute-text}
 use Rattle.questions.specs.Questions.{attributeAsked}
@@ -22,7 +24,7 @@ led-part-requires : tie.Need-led-part-requires
 led-part-requires c κs =
     let a = c .before .before .before .before .before .before .args in
     let p = found c in
-    (p .short, attribute-named (now (a .doc)) _ (ap isOk (p .reads)))
+    (p .short, text-there (now (a .doc)) _ (attribute-named (now (a .doc)) _ (ap isOk (p .reads))))
 
 returns-2 : tie.Need-returns-2
 returns-2 c =
@@ -30,7 +32,7 @@ returns-2 c =
     let a = k .before .before .before .before .before .before .args in
     let p = found k in
     let (mid, named) = attribute-text (now (a .doc)) _ (p .reads) in
-    c .led-part .ensures (p .item .name) mid named ∙ sym (ap (partOf (λ (a : Attribute). a .name)) (p .is))
+    c .led-part .ensures Characters (p .item .name) mid named ∙ sym (ap (partOf (λ (a : Attribute). a .name)) (p .is))
 
 pub attribute-name-spec : {M : Type 1} → statement M
 attribute-name-spec = tie.close (tie.spec (λ c κs. search needs) (λ c. search needs) (λ c. search needs) (λ c. search needs) returns led-part-requires returns-2)

@@ -6,6 +6,8 @@ use mathlib.Core.Path.{sym, ap, _∙_}
 use lib.ListN.{take}
 use Rattle.octets.specs.Reading.{isOk}
 use Rattle.octets.specs.Asked.{partOf}
+use Rattle.texts.specs.declared.Rule.the-variants.{Characters}
+use Rattle.texts.proofs.Ends.{text-there}
 use Rattle.layouts.proofs.Parts.{attribute-named, attribute-text}
 use Rattle.rows.specs.Row.{Field}
 use Rattle.questions.specs.Questions.{fieldAsked}
@@ -26,7 +28,7 @@ led-part-requires : tie.Need-led-part-requires
 led-part-requires c κs =
     let a = c .before .before .before .before .before .before .before .args in
     let p = found (c .before) .0 in
-    (omega (arith, p .small), attribute-named (take (a .used) (now (a .book))) _ (ap isOk (p .names)))
+    (omega (arith, p .small), text-there (take (a .used) (now (a .book))) _ (attribute-named (take (a .used) (now (a .book))) _ (ap isOk (p .names))))
 
 returns-2 : tie.Need-returns-2
 returns-2 c =
@@ -34,7 +36,7 @@ returns-2 c =
     let a = k .before .before .before .before .before .before .args in
     let p = found k .0 in
     let (mid, named) = attribute-text (take (a .used) (now (a .book))) _ (p .names) in
-    c .led-part .ensures (p .field .attribute .name) mid named ∙ sym (ap (partOf (λ (f : Field). f .attribute .name)) (p .is))
+    c .led-part .ensures Characters (p .field .attribute .name) mid named ∙ sym (ap (partOf (λ (f : Field). f .attribute .name)) (p .is))
 
 pub field-name-spec : {M : Type 1} → statement M
 field-name-spec =

@@ -6,7 +6,9 @@ use mathlib.Core.Path.{_≡_, sym, ap, _∙_}
 use mathlib.Core.Bool.{Bool, true, false}
 use Rattle.octets.specs.Reading.{ok, isOk}
 use Rattle.octets.specs.Asked.{partOf}
-use Rattle.texts.specs.Texts.{text}
+use Rattle.octets.specs.declared.Room.the-variants.{Document}
+use Rattle.texts.specs.Texts.{ledIn}
+use Rattle.texts.specs.declared.Rule.{Rule}
 use Rattle.kinds.specs.Kinds.{formOf}
 use Rattle.kinds.specs.Values.{octetsOf}
 use Rattle.kinds.specs.declared.Kind.{Kind}
@@ -37,14 +39,16 @@ module _ (t : tie.After-is-held) where
       let p = found at .0 in
       ap (λ (k : Kind). isHeld (formOf k)) (sym (t .before .kind-behind .ensures (p .field .attribute) (p .last) (p .names))) ∙ (sym (t .is-held .ensures) ∙ q)
 
-  string : t .is-held .result ≡ true → let s = now (at .before .before .before .before .before .before .args .doc) in text s (at .before .spot .given .0 .1 .0) ≡ ok (octetsOf (found at .0 .field .value)) (found at .0 .after)
-  string q = let p = found at .0 in held-stood _ (p .end) _ (formOf (p .field .attribute .kind)) (p .inside) (held true q) (p .reads)
+  stood : t .is-held .result ≡ true → let s = now (at .before .before .before .before .before .before .args .doc) in
+      (rule : Rule) × (ledIn rule Document s (at .before .spot .given .0 .1 .0) ≡ ok (octetsOf (found at .0 .field .value)) (found at .0 .after))
+  stood q = let p = found at .0 in held-stood _ (p .end) _ (formOf (p .field .attribute .kind)) (p .inside) (held true q) (p .reads)
 
 returns-2 : tie.Need-returns-2
 returns-2 c =
     let t = c .before .before in
     let p = found (at t) .0 in
-    c .led-part .ensures (octetsOf (p .field .value)) (p .after) (string t (c .before .if1 .taken)) ∙ sym (ap (partOf (λ (f : Field). octetsOf (f .value))) (p .is))
+    let (rule, reads) = stood t (c .before .if1 .taken) in
+    c .led-part .ensures rule (octetsOf (p .field .value)) (p .after) reads ∙ sym (ap (partOf (λ (f : Field). octetsOf (f .value))) (p .is))
 
 returns-3 : tie.Need-returns-3
 returns-3 c =
@@ -57,4 +61,4 @@ field-octets-spec =
     tie.close
     (tie.spec (λ c κs. search needs) (λ c. search needs) (λ c. search needs) (λ c. search needs) returns (λ c. sym (found (c .before) .1))
     (λ c κs. let p = found (c .before) .0 in (omega (arith, p .small), ap isOk (p .names))) (λ c κs. search needs)
-    (λ c κs. let t = c .before in (found (at t) .0 .short, ap isOk (string t (c .if1 .taken)))) returns-2 (λ c. search needs) returns-3)
+    (λ c κs. let t = c .before in let (rule, reads) = stood t (c .if1 .taken) in (found (at t) .0 .short, record { rule = rule; octets = _; next = _; reads = reads })) returns-2 (λ c. search needs) returns-3)

@@ -11,7 +11,7 @@ returns-2 : tie.Need-returns-2
 returns-2 c = λ xs. rw (sym (c .before .before .form-by .ensures) ∙ c .enum-told .given .1) refl
 
 returns-3 : tie.Need-returns-3
-returns-3 c = λ xs. rw (sym (c .before .before .form-by .ensures) ∙ c .enum-told2 .given .1) refl
+returns-3 c = λ xs. let m = c .before in rw (sym (m .before .before .form-by .ensures) ∙ m .form2 .given .1) refl
 
 pub suits-octets-spec : {M : Type 1} → statement M
 suits-octets-spec =

@@ -17,12 +17,13 @@ returns : tie.Need-returns
 unfolding callLeaves does ledImage
 returns c =
     let g = c .before .before in
-    let a = g .before .before .before .before .before .args in
+    let b = g .before in
+    let a = b .before .before .before .before .before .args in
     let xs = now (a .xs) in
     gave (a .s) (now (a .buf)) (now (a .book)) (a .used) (g .give-pair .ensures)
-    (same-put (a .s) wants.Recorder (a .s .start) refl (append-assoc (word 4 4) (word 4 (length xs)) xs) refl refl)
+    (same-put (a .s) wants.Recorder (a .s .start) (b .breach .ensures) (append-assoc (word 4 4) (word 4 (length xs)) xs) refl refl)
 
 pub recorder-spec : {M : Type 1} → statement M
 recorder-spec =
     tie.close
-    (tie.spec (λ c κs. search needs) (λ c. search needs) returns)
+    (tie.spec (λ c κs. search needs) (λ c κs. search needs) (λ c. search needs) returns)

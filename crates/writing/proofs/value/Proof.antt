@@ -21,12 +21,12 @@ use Rattle.writing.proofs.value.Tie as tie
 of-octets : (f : Form) (n : ℕ) (xs : List ℕ) → suits f (held xs) ≡ true → held xs ≡ inForm f n xs
 of-octets (form.Fixed w) n xs e = let z : _≡_ {A = ℕ} 0 1 = cc in absurd (omega arith)
 of-octets form.Truth n xs e = let z : _≡_ {A = ℕ} 0 1 = cc in absurd (omega arith)
-of-octets form.Led n xs e = refl
+of-octets (form.Led rule) n xs e = refl
 
 of-number : (f : Form) (n : ℕ) (xs : List ℕ) → suits f (held xs) ≡ false → bits n ≡ inForm f n xs
 of-number (form.Fixed w) n xs e = refl
 of-number form.Truth n xs e = refl
-of-number form.Led n xs e = let z : _≡_ {A = ℕ} 0 1 = cc in absurd (omega arith)
+of-number (form.Led rule) n xs e = let z : _≡_ {A = ℕ} 0 1 = cc in absurd (omega arith)
 
 module _ (v : given.Value) (xs : List ℕ) (b : Basic) (is : b ≡ basicOfValue v) where
   typed : {n : ℕ} → n ≡ bitsOfValue v → value b (inForm (formBy b) n xs) ≡ valueCall v xs

@@ -4,7 +4,7 @@ use mathlib.Core.Path.{_∙_}
 use mathlib.Core.List.{append-nil}
 use Rattle.kinds.specs.Kinds.{formBy}
 use Rattle.kinds.specs.Forms.{bits}
-use Rattle.writer.proofs.Values.{number-image}
+use Rattle.writer.proofs.Values.{number-image, number-free}
 use Rattle.giving.proofs.Values.{number-octets}
 use Rattle.writing.proofs.value_number.Statement.{statement}
 use Rattle.writing.proofs.value_number.Tie as tie
@@ -17,7 +17,7 @@ returns c =
     let u = d .before in
     let a = u .before .before .before .args in
     let width = d .width-of .ensures in
-    g .give-value .ensures (bits (a .n)) (u .suits-number .ensures)
+    g .give-value .ensures (bits (a .n)) (u .suits-number .ensures) (number-free (formBy (a .b)) (a .n))
     (λ _. append-nil _ ∙ (number-octets (d .width-of .result) (a .n) (width .1) (w .word8 .ensures) ∙ rw (width .0) (number-image (formBy (a .b)) (a .n))))
 
 pub value-number-spec : {M : Type 1} → statement M

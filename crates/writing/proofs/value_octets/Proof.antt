@@ -21,19 +21,20 @@ image : (f : Form) (xs : List ℕ) {h : List ℕ} → suits f (held xs) ≡ true
 unfolding ledImage
 image (form.Fixed w) xs e h = let z : _≡_ {A = ℕ} 0 1 = cc in absurd (omega arith)
 image form.Truth xs e h = let z : _≡_ {A = ℕ} 0 1 = cc in absurd (omega arith)
-image form.Led xs e h = rw h refl
+image (form.Led rule) xs e h = rw h refl
 
 returns : tie.Need-returns
 returns c =
     let g = c .before .before in
-    let w = g .before .before .before in
+    let b = g .before .before .before in
+    let w = b .before in
     let o = w .before in
     let a = o .before .before .before .before .args in
     let xs = now (a .xs) in
     let is = o .suits-octets .ensures xs in
-    g .give-value .ensures (held xs) is (λ q. image (formBy (a .b)) xs (sym is ∙ q) (w .word4 .ensures))
+    g .give-value .ensures (held xs) is (b .value-breach .ensures) (λ q. image (formBy (a .b)) xs (sym is ∙ q) (w .word4 .ensures))
 
 pub value-octets-spec : {M : Type 1} → statement M
 value-octets-spec =
     tie.close
-    (tie.spec (λ c κs. search needs) (λ c κs. search needs) (λ c. search needs) (λ c κs. search needs) (λ c. search needs) returns)
+    (tie.spec (λ c κs. search needs) (λ c κs. search needs) (λ c κs. search needs) (λ c. search needs) (λ c κs. search needs) (λ c. search needs) returns)
