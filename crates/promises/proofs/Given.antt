@@ -8,6 +8,7 @@ use borrow.Author.Tests.{lt-leb}
 use Rattle.octets.specs.Limits.{longest}
 use Rattle.octets.specs.Reading.{Read, no, be, part, numberIn, count, exactly, run}
 use Rattle.octets.specs.Writing.{word, images}
+use Rattle.utf8.specs.Utf8.{begun, awaiting, utf8}
 use Rattle.texts.specs.Texts.{ledIn, ledImage}
 use Rattle.kinds.specs.Kinds.{among, basicOf, kindAt}
 use Rattle.layouts.specs.Layout.{attributeAt, layoutAt, attributeImage, layoutImage}
@@ -55,11 +56,11 @@ unfolding whole reading
 whole-long = rw header-long
 
 headerInputs : List (List ℕ)
-headerInputs = [] ∷ long ∷ set specimen 3 3 ∷ set specimen 23 17 ∷ set specimen 31 15 ∷ set specimen 51 0 ∷ []
+headerInputs = [] ∷ long ∷ set specimen 3 3 ∷ set specimen 23 17 ∷ set specimen 31 15 ∷ set specimen 51 0 ∷ set (set specimen 7 1) 8 0xe9 ∷ []
 
 header-each : refusalsOf headerAt headerInputs ≡ headerNumbers
-unfolding headerInputs specimen be part numberIn ledIn count exactly run namespaceAt idAt headerFrom headerAt
-header-each = ap (λ (r : Read Header). 1 ∷ refusalOf r ∷ 3 ∷ 4 ∷ 5 ∷ 6 ∷ []) header-long
+unfolding headerInputs specimen be part numberIn begun awaiting utf8 ledIn count exactly run namespaceAt idAt headerFrom headerAt
+header-each = ap (λ (r : Read Header). 1 ∷ refusalOf r ∷ 3 ∷ 4 ∷ 5 ∷ 6 ∷ 24 ∷ []) header-long
 
 abbrev step : Inputs → Read Stepped
 step i = stepAt (i .document) (i .place) (i .rows) (i .octets) (i .used)
@@ -80,21 +81,22 @@ stepInputs =
     ∷ record { document = specimen; place = 87; rows = 0; octets = set layoutBook 30 0x29; used = 31 }
     ∷ record { document = specimen; place = 121; rows = 0; octets = emptyBook; used = 0 }
     ∷ record { document = specimen ++ 0 ∷ []; place = 121; rows = 2; octets = emptyBook; used = 0 }
+    ∷ record { document = set specimen 64 0xe9; place = 52; rows = 0; octets = emptyBook; used = 0 }
     ∷ []
 
 step-each : refusalsOf step stepInputs ≡ stepNumbers
-unfolding stepInputs specimen layoutBook emptyBook be part numberIn ledIn count exactly run word ledImage images among basicOf kindAt attributeAt layoutAt attributeImage layoutImage find bookImage layoutsAt bookOf learn valueIn fieldsIn valuesAt rowAt finishAt elementAt lentBook stepAt
+unfolding stepInputs specimen layoutBook emptyBook be part numberIn begun awaiting utf8 ledIn count exactly run word ledImage images among basicOf kindAt attributeAt layoutAt attributeImage layoutImage find bookImage layoutsAt bookOf learn valueIn fieldsIn valuesAt rowAt finishAt elementAt lentBook stepAt
 step-each = ap (λ (r : Read Stepped). refusalOf r ∷ 17 ∷ elementNumbers) step-long
 
 wholeInputs : List (List ℕ)
 wholeInputs =
     [] ∷ long ∷ set specimen 3 3 ∷ set specimen 23 17 ∷ set specimen 31 15 ∷ set specimen 51 0 ∷ set specimen 55 4 ∷ set specimen 77 0x20
     ∷ set specimen 74 0x80 ∷ (take 87 specimen ++ set (part specimen 52 35) 12 0x42) ∷ (take 52 specimen ++ layouts (0 ∷ 0 ∷ 0 ∷ 1 ∷ []) 65)
-    ∷ set specimen 94 8 ∷ set specimen 98 6 ∷ set specimen 86 0x29 ∷ set specimen 128 3 ∷ (specimen ++ 0 ∷ []) ∷ []
+    ∷ set specimen 94 8 ∷ set specimen 98 6 ∷ set specimen 86 0x29 ∷ set specimen 128 3 ∷ (specimen ++ 0 ∷ []) ∷ set specimen 64 0xe9 ∷ []
 
 whole-each : refusalsOf whole wholeInputs ≡ wholeNumbers
-unfolding wholeInputs specimen be part numberIn ledIn count exactly run word ledImage images among basicOf kindAt attributeAt layoutAt attributeImage layoutImage find bookImage learn valueIn fieldsIn valuesAt rowAt namespaceAt idAt headerFrom headerAt finishAt elementAt walk through reading whole
-whole-each = ap (λ (r : Read ℕ). 1 ∷ refusalOf r ∷ 3 ∷ 4 ∷ 5 ∷ 6 ∷ 7 ∷ 8 ∷ 9 ∷ 10 ∷ 11 ∷ 12 ∷ 13 ∷ 14 ∷ 15 ∷ 16 ∷ []) whole-long
+unfolding wholeInputs specimen be part numberIn begun awaiting utf8 ledIn count exactly run word ledImage images among basicOf kindAt attributeAt layoutAt attributeImage layoutImage find bookImage learn valueIn fieldsIn valuesAt rowAt namespaceAt idAt headerFrom headerAt finishAt elementAt walk through reading whole
+whole-each = ap (λ (r : Read ℕ). 1 ∷ refusalOf r ∷ 3 ∷ 4 ∷ 5 ∷ 6 ∷ 7 ∷ 8 ∷ 9 ∷ 10 ∷ 11 ∷ 12 ∷ 13 ∷ 14 ∷ 15 ∷ 16 ∷ 24 ∷ []) whole-long
 
 pub refusals : Refusals
 refusals =

@@ -54,14 +54,14 @@ module _ {ns : List ℕ} where
 
 module _ (s : List ℕ) where
   pub header-only : Only headerNumbers (headerAt s)
-  header-only = only (length s) (headerAt s) (header-stays (In headerNumbers) s (length s) (le-refl (length s)) refl (refl, refl, refl, refl, refl))
+  header-only = only (length s) (headerAt s) (header-stays (In headerNumbers) s (length s) (le-refl (length s)) refl (refl, refl, refl, refl, refl, refl))
 
   pub whole-only : Only wholeNumbers (whole s)
   whole-only =
       only (length s) (whole s)
-      (whole-stays (In wholeNumbers) s (length s) (le-refl (length s)) refl (refl, refl, refl, refl, refl) (refl, refl, refl, refl, refl, refl, refl, refl, refl, refl, refl))
+      (whole-stays (In wholeNumbers) s (length s) (le-refl (length s)) refl (refl, refl, refl, refl, refl, refl) (refl, refl, refl, refl, refl, refl, refl, refl, refl, refl, refl, refl))
 
   pub step-only : (at rows : ℕ) (octets : List ℕ) (used : ℕ) → Only stepNumbers (stepAt s at rows octets used)
   step-only at rows octets used =
       only (at + length s) (stepAt s at rows octets used)
-      (step-stays (In stepNumbers) s (at + length s) (omega arith) refl refl refl (refl, refl, refl, refl, refl, refl, refl, refl, refl, refl, refl) at rows octets used (omega arith))
+      (step-stays (In stepNumbers) s (at + length s) (omega arith) refl refl refl (refl, refl, refl, refl, refl, refl, refl, refl, refl, refl, refl, refl) at rows octets used (omega arith))

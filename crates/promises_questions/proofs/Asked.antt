@@ -82,7 +82,7 @@ module _ (s : List ℕ) (at rows : ℕ) (octets : List ℕ) (used : ℕ) where
       only-then (elementAt s at rows book) _
       (rw (element-row s at rows book room right)
       (only-then (rowAt book s (at + 4)) _
-      (only (length s) (rowAt book s (at + 4)) (row-stays (In fieldNumbers) s (length s) (le-refl (length s)) refl refl refl refl book (at + 4) room)) λ r end. taken _ end))
+      (only (length s) (rowAt book s (at + 4)) (row-stays (In fieldNumbers) s (length s) (le-refl (length s)) refl refl refl refl refl book (at + 4) room)) λ r end. taken _ end))
       λ st next. go (st .element) next
     where
       go : (el : Element) (next : ℕ) → Only fieldNumbers (rowOf at el next)
@@ -102,7 +102,7 @@ module _ (s : List ℕ) (at rows : ℕ) (octets : List ℕ) (used : ℕ) where
       only-then (elementAt s at rows book) _
       (rw (element-layout s at rows book room right)
       (only-then (layoutAt s (at + 4)) _
-      (only (length s) (layoutAt s (at + 4)) (layout-stays (In layoutNumbers) s (length s) (le-refl (length s)) refl refl refl refl (at + 4) room)) λ l end.
+      (only (length s) (layoutAt s (at + 4)) (layout-stays (In layoutNumbers) s (length s) (le-refl (length s)) refl refl refl refl refl (at + 4) room)) λ l end.
       only-then (learn book l (at + 4)) _
       (only (length s) (learn book l (at + 4)) (learn-stays (In layoutNumbers) s (length s) (le-refl (length s)) refl refl refl book l (at + 4) room)) λ learnt _. taken _ end))
       λ st next. go (st .element) next

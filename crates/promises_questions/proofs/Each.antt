@@ -16,6 +16,7 @@ use Rattle.headers.specs.Header.{Namespace, namespaceAt, idAt, headerFrom, head
 use Rattle.elements.specs.Element.{elementAt}
 use Rattle.elements.specs.Steps.{lentBook}
 use Rattle.octets.specs.Asked.{nth}
+use Rattle.utf8.specs.Utf8.{begun, awaiting, utf8}
 use Rattle.texts.specs.Texts.{ledIn, ledImage}
 use Rattle.questions.specs.Questions.{kindAsked, bookAsked, rowAsked, fieldAsked, layoutAsked, attributeAsked}
 use Rattle.header_questions.specs.Questions.{namespaceAsked, serviceAsked}
@@ -63,27 +64,28 @@ fieldInputs : List Indexed
 fieldInputs =
     first (bare specimen 137) ∷ first (unlent long 0) ∷ first (bare specimen 0) ∷ first (bare specimen 87) ∷ first (booked (set specimen 98 6) 87)
     ∷ first (record { document = specimen; place = 87; rows = 0; octets = set layoutBook 30 0x29; used = 31 }) ∷ first (unlent specimen 87)
-    ∷ record { step = booked specimen 87; index = 2 } ∷ first (bare specimen 52) ∷ []
+    ∷ record { step = booked specimen 87; index = 2 } ∷ first (bare specimen 52)
+    ∷ first (record { document = set (set specimen 119 1) 120 0xe9; place = 104; rows = 0; octets = set layoutBook 21 0x28; used = 31 }) ∷ []
 
 abbrev field : Indexed → Read Field
 field i = fieldAsked (i .step .document) (i .step .place) (i .step .rows) (i .step .octets) (i .step .used) (i .index)
 
 field-each : refusalsOf field fieldInputs ≡ fieldNumbers
-unfolding fieldInputs specimen layoutBook emptyBook be part numberIn ledIn count run among basicOf kindAt attributeAt layoutAt find layoutsAt bookOf valueIn fieldsIn valuesAt rowAt elementAt lentBook kindAsked bookAsked nth rowAsked fieldAsked
-field-each = ap (λ (r : Read Field). 1 ∷ refusalOf r ∷ 7 ∷ 12 ∷ 13 ∷ 14 ∷ 17 ∷ 18 ∷ 19 ∷ []) field-long
+unfolding fieldInputs specimen layoutBook emptyBook be part numberIn begun awaiting utf8 ledIn count run among basicOf kindAt attributeAt layoutAt find layoutsAt bookOf valueIn fieldsIn valuesAt rowAt elementAt lentBook kindAsked bookAsked nth rowAsked fieldAsked
+field-each = ap (λ (r : Read Field). 1 ∷ refusalOf r ∷ 7 ∷ 12 ∷ 13 ∷ 14 ∷ 17 ∷ 18 ∷ 19 ∷ 24 ∷ []) field-long
 
 layoutInputs : List Inputs
 layoutInputs =
     bare specimen 137 ∷ unlent long 0 ∷ bare (set specimen 68 65) 52 ∷ bare specimen 0 ∷ bare (set specimen 77 0x20) 52 ∷ bare (set specimen 74 0x80) 52
     ∷ booked (set specimen 64 0x42) 52 ∷ record { document = specimen; place = 52; rows = 0; octets = layouts [] 64 ++ emptyBook; used = 768 } ∷ unlent specimen 52
-    ∷ bare specimen 87 ∷ []
+    ∷ bare specimen 87 ∷ bare (set specimen 64 0xe9) 52 ∷ []
 
 abbrev layout : Inputs → Read Layout
 layout i = layoutAsked (i .document) (i .place) (i .rows) (i .octets) (i .used)
 
 layout-each : refusalsOf layout layoutInputs ≡ layoutNumbers
-unfolding layoutInputs specimen layoutBook emptyBook be part numberIn ledIn count run word ledImage images among basicOf kindAt attributeAt layoutAt attributeImage layoutImage find bookImage layoutsAt bookOf learn elementAt lentBook kindAsked bookAsked layoutAsked
-layout-each = ap (λ (r : Read Layout). 1 ∷ refusalOf r ∷ 4 ∷ 7 ∷ 8 ∷ 9 ∷ 10 ∷ 11 ∷ 17 ∷ 19 ∷ []) layout-long
+unfolding layoutInputs specimen layoutBook emptyBook be part numberIn begun awaiting utf8 ledIn count run word ledImage images among basicOf kindAt attributeAt layoutAt attributeImage layoutImage find bookImage layoutsAt bookOf learn elementAt lentBook kindAsked bookAsked layoutAsked
+layout-each = ap (λ (r : Read Layout). 1 ∷ refusalOf r ∷ 4 ∷ 7 ∷ 8 ∷ 9 ∷ 10 ∷ 11 ∷ 17 ∷ 19 ∷ 24 ∷ []) layout-long
 
 abbrev attribute : Indexed → Read Attribute
 attribute i = attributeAsked (i .step .document) (i .step .place) (i .step .rows) (i .step .octets) (i .step .used) (i .index)
@@ -97,21 +99,22 @@ attributeInputs : List Indexed
 attributeInputs = record { step = bare specimen 52; index = 2 } ∷ firsts layoutInputs
 
 attribute-each : refusalsOf attribute attributeInputs ≡ attributeNumbers
-unfolding attributeInputs layoutInputs specimen layoutBook emptyBook be part numberIn ledIn count run word ledImage images among basicOf kindAt attributeAt layoutAt attributeImage layoutImage find bookImage layoutsAt bookOf learn elementAt lentBook kindAsked bookAsked nth layoutAsked attributeAsked
-attribute-each = ap (λ (r : Read Attribute). 18 ∷ 1 ∷ refusalOf r ∷ 4 ∷ 7 ∷ 8 ∷ 9 ∷ 10 ∷ 11 ∷ 17 ∷ 19 ∷ []) attribute-long
+unfolding attributeInputs layoutInputs specimen layoutBook emptyBook be part numberIn begun awaiting utf8 ledIn count run word ledImage images among basicOf kindAt attributeAt layoutAt attributeImage layoutImage find bookImage layoutsAt bookOf learn elementAt lentBook kindAsked bookAsked nth layoutAsked attributeAsked
+attribute-each = ap (λ (r : Read Attribute). 18 ∷ 1 ∷ refusalOf r ∷ 4 ∷ 7 ∷ 8 ∷ 9 ∷ 10 ∷ 11 ∷ 17 ∷ 19 ∷ 24 ∷ []) attribute-long
 
 listedInputs : List Listed
 listedInputs =
     record { document = specimen; index = 0 } ∷ record { document = []; index = 0 } ∷ record { document = long; index = 0 } ∷ record { document = set specimen 3 3; index = 0 }
-    ∷ record { document = set specimen 23 17; index = 0 } ∷ record { document = set specimen 31 15; index = 0 } ∷ record { document = set specimen 51 0; index = 0 } ∷ []
+    ∷ record { document = set specimen 23 17; index = 0 } ∷ record { document = set specimen 31 15; index = 0 } ∷ record { document = set specimen 51 0; index = 0 }
+    ∷ record { document = set (set specimen 7 1) 8 0xe9; index = 0 } ∷ []
 
 namespace-each : refusalsOf (λ (i : Listed). namespaceAsked (i .document) (i .index)) listedInputs ≡ listedNumbers
-unfolding listedInputs specimen be part numberIn ledIn count exactly run namespaceAt idAt headerFrom headerAt nth namespaceAsked
-namespace-each = ap (λ (r : Read Namespace). 18 ∷ 1 ∷ refusalOf r ∷ 3 ∷ 4 ∷ 5 ∷ 6 ∷ []) namespace-long
+unfolding listedInputs specimen be part numberIn begun awaiting utf8 ledIn count exactly run namespaceAt idAt headerFrom headerAt nth namespaceAsked
+namespace-each = ap (λ (r : Read Namespace). 18 ∷ 1 ∷ refusalOf r ∷ 3 ∷ 4 ∷ 5 ∷ 6 ∷ 24 ∷ []) namespace-long
 
 service-each : refusalsOf (λ (i : Listed). serviceAsked (i .document) (i .index)) listedInputs ≡ listedNumbers
-unfolding listedInputs specimen be part numberIn ledIn count exactly run namespaceAt idAt headerFrom headerAt nth serviceAsked
-service-each = ap (λ (r : Read (List ℕ)). 18 ∷ 1 ∷ refusalOf r ∷ 3 ∷ 4 ∷ 5 ∷ 6 ∷ []) service-long
+unfolding listedInputs specimen be part numberIn begun awaiting utf8 ledIn count exactly run namespaceAt idAt headerFrom headerAt nth serviceAsked
+service-each = ap (λ (r : Read (List ℕ)). 18 ∷ 1 ∷ refusalOf r ∷ 3 ∷ 4 ∷ 5 ∷ 6 ∷ 24 ∷ []) service-long
 
 pub numbers : Numbers
 numbers =

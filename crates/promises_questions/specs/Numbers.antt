@@ -9,11 +9,11 @@ use Rattle.promises.specs.Refusals.{Gives, headerNumbers, stepNumbers, Inputs}
 
 -- Field n of a row.
 abbrev pub fieldNumbers : List ℕ
-fieldNumbers = 1 ∷ 2 ∷ 7 ∷ 12 ∷ 13 ∷ 14 ∷ 17 ∷ 18 ∷ 19 ∷ []
+fieldNumbers = 1 ∷ 2 ∷ 7 ∷ 12 ∷ 13 ∷ 14 ∷ 17 ∷ 18 ∷ 19 ∷ 24 ∷ []
 
 -- A layout, which may be one more than the book takes.
 abbrev pub layoutNumbers : List ℕ
-layoutNumbers = 1 ∷ 2 ∷ 4 ∷ 7 ∷ 8 ∷ 9 ∷ 10 ∷ 11 ∷ 17 ∷ 19 ∷ []
+layoutNumbers = 1 ∷ 2 ∷ 4 ∷ 7 ∷ 8 ∷ 9 ∷ 10 ∷ 11 ∷ 17 ∷ 19 ∷ 24 ∷ []
 
 -- Attribute n of a layout, and item n of one of the header's lists: 18 too.
 abbrev pub attributeNumbers : List ℕ
