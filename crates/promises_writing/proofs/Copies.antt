@@ -35,8 +35,8 @@ in-form (form.Fixed w) (bits n) g = (g, refl)
 in-form (form.Fixed w) (held xs) g = absurd g
 in-form form.Truth (bits n) g = (g, refl)
 in-form form.Truth (held xs) g = absurd g
-in-form form.Led (bits n) g = absurd g
-in-form form.Led (held xs) g = (refl, refl)
+in-form (form.Led rule) (bits n) g = absurd g
+in-form (form.Led rule) (held xs) g = (refl, refl)
 
 pub value-copied : (b : Basic) (v : Value) → GoodValue (formBy b) v → valueCall (valueOf b v) (octetsOf v) ≡ value b v
 value-copied b v g =

@@ -11,23 +11,30 @@ use borrow.Author.Tests.{eqb-true, leb-true}
 use Rattle.octets.specs.Limits.{longest, mostListed}
 use Rattle.octets.specs.Writing.{word, images, Each, Octet}
 use Rattle.octets.proofs.Spans.{each-join}
-use Rattle.texts.specs.Texts.{ledImage, GoodText}
+use Rattle.texts.specs.Texts.{ledImage, GoodText, GoodLed}
+use Rattle.texts.specs.declared.Rule.{Rule}
+use Rattle.texts.specs.declared.Rule.the-variants.{Characters}
+use Rattle.texts.proofs.Fields.{text-none}
 use Rattle.headers.specs.Header.{Namespace, Header, headerImage, GoodNamespace, GoodHeader}
 use Rattle.writing_parts.specs.Faults.{fine, unless}
 use Rattle.writing_parts.proofs.Faults.{holds}
 use Rattle.writer.specs.declared.Wanted.{Wanted}
 use Rattle.writer.specs.declared.Wanted.the-variants as wants
-use Rattle.writer.specs.Writer.{Call, recorder, startTime, defaultNamespace, namespaceCount, uri, shortName, serviceCount, service, documentId, turnAt, does}
+use Rattle.writer.specs.Writer.{Call, recorder, startTime, defaultNamespace, namespaceCount, uri, shortName, serviceCount, service, documentId, turnAt, does, breach}
 use Rattle.writer.proofs.Kept.{at-turn}
+use Rattle.writer.proofs.Values.{obeyed}
 use Rattle.promises_writing.specs.Promise.{namespaceCalls, serviceCalls, headerCalls, Account, adds, tell}
 use Rattle.promises_writing.proofs.Standing.{Spot, spot, stateAt, behind}
 use Rattle.promises_writing.proofs.Put.{octetsOf, images-snoc, each-snoc, header-octets}
 use Rattle.promises_writing.proofs.Shapes.{InHeader, namespaced, served, Shape, Stand, rest, Inv, PassesHere, leftHere, put-keeps}
 
--- A string whose octets were put fits a length.
-pub is-text : (xs : List ℕ) → Each Octet xs → length (ledImage xs) ≤ longest → GoodText xs
+-- Octets that were put without fault fit a length and are what their rule asks.
+pub is-led : (rule : Rule) (xs : List ℕ) → Each Octet xs → breach rule xs ≡ fine → length (ledImage xs) ≤ longest → GoodLed rule xs
 unfolding ledImage
-is-text xs e h = (e, omega (arith, length-append (word 4 (length xs)) xs))
+is-led rule xs e f h = (e, omega (arith, length-append (word 4 (length xs)) xs), obeyed rule xs f)
+
+pub is-text : (xs : List ℕ) → Each Octet xs → breach Characters xs ≡ fine → length (ledImage xs) ≤ longest → GoodText xs
+is-text = is-led Characters
 
 -- A header by its fields in image order.
 abbrev header : List ℕ → ℕ → List ℕ → List Namespace → List (List ℕ) → List ℕ → Header
@@ -67,12 +74,12 @@ module _ {buffer lent : List ℕ} {told : Account} (now : Stand buffer lent told
   pub keep-recorder : (xs : List ℕ) → Each Octet xs → Keeps (recorder xs)
   unfolding does
   keep-recorder xs o p =
-      put-keeps now (adds told (recorder xs)) wants.Recorder wants.StartTime fine (word 4 4 ++ ledImage xs) 0 (now .at .start) p λ i _ small.
+      put-keeps now (adds told (recorder xs)) wants.Recorder wants.StartTime (breach Characters xs) (word 4 4 ++ ledImage xs) 0 (now .at .start) p λ i _ small.
       let h = i .h in
       let g = i .good in
-      let text : GoodText xs = is-text xs o (omega (arith, length-append (word 4 4) (ledImage xs))) in
+      let text : GoodText xs = is-text xs o (p .faultless) (omega (arith, length-append (word 4 4) (ledImage xs))) in
       on (recorder xs) wants.StartTime 0 i (header xs (h .start) (h .default) (h .others) (h .services) (h .id)) 0 []
-      (good-header text (g .start) (g .default) (g .few-others) (g .others) (g .few-services) (g .services) (g .id-length) (g .id)) (tt, lit< tt) tt refl
+      (good-header text (g .start) (g .default) (g .few-others) (g .others) (g .few-services) (g .services) (g .id-length) (g .id)) text-none tt refl
 
   pub keep-start : (n : ℕ) → n < 2 ^ 64 → Keeps (startTime n)
   unfolding does
@@ -81,16 +88,16 @@ module _ {buffer lent : List ℕ} {told : Account} (now : Stand buffer lent told
       let h = i .h in
       let g = i .good in
       on (startTime n) wants.DefaultNamespace 0 i (header (h .recorder) n (h .default) (h .others) (h .services) (h .id)) 0 []
-      (good-header (g .recorder) small (g .default) (g .few-others) (g .others) (g .few-services) (g .services) (g .id-length) (g .id)) (tt, lit< tt) tt refl
+      (good-header (g .recorder) small (g .default) (g .few-others) (g .others) (g .few-services) (g .services) (g .id-length) (g .id)) text-none tt refl
 
   pub keep-default : (xs : List ℕ) → Each Octet xs → Keeps (defaultNamespace xs)
   unfolding does
   keep-default xs o p =
-      put-keeps now (adds told (defaultNamespace xs)) wants.DefaultNamespace wants.NamespaceCount fine (ledImage xs) 0 (now .at .start) p λ i _ small.
+      put-keeps now (adds told (defaultNamespace xs)) wants.DefaultNamespace wants.NamespaceCount (breach Characters xs) (ledImage xs) 0 (now .at .start) p λ i _ small.
       let h = i .h in
       let g = i .good in
       on (defaultNamespace xs) wants.NamespaceCount 0 i (header (h .recorder) (h .start) xs (h .others) (h .services) (h .id)) 0 []
-      (good-header (g .recorder) (g .start) (is-text xs o small) (g .few-others) (g .others) (g .few-services) (g .services) (g .id-length) (g .id)) (tt, lit< tt) tt refl
+      (good-header (g .recorder) (g .start) (is-text xs o (p .faultless) small) (g .few-others) (g .others) (g .few-services) (g .services) (g .id-length) (g .id)) text-none tt refl
 
   -- The count is that of the namespaces to come: none are given yet.
   pub keep-namespaces : (n : ℕ) → Keeps (namespaceCount n)
@@ -103,20 +110,20 @@ module _ {buffer lent : List ℕ} {told : Account} (now : Stand buffer lent told
       let h₁ : Header = header (h .recorder) (h .start) (h .default) [] (h .services) (h .id) in
       let g₁ : GoodHeader h₁ = good-header (g .recorder) (g .start) (g .default) (omega arith) tt (g .few-services) (g .services) (g .id-length) (g .id) in
       at-turn (λ u. Shape u (spot (now .at .book) u n (now .at .start) (now .at .rows)) (now .done ++ word 4 n) (adds told (namespaceCount n))) n wants.Uri wants.ServiceCount
-      (λ _. on (namespaceCount n) wants.Uri n i h₁ n [] g₁ (tt, lit< tt) (zero-add n, most) refl)
-      (λ none. on (namespaceCount n) wants.ServiceCount n i h₁ 0 [] g₁ (tt, lit< tt) tt (ap (namespaced h₁) none))
+      (λ _. on (namespaceCount n) wants.Uri n i h₁ n [] g₁ text-none (zero-add n, most) refl)
+      (λ none. on (namespaceCount n) wants.ServiceCount n i h₁ 0 [] g₁ text-none tt (ap (namespaced h₁) none))
 
   pub keep-uri : (xs : List ℕ) → Each Octet xs → Keeps (uri xs)
   unfolding does
   keep-uri xs o p =
-      put-keeps now (adds told (uri xs)) wants.Uri wants.ShortName fine (ledImage xs) (now .at .count) (now .at .start) p λ i _ small.
-      on (uri xs) wants.ShortName (now .at .count) i (i .h) (i .n) xs (i .good) (is-text xs o small) (i .counts) refl
+      put-keeps now (adds told (uri xs)) wants.Uri wants.ShortName (breach Characters xs) (ledImage xs) (now .at .count) (now .at .start) p λ i _ small.
+      on (uri xs) wants.ShortName (now .at .count) i (i .h) (i .n) xs (i .good) (is-text xs o (p .faultless) small) (i .counts) refl
 
   pub keep-short : (xs : List ℕ) → Each Octet xs → Keeps (shortName xs)
   unfolding does
   keep-short xs o p =
       let left : ℕ = now .at .count - 1 in
-      put-keeps now (adds told (shortName xs)) wants.ShortName (turnAt left wants.Uri wants.ServiceCount) fine (ledImage xs) left (now .at .start) p λ i one small.
+      put-keeps now (adds told (shortName xs)) wants.ShortName (turnAt left wants.Uri wants.ServiceCount) (breach Characters xs) (ledImage xs) left (now .at .start) p λ i one small.
       let h = i .h in
       let g = i .good in
       let sum = i .counts in
@@ -125,14 +132,14 @@ module _ {buffer lent : List ℕ} {told : Account} (now : Stand buffer lent told
       let long : length others ≡ length (h .others) + 1 = length-append (h .others) (more ∷ []) in
       let h₁ : Header = header (h .recorder) (h .start) (h .default) others (h .services) (h .id) in
       let g₁ : GoodHeader h₁ =
-      good-header (g .recorder) (g .start) (g .default) (omega arith) (each-join GoodNamespace (h .others) (more ∷ []) (g .others) (record { uri = i .text; short = is-text xs o small }, tt))
+      good-header (g .recorder) (g .start) (g .default) (omega arith) (each-join GoodNamespace (h .others) (more ∷ []) (g .others) (record { uri = i .text; short = is-text xs o (p .faultless) small }, tt))
       (g .few-services) (g .services) (g .id-length) (g .id) in
       let said : (namespaced h (i .n) ++ uri (i .name) ∷ []) ++ shortName xs ∷ [] ≡ namespaced h₁ (i .n) = rw (each-snoc namespaceCalls (h .others) more) (simp append-assoc) in
       at-turn (λ u. Shape u (spot (now .at .book) u left (now .at .start) (now .at .rows)) (now .done ++ ledImage xs) (adds told (shortName xs))) left wants.Uri wants.ServiceCount
-      (λ _. on (shortName xs) wants.Uri left i h₁ (i .n) [] g₁ (tt, lit< tt) (omega arith, sum .1) said)
+      (λ _. on (shortName xs) wants.Uri left i h₁ (i .n) [] g₁ text-none (omega arith, sum .1) said)
       (λ none.
       let all : i .n ≡ length others = omega arith in
-      on (shortName xs) wants.ServiceCount left i h₁ 0 [] g₁ (tt, lit< tt) tt (said ∙ ap (namespaced h₁) all))
+      on (shortName xs) wants.ServiceCount left i h₁ 0 [] g₁ text-none tt (said ∙ ap (namespaced h₁) all))
 
   -- The count is that of the services to come: none are given yet.
   pub keep-services : (n : ℕ) → Keeps (serviceCount n)
@@ -145,14 +152,14 @@ module _ {buffer lent : List ℕ} {told : Account} (now : Stand buffer lent told
       let h₁ : Header = header (h .recorder) (h .start) (h .default) (h .others) [] (h .id) in
       let g₁ : GoodHeader h₁ = good-header (g .recorder) (g .start) (g .default) (g .few-others) (g .others) (omega arith) tt (g .id-length) (g .id) in
       at-turn (λ u. Shape u (spot (now .at .book) u n (now .at .start) (now .at .rows)) (now .done ++ word 4 n) (adds told (serviceCount n))) n wants.Service wants.DocumentId
-      (λ _. on (serviceCount n) wants.Service n i h₁ n [] g₁ (tt, lit< tt) (zero-add n, most) refl)
-      (λ none. on (serviceCount n) wants.DocumentId n i h₁ 0 [] g₁ (tt, lit< tt) tt (ap (served h₁) none))
+      (λ _. on (serviceCount n) wants.Service n i h₁ n [] g₁ text-none (zero-add n, most) refl)
+      (λ none. on (serviceCount n) wants.DocumentId n i h₁ 0 [] g₁ text-none tt (ap (served h₁) none))
 
   pub keep-service : (xs : List ℕ) → Each Octet xs → Keeps (service xs)
   unfolding does
   keep-service xs o p =
       let left : ℕ = now .at .count - 1 in
-      put-keeps now (adds told (service xs)) wants.Service (turnAt left wants.Service wants.DocumentId) fine (ledImage xs) left (now .at .start) p λ i one small.
+      put-keeps now (adds told (service xs)) wants.Service (turnAt left wants.Service wants.DocumentId) (breach Characters xs) (ledImage xs) left (now .at .start) p λ i one small.
       let h = i .h in
       let g = i .good in
       let sum = i .counts in
@@ -160,13 +167,13 @@ module _ {buffer lent : List ℕ} {told : Account} (now : Stand buffer lent told
       let long : length services ≡ length (h .services) + 1 = length-append (h .services) (xs ∷ []) in
       let h₁ : Header = header (h .recorder) (h .start) (h .default) (h .others) services (h .id) in
       let g₁ : GoodHeader h₁ =
-      good-header (g .recorder) (g .start) (g .default) (g .few-others) (g .others) (omega arith) (each-join GoodText (h .services) (xs ∷ []) (g .services) (is-text xs o small, tt)) (g .id-length) (g .id) in
+      good-header (g .recorder) (g .start) (g .default) (g .few-others) (g .others) (omega arith) (each-join GoodText (h .services) (xs ∷ []) (g .services) (is-text xs o (p .faultless) small, tt)) (g .id-length) (g .id) in
       let said : served h (i .n) ++ service xs ∷ [] ≡ served h₁ (i .n) = rw (each-snoc serviceCalls (h .services) xs) (simp append-assoc) in
       at-turn (λ u. Shape u (spot (now .at .book) u left (now .at .start) (now .at .rows)) (now .done ++ ledImage xs) (adds told (service xs))) left wants.Service wants.DocumentId
-      (λ _. on (service xs) wants.Service left i h₁ (i .n) [] g₁ (tt, lit< tt) (omega arith, sum .1) said)
+      (λ _. on (service xs) wants.Service left i h₁ (i .n) [] g₁ text-none (omega arith, sum .1) said)
       (λ none.
       let all : i .n ≡ length services = omega arith in
-      on (service xs) wants.DocumentId left i h₁ 0 [] g₁ (tt, lit< tt) tt (said ∙ ap (served h₁) all))
+      on (service xs) wants.DocumentId left i h₁ 0 [] g₁ text-none tt (said ∙ ap (served h₁) all))
 
   pub keep-id : (xs : List ℕ) → Each Octet xs → Keeps (documentId xs)
   unfolding does headerCalls images

@@ -15,6 +15,8 @@ use Rattle.octets.specs.Writing.{word, images, Each, Octet}
 use Rattle.octets.proofs.Spans.{each-join}
 use Rattle.octets.proofs.Inverse.{chosen, refused}
 use Rattle.texts.specs.Texts.{ledImage}
+use Rattle.texts.specs.declared.Rule.the-variants.{Characters}
+use Rattle.texts.proofs.Fields.{text-none}
 use Rattle.kinds.specs.declared.Kind.{Kind}
 use Rattle.kinds.specs.Kinds.{numberOf, basicOf, kindFor, kindOf}
 use Rattle.kinds.proofs.Table.{kind-for, code-of-basic}
@@ -30,7 +32,7 @@ use Rattle.elements.specs.Document.{itemImage}
 use Rattle.writer.specs.declared.Wanted.{Wanted}
 use Rattle.writer.specs.declared.Wanted.the-variants as wants
 use Rattle.writer.specs.declared.State.{State}
-use Rattle.writer.specs.Writer.{Call, openLayout, typeName, attributeCount, attributeName, attributeType, asks, Deed, put, attributes, does}
+use Rattle.writer.specs.Writer.{Call, openLayout, typeName, attributeCount, attributeName, attributeType, asks, Deed, put, attributes, does, breach}
 use Rattle.writing_parts.specs.declared.Fault.{Fault}
 use Rattle.writing_parts.specs.Faults.{fine, unless, refusedBy}
 use Rattle.writing_parts.specs.Answers.{learningOf, refusal}
@@ -137,8 +139,8 @@ module _ {buffer lent : List ℕ} {told : Account} (now : Stand buffer lent told
         l = record { number = n; type-name = []; attributes = [] };
         n = 0;
         name = [];
-        good = record { number = small; type-name = (tt, lit< tt); few = omega arith; attributes = tt };
-        text = (tt, lit< tt);
+        good = record { number = small; type-name = text-none; few = omega arith; attributes = tt };
+        text = text-none;
         counts = tt;
         said = refl;
       }
@@ -146,14 +148,14 @@ module _ {buffer lent : List ℕ} {told : Account} (now : Stand buffer lent told
   pub keep-name : (xs : List ℕ) → Each Octet xs → Keeps now (typeName xs)
   unfolding does
   keep-name xs o p =
-      put-keeps now (adds told (typeName xs)) wants.TypeName wants.AttributeCount fine (ledImage xs) 0 (now .at .start) p λ i _ small.
+      put-keeps now (adds told (typeName xs)) wants.TypeName wants.AttributeCount (breach Characters xs) (ledImage xs) 0 (now .at .start) p λ i _ small.
       record {
         opened = longer (typeName xs) wants.AttributeCount 0 (i .opened);
         l = record { number = i .l .number; type-name = xs; attributes = [] };
         n = 0;
         name = [];
-        good = record { number = i .good .number; type-name = is-text xs o small; few = omega arith; attributes = tt };
-        text = (tt, lit< tt);
+        good = record { number = i .good .number; type-name = is-text xs o (p .faultless) small; few = omega arith; attributes = tt };
+        text = text-none;
         counts = tt;
         said = one-more (typeName xs) (i .said);
       }
@@ -169,7 +171,7 @@ module _ {buffer lent : List ℕ} {told : Account} (now : Stand buffer lent told
         n = n;
         name = [];
         good = record { number = i .good .number; type-name = i .good .type-name; few = omega arith; attributes = tt };
-        text = (tt, lit< tt);
+        text = text-none;
         counts = (zero-add n, leb-true n mostAttributes (holds (leb n mostAttributes) 4 (p .faultless)));
         said = one-more (attributeCount n) (i .said);
       })
@@ -184,14 +186,14 @@ module _ {buffer lent : List ℕ} {told : Account} (now : Stand buffer lent told
   pub keep-attribute : (xs : List ℕ) → Each Octet xs → Keeps now (attributeName xs)
   unfolding does
   keep-attribute xs o p =
-      put-keeps now (adds told (attributeName xs)) wants.AttributeName wants.AttributeType fine (ledImage xs) (now .at .count) (now .at .start) p λ i _ small.
+      put-keeps now (adds told (attributeName xs)) wants.AttributeName wants.AttributeType (breach Characters xs) (ledImage xs) (now .at .count) (now .at .start) p λ i _ small.
       record {
         opened = longer (attributeName xs) wants.AttributeType (now .at .count) (i .opened);
         l = i .l;
         n = i .n;
         name = xs;
         good = i .good;
-        text = is-text xs o small;
+        text = is-text xs o (p .faultless) small;
         counts = i .counts;
         said = one-more (attributeName xs) (i .said);
       }
@@ -231,7 +233,7 @@ module _ {buffer lent : List ℕ} {told : Account} (now : Stand buffer lent told
         n = i .n;
         name = [];
         good = good;
-        text = (tt, lit< tt);
+        text = text-none;
         counts = (sum, i .counts .1);
         said = said;
       })

@@ -26,18 +26,18 @@ use Rattle.headers.specs.Header.{headerImage}
 use Rattle.elements.specs.Element.{row}
 use Rattle.elements.specs.Document.{Document, itemImage, image}
 use Rattle.writing_parts.specs.declared.Fault.{Fault}
-use Rattle.writing_parts.specs.Faults.{fine, unless}
-use Rattle.writing_parts.proofs.Faults.{holds}
+use Rattle.writing_parts.specs.Faults.{fine, unless, _or_}
+use Rattle.writing_parts.proofs.Faults.{holds, both-fine}
 use Rattle.writer.specs.declared.Wanted.{Wanted}
 use Rattle.writer.specs.declared.Wanted.the-variants as wants
-use Rattle.writer.specs.Writer.{Call, openRow, value, closeRow, giveUp, finish, isOpen, inBook, rowLayout, suits, isNext, does}
+use Rattle.writer.specs.Writer.{Call, openRow, value, closeRow, giveUp, finish, isOpen, inBook, rowLayout, suits, isNext, does, valueBreach}
 use Rattle.writer.proofs.Kept.{in-book}
 use Rattle.promises_writing.specs.Promise.{each, fieldCalls, itemCalls, headerCalls, callsOf, GivenValue, Account, adds, opens, tell}
 use Rattle.promises_writing.proofs.Standing.{Spot, spot, stateAt, standing, behind, row-layout, close-leaves, give-up-leaves}
 use Rattle.promises_writing.proofs.Writes.{image-parts}
 use Rattle.promises_writing.proofs.Put.{octetsOf, each-snoc, row-octets}
 use Rattle.promises_writing.proofs.Shapes.{Opened, InRow, Shape, Stand, rest, Inv, room-small, PassesHere, leftHere, here, put-keeps}
-use Rattle.promises_writing.proofs.KeepsHeader.{is-text, Keeps}
+use Rattle.promises_writing.proofs.KeepsHeader.{is-led, Keeps}
 use Rattle.promises_writing.proofs.Items.{next-item, same-between, opening, longer, one-more}
 
 -- A value that is taken is the next field's.
@@ -54,13 +54,13 @@ next-is (a ∷ others) b v e =
     let (t, u) = both-true (eqb (codeOf (a .kind .basic)) (codeOf b)) (suits (formBy b) v) e in
     record { a = a; others = others; is = refl; basic = code-once (a .kind .basic) b (eqb-true _ _ t); suited = u }
 
-suits-good : (f : Form) (v : Value) → suits f v ≡ true → GivenValue v → length (valueImage f v) ≤ longest → GoodValue f v
-suits-good (form.Fixed w) (bits n) e g h = ltb-true n (256 ^ w) e
-suits-good (form.Fixed w) (held xs) e g h = absurd (let z : _≡_ {A = ℕ} 0 1 = cc in omega arith)
-suits-good form.Truth (bits n) e g h = leb-true n 1 e
-suits-good form.Truth (held xs) e g h = absurd (let z : _≡_ {A = ℕ} 0 1 = cc in omega arith)
-suits-good form.Led (bits n) e g h = absurd (let z : _≡_ {A = ℕ} 0 1 = cc in omega arith)
-suits-good form.Led (held xs) e g h = is-text xs g h
+suits-good : (f : Form) (v : Value) → suits f v ≡ true → valueBreach f v ≡ fine → GivenValue v → length (valueImage f v) ≤ longest → GoodValue f v
+suits-good (form.Fixed w) (bits n) e q g h = ltb-true n (256 ^ w) e
+suits-good (form.Fixed w) (held xs) e q g h = absurd (let z : _≡_ {A = ℕ} 0 1 = cc in omega arith)
+suits-good form.Truth (bits n) e q g h = leb-true n 1 e
+suits-good form.Truth (held xs) e q g h = absurd (let z : _≡_ {A = ℕ} 0 1 = cc in omega arith)
+suits-good (form.Led rule) (bits n) e q g h = absurd (let z : _≡_ {A = ℕ} 0 1 = cc in omega arith)
+suits-good (form.Led rule) (held xs) e q g h = is-led rule xs g q h
 
 fields-snoc : (attributes : List Attribute) (fs : List Field) (a : Attribute) (f : Field) → FieldsOf attributes fs → f .attribute ≡ a
     → GoodValue (formOf (a .kind)) (f .value) → FieldsOf (attributes ++ a ∷ []) (fs ++ f ∷ [])
@@ -117,13 +117,13 @@ module _ {buffer lent : List ℕ} {told : Account} (now : Stand buffer lent told
 
   -- A value of the next field, behind those given.
   valued : (b : Basic) (v : Value) → GivenValue v → length (valueImage (formBy b) v) ≤ longest → (i : Shape wants.Value (now .at) (now .done) told)
-      → Next (drop (now .at .count) (i .l .attributes)) b v
+      → Next (drop (now .at .count) (i .l .attributes)) b v → valueBreach (formBy b) v ≡ fine
       → Shape wants.Value (spot (now .at .book) wants.Value (now .at .count + 1) (now .at .start) (now .at .rows)) (now .done ++ octetsOf (value b v)) (adds told (value b v))
-  valued b v g small i next =
+  valued b v g small i next obeys =
       let k : ℕ = now .at .count in
       let attributes : List Attribute = i .l .attributes in
       let f : Field = record { attribute = next .a; value = v } in
-      let good : GoodValue (formOf (next .a .kind)) v = rw (next .basic) (suits-good (formBy b) v (next .suited) g small) in
+      let good : GoodValue (formOf (next .a .kind)) v = rw (next .basic) (suits-good (formBy b) v (next .suited) obeys g small) in
       let taken : take (k + 1) attributes ≡ take k attributes ++ next .a ∷ [] = take-add k 1 attributes ∙ ap (λ (z : List Attribute). take k attributes ++ take 1 z) (next .is) in
       record {
         opened = longer (value b v) wants.Value (k + 1) (i .opened);
@@ -142,11 +142,12 @@ module _ {buffer lent : List ℕ} {told : Account} (now : Stand buffer lent told
   unfolding does
   keep-value b v g p =
       let fault : Fault =
-      inBook (rowLayout (stateAt (now .done) (now .at)) (now .done ++ rest now) (now .at .book)) λ l. unless (isNext (drop (now .at .count) (l .attributes)) b v) 21 in
+      inBook (rowLayout (stateAt (now .done) (now .at)) (now .done ++ rest now) (now .at .book)) λ l. unless (isNext (drop (now .at .count) (l .attributes)) b v) 21 or valueBreach (formBy b) v in
       let faultless : fault ≡ fine = p .faultless in
       put-keeps now (adds told (value b v)) wants.Value wants.Value fault (valueImage (formBy b) v) (now .at .count + 1) (now .at .start) p λ i _ small.
-      let next = next-is (drop (now .at .count) (i .l .attributes)) b v (holds (isNext (drop (now .at .count) (i .l .attributes)) b v) 21 (rw (row-here i) at faultless)) in
-      valued b v g small i next
+      let (right, obeys) = both-fine (unless (isNext (drop (now .at .count) (i .l .attributes)) b v) 21) (valueBreach (formBy b) v) (rw (row-here i) at faultless) in
+      let next = next-is (drop (now .at .count) (i .l .attributes)) b v (holds (isNext (drop (now .at .count) (i .l .attributes)) b v) 21 right) in
+      valued b v g small i next obeys
 
   pub keep-close : Keeps now closeRow
   unfolding does

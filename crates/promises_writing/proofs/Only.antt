@@ -12,7 +12,12 @@ use borrow.Author.Tests.{le-leb}
 use Rattle.octets.specs.Limits.{mostAttributes, mostListed}
 use Rattle.octets.specs.Reading.{Read, ok, no, choose, isOk, be}
 use Rattle.octets.proofs.Copies.{both-true}
+use Rattle.texts.specs.Texts as texts
+use Rattle.texts.specs.declared.Rule.{Rule}
+use Rattle.texts.specs.declared.Rule.the-variants.{Free, Characters}
 use Rattle.kinds.specs.declared.Basic.{Basic}
+use Rattle.kinds.specs.declared.Form.{Form}
+use Rattle.kinds.specs.declared.Form.the-variants as form
 use Rattle.kinds.specs.Kinds.{basicOf, kindOf}
 use Rattle.kinds.specs.Kinds as kinds
 use Rattle.layouts.specs.Layout.{Layout}
@@ -25,14 +30,15 @@ use Rattle.writing_parts.specs.declared.Fault.the-variants.{None, Refused}
 use Rattle.writing_parts.specs.Faults.{fine, unless, refusedBy, _or_}
 use Rattle.writing_parts.specs.Answers.{learningOf, refusal}
 use Rattle.writing_parts.proofs.Faults.{fine-not, same-number, both-fine, holds}
-use Rattle.kinds.specs.Forms.{Value}
+use Rattle.kinds.specs.Forms.{Value, bits, held}
 use Rattle.promises.specs.Refusals.{Only}
 use Rattle.promises.proofs.Numbers.{taken, given, In, only-choose}
 use Rattle.writer.specs.declared.Wanted.the-variants as wants
 use Rattle.writer.specs.declared.State.{State}
-use Rattle.writer.specs.Writer.{Call, namespaceCount, serviceCount, documentId, attributeCount, attributeType, openRow, value, closeRow, giveUp, Written, room, bounded, Deed, inBook, rowLayout, isNext, does, layoutSoFar, learns, faultOf, answerBy, deedAnswer, call}
+use Rattle.writer.specs.Writer.{Call, namespaceCount, serviceCount, documentId, attributeCount, attributeType, openRow, value, closeRow, giveUp, Written, room, bounded, Deed, inBook, rowLayout, isNext, breach, valueBreach, does, layoutSoFar, learns, faultOf, answerBy, deedAnswer, call}
 use Rattle.writer.proofs.Bounds.{Bounds, bounds, open-head}
 use Rattle.writer.proofs.Tests.{length-size}
+use Rattle.writer.proofs.Values.{number-free}
 
 -- A fault of no other number.
 record OnlyFault (ns : List ℕ) (f : Fault) : Type 0 where
@@ -67,6 +73,16 @@ module _ {ns : List ℕ} where
       go : (o : Option Basic) → Only ns (kinds.kindFor at t next o)
       go (some b) = taken _ next
       go none = given 8 at eight
+
+  breach-only : In ns 24 → (rule : Rule) (xs : List ℕ) → OnlyFault ns (breach rule xs)
+  breach-only h Free xs = fine-only
+  breach-only h Characters xs = unless-only (texts.holds Characters xs) 24 h
+
+  value-breach-only : In ns 24 → (f : Form) (v : Value) → OnlyFault ns (valueBreach f v)
+  value-breach-only h (form.Fixed w) v = fine-only
+  value-breach-only h form.Truth v = fine-only
+  value-breach-only h (form.Led rule) (bits n) = fine-only
+  value-breach-only h (form.Led rule) (held xs) = breach-only h rule xs
 
   answer-only : (f : Fault) (at : ℕ) (w : Written) → OnlyFault ns f → Only ns (answerBy f at w)
   answer-only None at w h = taken w (w .state .place)
@@ -128,6 +144,10 @@ module _ (s : State) (buffer lent : List ℕ) (used : ℕ) where
     plain-only full c own none-done = field-only full c (rw own fine-only) none-done
 
     module _ (full : In ns 23) where
+      -- A string, whose own fault is 24.
+      pub text-only : In ns 24 → (c : Call) (xs : List ℕ) → deed c .fault ≡ breach Characters xs → deed c .completes ≡ false → Only ns (call s buffer lent used c)
+      text-only bad c xs own none-done = field-only full c (rw own (breach-only bad Characters xs)) none-done
+
       pub namespaces-only : In ns 4 → (n : ℕ) → Only ns (call s buffer lent used (namespaceCount n))
       unfolding does
       namespaces-only four n = field-only full (namespaceCount n) (unless-only (leb n mostListed) 4 four) refl
@@ -153,11 +173,19 @@ module _ (s : State) (buffer lent : List ℕ) (used : ℕ) where
       open-row-only twelve n stated =
           field-only full (openRow n stated) (in-book-only twelve (find n (bookIn lent used)) _ λ _. fine-only) refl
 
-      pub value-only : In ns 12 → In ns 21 → (b : Basic) (v : Value) → Only ns (call s buffer lent used (value b v))
-      unfolding does
-      value-only twelve other b v =
-          field-only full (value b v)
-          (in-book-only twelve (rowLayout s buffer (bookIn lent used)) _ λ l. unless-only (isNext (drop (s .count) (l .attributes)) b v) 21 other) refl
+      module _ (twelve : In ns 12) (other : In ns 21) (b : Basic) where
+        given-only : (v : Value) → OnlyFault ns (valueBreach (kinds.formBy b) v) → Only ns (call s buffer lent used (value b v))
+        unfolding does
+        given-only v own =
+            field-only full (value b v)
+            (in-book-only twelve (rowLayout s buffer (bookIn lent used)) _ λ l.
+            or-only _ _ (unless-only (isNext (drop (s .count) (l .attributes)) b v) 21 other) λ _. own) refl
+
+        pub number-only : (n : ℕ) → Only ns (call s buffer lent used (value b (bits n)))
+        number-only n = given-only (bits n) (rw (← number-free (kinds.formBy b) n) fine-only)
+
+        pub value-only : In ns 24 → (v : Value) → Only ns (call s buffer lent used (value b v))
+        value-only bad v = given-only v (value-breach-only bad (kinds.formBy b) v)
 
     -- A call that puts its octets over some that stand: there is room.
     inside-only : (c : Call) → OnlyFault ns (deed c .fault) → deed c .completes ≡ false

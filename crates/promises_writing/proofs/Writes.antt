@@ -109,8 +109,8 @@ given-value (form.Fixed w) (bits n) g = tt
 given-value (form.Fixed w) (held xs) g = absurd g
 given-value form.Truth (bits n) g = tt
 given-value form.Truth (held xs) g = absurd g
-given-value form.Led (bits n) g = tt
-given-value form.Led (held xs) g = g .0
+given-value (form.Led rule) (bits n) g = tt
+given-value (form.Led rule) (held xs) g = g .0
 
 given-fields : (attributes : List Attribute) (fs : List Field) → FieldsOf attributes fs → Each Given (each fieldCalls fs)
 given-fields [] [] g = tt

@@ -8,17 +8,19 @@ use lib.ListN.{length, drop, length-append}
 use lib.Dec.{leb, eqb, eqb·suc-zero}
 use borrow.Author.Tests.{le-leb, eq-eqb}
 use Rattle.octets.specs.Limits.{mostRows, bookRoom}
-use Rattle.octets.specs.Writing.{word, images}
-use Rattle.texts.specs.Texts.{ledImage}
+use Rattle.octets.specs.Writing.{word, images, Each}
+use Rattle.texts.specs.Texts.{ledImage, GoodText}
+use Rattle.texts.specs.declared.Rule.the-variants.{Characters}
 use Rattle.layouts.specs.Book.{Book, bookImage, GoodBook}
-use Rattle.headers.specs.Header.{Namespace, Header, namespaceImage, headerImage, GoodHeader}
+use Rattle.headers.specs.Header.{Namespace, Header, namespaceImage, headerImage, GoodHeader, GoodNamespace}
 use Rattle.elements.proofs.Behind.{holding-of}
 use Rattle.writing_parts.specs.declared.Fault.{Fault}
 use Rattle.writing_parts.specs.Faults.{fine, unless}
 use Rattle.writer.specs.declared.Wanted.{Wanted}
 use Rattle.writer.specs.declared.Wanted.the-variants as wants
-use Rattle.writer.specs.Writer.{Call, recorder, startTime, defaultNamespace, namespaceCount, uri, shortName, serviceCount, service, documentId, Written, room, asks, orderOf, put, turnAt, does}
+use Rattle.writer.specs.Writer.{Call, recorder, startTime, defaultNamespace, namespaceCount, uri, shortName, serviceCount, service, documentId, Written, room, asks, orderOf, put, turnAt, does, breach}
 use Rattle.writer.proofs.Bounds.{Bounds}
+use Rattle.writer.proofs.Values.{unbroken}
 use Rattle.writer.proofs.Calls.{Passes, accepted}
 use Rattle.promises_writing.specs.Promise.{each, namespaceCalls, serviceCalls, headerCalls, onto}
 use Rattle.promises_writing.proofs.Calls.{Runs, runs-both, runs-none, runs-one}
@@ -91,30 +93,30 @@ module _ (buffer lent : List ℕ) (long : bookRoom ≤ length lent) where
       }
 
   module _ (b : Book) (good : GoodBook b) where
-    namespaces-put : (ns : List Namespace) (done : List ℕ) → length ns ≤ 16
+    namespaces-put : (ns : List Namespace) (done : List ℕ) → length ns ≤ 16 → Each GoodNamespace ns
         → Puts buffer lent (each namespaceCalls ns) (images namespaceImage ns) done (spot b (turnAt (length ns) wants.Uri wants.ServiceCount) (length ns) 0 0) (spot b wants.ServiceCount 0 0 0)
     unfolding images namespaceImage does
-    namespaces-put [] done h = puts-none
-    namespaces-put (n ∷ ns) done h =
+    namespaces-put [] done h g = puts-none
+    namespaces-put (n ∷ ns) done h g =
         let less : suc (length ns) - 1 ≡ length ns = omega arith in
         rw (eqb·suc-zero (length ns))
         (puts-both {a = namespaceCalls n}
         (puts-both {a = uri (n .uri) ∷ []} {b = shortName (n .short) ∷ []}
-        (put-one (uri (n .uri)) done (ledImage (n .uri)) (spot b wants.Uri (suc (length ns)) 0 0) wants.ShortName (suc (length ns)) 0 fine good refl refl (omega arith))
+        (put-one (uri (n .uri)) done (ledImage (n .uri)) (spot b wants.Uri (suc (length ns)) 0 0) wants.ShortName (suc (length ns)) 0 (breach Characters (n .uri)) good refl (unbroken Characters (n .uri) (g .0 .uri .2)) (omega arith))
         (put-one (shortName (n .short)) (done ++ ledImage (n .uri)) (ledImage (n .short)) (spot b wants.ShortName (suc (length ns)) 0 0)
-        (turnAt (length ns) wants.Uri wants.ServiceCount) (length ns) 0 fine good (rw less) refl (omega arith)))
-        (namespaces-put ns (done ++ (ledImage (n .uri) ++ ledImage (n .short))) (omega arith)))
+        (turnAt (length ns) wants.Uri wants.ServiceCount) (length ns) 0 (breach Characters (n .short)) good (rw less) (unbroken Characters (n .short) (g .0 .short .2)) (omega arith)))
+        (namespaces-put ns (done ++ (ledImage (n .uri) ++ ledImage (n .short))) (omega arith) (g .1)))
 
-    services-put : (ss : List (List ℕ)) (done : List ℕ) → length ss ≤ 16
+    services-put : (ss : List (List ℕ)) (done : List ℕ) → length ss ≤ 16 → Each GoodText ss
         → Puts buffer lent (each serviceCalls ss) (images ledImage ss) done (spot b (turnAt (length ss) wants.Service wants.DocumentId) (length ss) 0 0) (spot b wants.DocumentId 0 0 0)
     unfolding images does
-    services-put [] done h = puts-none
-    services-put (x ∷ ss) done h =
+    services-put [] done h g = puts-none
+    services-put (x ∷ ss) done h g =
         let less : suc (length ss) - 1 ≡ length ss = omega arith in
         rw (eqb·suc-zero (length ss))
         (puts-both {a = serviceCalls x}
-        (put-one (service x) done (ledImage x) (spot b wants.Service (suc (length ss)) 0 0) (turnAt (length ss) wants.Service wants.DocumentId) (length ss) 0 fine good (rw less) refl (omega arith))
-        (services-put ss (done ++ ledImage x) (omega arith)))
+        (put-one (service x) done (ledImage x) (spot b wants.Service (suc (length ss)) 0 0) (turnAt (length ss) wants.Service wants.DocumentId) (length ss) 0 (breach Characters x) good (rw less) (unbroken Characters x (g .0 .2)) (omega arith))
+        (services-put ss (done ++ ledImage x) (omega arith) (g .1)))
 
     pub header-put : (h : Header) → GoodHeader h → Puts buffer lent (headerCalls h) (headerImage h) [] (spot b wants.Recorder 0 0 0) (spot b wants.Element 0 0 0)
     unfolding headerImage headerCalls does
@@ -122,17 +124,17 @@ module _ (buffer lent : List ℕ) (long : bookRoom ≤ length lent) where
         puts-as (simp append-assoc)
         (puts-both {a = recorder (h .recorder) ∷ startTime (h .start) ∷ defaultNamespace (h .default) ∷ namespaceCount (length (h .others)) ∷ []}
         (puts-both {a = recorder (h .recorder) ∷ []}
-        (put-one (recorder (h .recorder)) [] (word 4 4 ++ ledImage (h .recorder)) (spot b wants.Recorder 0 0 0) wants.StartTime 0 0 fine good refl refl (omega arith))
+        (put-one (recorder (h .recorder)) [] (word 4 4 ++ ledImage (h .recorder)) (spot b wants.Recorder 0 0 0) wants.StartTime 0 0 (breach Characters (h .recorder)) good refl (unbroken Characters (h .recorder) (g .recorder .2)) (omega arith))
         (puts-both {a = startTime (h .start) ∷ []}
         (put-one (startTime (h .start)) _ (word 8 (h .start)) (spot b wants.StartTime 0 0 0) wants.DefaultNamespace 0 0 fine good refl refl (omega arith))
         (puts-both {a = defaultNamespace (h .default) ∷ []}
-        (put-one (defaultNamespace (h .default)) _ (ledImage (h .default)) (spot b wants.DefaultNamespace 0 0 0) wants.NamespaceCount 0 0 fine good refl refl (omega arith))
+        (put-one (defaultNamespace (h .default)) _ (ledImage (h .default)) (spot b wants.DefaultNamespace 0 0 0) wants.NamespaceCount 0 0 (breach Characters (h .default)) good refl (unbroken Characters (h .default) (g .default .2)) (omega arith))
         (put-one (namespaceCount (length (h .others))) _ (word 4 (length (h .others))) (spot b wants.NamespaceCount 0 0 0) (turnAt (length (h .others)) wants.Uri wants.ServiceCount) (length (h .others)) 0
         (unless (leb (length (h .others)) 16) 4) good refl (rw (le-leb (length (h .others)) 16 (g .few-others))) (omega arith)))))
-        (puts-both {a = each namespaceCalls (h .others)} (namespaces-put (h .others) _ (g .few-others))
+        (puts-both {a = each namespaceCalls (h .others)} (namespaces-put (h .others) _ (g .few-others) (g .others))
         (puts-both {a = serviceCount (length (h .services)) ∷ []}
         (put-one (serviceCount (length (h .services))) _ (word 4 (length (h .services))) (spot b wants.ServiceCount 0 0 0) (turnAt (length (h .services)) wants.Service wants.DocumentId) (length (h .services)) 0
         (unless (leb (length (h .services)) 16) 4) good refl (rw (le-leb (length (h .services)) 16 (g .few-services))) (omega arith))
-        (puts-both {a = each serviceCalls (h .services)} (services-put (h .services) _ (g .few-services))
+        (puts-both {a = each serviceCalls (h .services)} (services-put (h .services) _ (g .few-services) (g .services))
         (put-one (documentId (h .id)) _ (word 4 16 ++ h .id ++ word 4 0xffffffff) (spot b wants.DocumentId 0 0 0) wants.Element 0 0
         (unless (eqb (length (h .id)) 16) 5) good refl (rw (eq-eqb (length (h .id)) 16 (g .id-length))) (omega arith))))))

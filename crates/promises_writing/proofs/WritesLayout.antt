@@ -13,6 +13,7 @@ use Rattle.octets.specs.Reading.{ok}
 use Rattle.octets.specs.Writing.{word, images, Each}
 use Rattle.octets.proofs.Spans.{length-word}
 use Rattle.texts.specs.Texts.{ledImage}
+use Rattle.texts.specs.declared.Rule.the-variants.{Characters}
 use Rattle.kinds.specs.declared.Kind.{Kind}
 use Rattle.kinds.specs.Kinds.{numberOf, kindOf}
 use Rattle.kinds.proofs.Table.{code-known, kind-some}
@@ -26,7 +27,8 @@ use Rattle.writing_parts.specs.declared.Fault.{Fault}
 use Rattle.writing_parts.specs.Faults.{fine, unless, refusedBy}
 use Rattle.writer.specs.declared.Wanted.{Wanted}
 use Rattle.writer.specs.declared.Wanted.the-variants as wants
-use Rattle.writer.specs.Writer.{Call, openLayout, typeName, attributeCount, attributeName, attributeType, orderOf, attributes, does}
+use Rattle.writer.specs.Writer.{Call, openLayout, typeName, attributeCount, attributeName, attributeType, orderOf, attributes, does, breach}
+use Rattle.writer.proofs.Values.{unbroken}
 use Rattle.writer.proofs.Calls.{Passes, accepted}
 use Rattle.promises_writing.specs.Promise.{each, attributeCalls, itemCalls, onto}
 use Rattle.promises_writing.proofs.Calls.{runs-one}
@@ -83,7 +85,8 @@ module _ (buffer lent : List ℕ) (long : bookRoom ≤ length lent) (b : Book) (
       let fault : Fault = refusedBy (kindOf place t (place + 4)) in
       puts-as (sym (append-nil (ledImage (a .name) ++ word 4 t)))
       (puts-both {a = attributeName (a .name) ∷ []} {b = attributeType t ∷ []}
-      (put-one buffer lent long (attributeName (a .name)) done (ledImage (a .name)) (spot b wants.AttributeName 1 (length before) rows) wants.AttributeType 1 (length before) fine good refl refl (omega arith))
+      (put-one buffer lent long (attributeName (a .name)) done (ledImage (a .name)) (spot b wants.AttributeName 1 (length before) rows) wants.AttributeType 1 (length before)
+      (breach Characters (a .name)) good refl (unbroken Characters (a .name) (g .0 .name .2)) (omega arith))
       (complete-one (attributeType t) (done ++ ledImage (a .name)) (more ++ ledImage (a .name)) (word 4 t) wants.AttributeType 1 fault
       (behind (ledImage (a .name)) form ∙ append-assoc before more (ledImage (a .name))) (rw length-append (omega arith)) (simp append-assoc (simp (append-assoc, append-nil) at whole)) refl
       (kind-taken (a .kind) (g .0 .derived) place (place + 4)) (rw (length-append done (ledImage (a .name))) (omega arith))))
@@ -97,7 +100,7 @@ module _ (buffer lent : List ℕ) (long : bookRoom ≤ length lent) (b : Book) (
       puts-both {a = attributeCalls a}
       (puts-both {a = attributeName (a .name) ∷ []} {b = attributeType t ∷ []}
       (put-one buffer lent long (attributeName (a .name)) done (ledImage (a .name)) (spot b wants.AttributeName (suc (suc (length rest))) (length before) rows) wants.AttributeType (suc (suc (length rest))) (length before)
-      fine good refl refl (omega arith))
+      (breach Characters (a .name)) good refl (unbroken Characters (a .name) (g .0 .name .2)) (omega arith))
       (put-one buffer lent long (attributeType t) (done ++ ledImage (a .name)) (word 4 t) (spot b wants.AttributeType (suc (suc (length rest))) (length before) rows) wants.AttributeName (suc (length rest)) (length before)
       fault good (rw (less, eqb·suc-zero (length rest))) (kind-taken (a .kind) (g .0 .derived) place (place + 4)) (rw (length-append done (ledImage (a .name))) (omega arith))))
       (attributes-put rest a₂ (done ++ image) (more ++ image) (behind image form ∙ append-assoc before more image) (rw length-append (omega arith)) (omega arith) (g .1)
@@ -131,6 +134,7 @@ module _ (buffer lent : List ℕ) (long : bookRoom ≤ length lent) (b : Book) (
       (puts-both {a = openLayout (l .number) ∷ []}
       (put-one buffer lent long (openLayout (l .number)) before top (spot b wants.Element 0 0 rows) wants.TypeName 0 (length before) fine good refl refl (omega arith))
       (puts-both {a = typeName (l .type-name) ∷ []}
-      (put-one buffer lent long (typeName (l .type-name)) (before ++ top) name (spot b wants.TypeName 0 (length before) rows) wants.AttributeCount 0 (length before) fine good refl refl (rw (length-append before top) (omega arith)))
+      (put-one buffer lent long (typeName (l .type-name)) (before ++ top) name (spot b wants.TypeName 0 (length before) rows) wants.AttributeCount 0 (length before)
+      (breach Characters (l .type-name)) good refl (unbroken Characters (l .type-name) (inside .type-name .2)) (rw (length-append before top) (omega arith)))
       (counted-put (l .attributes) ((before ++ top) ++ name) (top ++ name) (append-assoc before top name) (rw (length-append top name) (omega arith)) (inside .few) (inside .attributes)
       (rw (layout-starts l) (simp append-assoc)))))

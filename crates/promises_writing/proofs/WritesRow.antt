@@ -25,10 +25,11 @@ use Rattle.elements.specs.Element.{row}
 use Rattle.elements.specs.Document.{itemImage}
 use Rattle.elements.proofs.Behind.{holding-of}
 use Rattle.writing_parts.specs.declared.Fault.{Fault}
-use Rattle.writing_parts.specs.Faults.{fine, unless}
+use Rattle.writing_parts.specs.Faults.{fine, unless, _or_}
 use Rattle.writer.specs.declared.Wanted.the-variants as wants
-use Rattle.writer.specs.Writer.{openRow, value, closeRow, room, inBook, rowLayout, suits, isNext, does}
+use Rattle.writer.specs.Writer.{openRow, value, closeRow, room, inBook, rowLayout, suits, valueBreach, isNext, does}
 use Rattle.writer.proofs.Tests.{length-size}
+use Rattle.writer.proofs.Values.{unbroken}
 use Rattle.writer.proofs.Calls.{Passes, accepted}
 use Rattle.promises_writing.specs.Promise.{each, fieldCalls, itemCalls, onto}
 use Rattle.promises_writing.proofs.Calls.{Runs, runs-both, runs-one}
@@ -40,13 +41,20 @@ good-suits (form.Fixed w) (bits n) g = lt-ltb n (256 ^ w) g
 good-suits (form.Fixed w) (held xs) g = absurd g
 good-suits form.Truth (bits n) g = le-leb n 1 g
 good-suits form.Truth (held xs) g = absurd g
-good-suits form.Led (bits n) g = absurd g
-good-suits form.Led (held xs) g = refl
+good-suits (form.Led rule) (bits n) g = absurd g
+good-suits (form.Led rule) (held xs) g = refl
 
--- A good value of the next field is that field's.
+good-unbroken : (f : Form) (v : Value) → GoodValue f v → valueBreach f v ≡ fine
+good-unbroken (form.Fixed w) v g = refl
+good-unbroken form.Truth v g = refl
+good-unbroken (form.Led rule) (bits n) g = refl
+good-unbroken (form.Led rule) (held xs) g = unbroken rule xs (g .2)
+
+-- A good value of the next field is that field's, and breaks no rule.
 good-next : (a : Attribute) (rest : List Attribute) (f : Field) → f .attribute ≡ a → GoodValue (formOf (a .kind)) (f .value)
-    → isNext (a ∷ rest) (f .attribute .kind .basic) (f .value) ≡ true
-good-next a rest f e g = rw (e, eq-eqb (codeOf (a .kind .basic)) (codeOf (a .kind .basic)) refl) (good-suits (formOf (a .kind)) (f .value) g)
+    → (isNext (a ∷ rest) (f .attribute .kind .basic) (f .value) ≡ true) × (valueBreach (formOf (f .attribute .kind)) (f .value) ≡ fine)
+good-next a rest f e g =
+    (rw (e, eq-eqb (codeOf (a .kind .basic)) (codeOf (a .kind .basic)) refl) (good-suits (formOf (a .kind)) (f .value) g), rw e (good-unbroken (formOf (a .kind)) (f .value) g))
 
 module _ (buffer lent : List ℕ) (long : bookRoom ≤ length lent) (b : Book) (good : GoodBook b) (rows : ℕ) (few : rows < mostRows)
     (before : List ℕ) (r : Row) (l : Layout) (small : r .number < 2 ^ 32) (found : find (r .number) b ≡ some l) where
@@ -75,9 +83,10 @@ module _ (buffer lent : List ℕ) (long : bookRoom ≤ length lent) (b : Book) (
       let xs : List ℕ = valueImage (formOf (x .attribute .kind)) (x .value) in
       let more : drop (k + 1) (l .attributes) ≡ rest = sym (drop-drop 1 k (l .attributes)) ∙ ap (drop 1) e in
       let last : k + suc (length rest) ≡ (k + 1) + length rest = omega arith in
-      let fault : Fault = inBook (rowLayout (stateAt done at) (onto buffer done) b) λ m. unless (isNext (drop k (m .attributes)) (x .attribute .kind .basic) (x .value)) 21 in
+      let fault : Fault = inBook (rowLayout (stateAt done at) (onto buffer done) b) λ m. unless (isNext (drop k (m .attributes)) (x .attribute .kind .basic) (x .value)) 21 or valueBreach (formOf (x .attribute .kind)) (x .value) in
+      let (next, unbroken-here) = good-next a rest x (g .0) (g .1) in
       let fine-next : fault ≡ fine =
-      rw (row-layout before (lengthImage (r .is-stated) 0 ++ got) (drop (length done) buffer) done at (r .number) l (top-opens got) refl small found, e, good-next a rest x (g .0) (g .1)) in
+      rw (row-layout before (lengthImage (r .is-stated) 0 ++ got) (drop (length done) buffer) done at (r .number) l (top-opens got) refl small found, e, next, unbroken-here) in
       rw last
       (puts-both {a = fieldCalls x}
       (put-one buffer lent long (value (x .attribute .kind .basic) (x .value)) done xs at wants.Value (k + 1) (length before) fault good refl fine-next (omega arith))

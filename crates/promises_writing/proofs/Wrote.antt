@@ -10,6 +10,7 @@ use lib.Seq.{drop-at, drop-append-seam, drop-append-add, drop-drop}
 use lib.Dec.{leb, lit<}
 use borrow.Author.Tests.{leb-true, leb-false}
 use Rattle.octets.specs.Limits.{bookRoom}
+use Rattle.texts.proofs.Fields.{text-none}
 use Rattle.octets.specs.Reading.{Read, ok, no}
 use Rattle.octets.specs.Writing.{word, images, Each}
 use Rattle.octets.proofs.Spans.{length-word, word-octets, each-front, each-drop}
@@ -174,9 +175,9 @@ module _ (buffer lent : List ℕ) (long : bookRoom ≤ length lent) where
                     name = [];
                     good =
                         record {
-                          recorder = (tt, lit< tt);
+                          recorder = text-none;
                           start = lit< tt;
-                          default = (tt, lit< tt);
+                          default = text-none;
                           few-others = omega arith;
                           others = tt;
                           few-services = omega arith;
@@ -184,7 +185,7 @@ module _ (buffer lent : List ℕ) (long : bookRoom ≤ length lent) where
                           id-length = length-word 16 0;
                           id = word-octets 16 0;
                         };
-                    text = (tt, lit< tt);
+                    text = text-none;
                     counts = tt;
                     said = refl;
                     is = refl;

@@ -39,6 +39,10 @@ Refuses {A} f ns = Gives (λ (i : Made A). call (i .state) (i .buffer) (i .book)
 abbrev pub fieldNumbers : List ℕ
 fieldNumbers = 17 ∷ 20 ∷ 23 ∷ []
 
+-- A string: 24 too.
+abbrev pub textNumbers : List ℕ
+textNumbers = 17 ∷ 20 ∷ 24 ∷ 23 ∷ []
+
 abbrev pub countNumbers : List ℕ
 countNumbers = 17 ∷ 20 ∷ 4 ∷ 23 ∷ []
 
@@ -55,8 +59,12 @@ typeNumbers = 17 ∷ 20 ∷ 9 ∷ 8 ∷ 10 ∷ 11 ∷ 23 ∷ []
 abbrev pub rowNumbers : List ℕ
 rowNumbers = 17 ∷ 20 ∷ 12 ∷ 23 ∷ []
 
-abbrev pub valueNumbers : List ℕ
-valueNumbers = 17 ∷ 20 ∷ 12 ∷ 21 ∷ 23 ∷ []
+-- A value that is a number, and one that may be a string.
+abbrev pub numberNumbers : List ℕ
+numberNumbers = 17 ∷ 20 ∷ 12 ∷ 21 ∷ 23 ∷ []
+
+abbrev pub octetsNumbers : List ℕ
+octetsNumbers = 17 ∷ 20 ∷ 12 ∷ 21 ∷ 24 ∷ 23 ∷ []
 
 -- Closing puts its octets over some that stand, and so does giving up: room is there.
 abbrev pub closeNumbers : List ℕ
@@ -67,24 +75,24 @@ giveUpNumbers = 17 ∷ 20 ∷ []
 
 -- What is promised of the numbers.
 pub record Numbers : Type 0 where
-  pub recorder : Refuses writer.recorder fieldNumbers
+  pub recorder : Refuses writer.recorder textNumbers
   pub startTime : Refuses writer.startTime fieldNumbers
-  pub defaultNamespace : Refuses writer.defaultNamespace fieldNumbers
+  pub defaultNamespace : Refuses writer.defaultNamespace textNumbers
   pub namespaceCount : Refuses writer.namespaceCount countNumbers
-  pub uri : Refuses writer.uri fieldNumbers
-  pub shortName : Refuses writer.shortName fieldNumbers
+  pub uri : Refuses writer.uri textNumbers
+  pub shortName : Refuses writer.shortName textNumbers
   pub serviceCount : Refuses writer.serviceCount countNumbers
-  pub service : Refuses writer.service fieldNumbers
+  pub service : Refuses writer.service textNumbers
   pub documentId : Refuses writer.documentId idNumbers
   pub openLayout : Refuses writer.openLayout fieldNumbers
-  pub typeName : Refuses writer.typeName fieldNumbers
+  pub typeName : Refuses writer.typeName textNumbers
   pub attributeCount : Refuses writer.attributeCount attributesNumbers
-  pub attributeName : Refuses writer.attributeName fieldNumbers
+  pub attributeName : Refuses writer.attributeName textNumbers
   pub attributeType : Refuses writer.attributeType typeNumbers
   pub openRow : Refuses (λ (a : Opening). writer.openRow (a .number) (a .is-stated)) rowNumbers
-  pub valueNumber : Refuses (λ (a : Typed ℕ). writer.value (a .basic) (bits (a .given))) valueNumbers
-  pub valueOctets : Refuses (λ (a : Typed (List ℕ)). writer.value (a .basic) (held (a .given))) valueNumbers
-  pub value : Refuses (λ (a : Handed). writer.valueCall (a .value) (a .octets)) valueNumbers
+  pub valueNumber : Refuses (λ (a : Typed ℕ). writer.value (a .basic) (bits (a .given))) numberNumbers
+  pub valueOctets : Refuses (λ (a : Typed (List ℕ)). writer.value (a .basic) (held (a .given))) octetsNumbers
+  pub value : Refuses (λ (a : Handed). writer.valueCall (a .value) (a .octets)) octetsNumbers
   pub closeRow : Refuses (λ (a : Unit {0}). writer.closeRow) closeNumbers
   pub giveUp : Refuses (λ (a : Unit {0}). writer.giveUp) giveUpNumbers
   pub finish : Refuses writer.finish fieldNumbers

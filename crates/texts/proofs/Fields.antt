@@ -1,11 +1,11 @@
 -- Octets behind a length: their reading and their image are inverse, once over rule and room; a string's are the two laws in the words of lists.
 use Prim.Native.Nat.{ℕ, _+_, _-_, _≤_}
-use mathlib.Core.Path.{_≡_}
-use mathlib.Core.List.{List, _++_}
+use mathlib.Core.Path.{_≡_, refl}
+use mathlib.Core.List.{List, [], _++_}
 use native.Mathlib.Omega.{arith}
 use native.Mathlib.Nat.{le-refl}
 use lib.ListN.{length}
-use lib.Dec.{leb}
+use lib.Dec.{leb, lit<}
 use borrow.Author.Tests.{leb-true, le-leb}
 use Rattle.octets.specs.Reading.{ok, part, reach, numberIn}
 use Rattle.octets.specs.declared.Room.{Room}
@@ -14,6 +14,7 @@ use Rattle.octets.specs.Writing.{word, Each, Octet}
 use Rattle.octets.proofs.Spans.{join, middle, word-octets, part-spans, part-is, spans-octets, each-append}
 use Rattle.octets.proofs.Inverse.{Inverse, Answer, Any, after, settle, chosen, reads-back, reads-forth}
 use Rattle.octets.proofs.Fields.{roomy, number-inverse}
+use Rattle.utf8.specs.Utf8.{awaiting, utf8}
 use Rattle.texts.specs.Texts.{holds, fault, ledIn, text, ledImage, GoodLed, GoodText}
 use Rattle.texts.specs.declared.Rule.{Rule}
 use Rattle.texts.specs.declared.Rule.the-variants.{Characters}
@@ -50,3 +51,8 @@ text-back pre post xs g = reads-back text-whole xs pre post g
 pub text-forth : (s : List ℕ) → Each Octet s → (at next : ℕ) → at ≤ length s → (xs : List ℕ) → text s at ≡ ok xs next
     → GoodText xs × (at ≤ next) × (next ≤ length s) × (part s at (next - at) ≡ ledImage xs)
 text-forth s o at next inside xs e = reads-forth text-whole s xs at next o inside e
+
+-- No octets are a string.
+pub text-none : GoodText []
+unfolding utf8 awaiting
+text-none = (tt, lit< tt, refl)

@@ -1,5 +1,5 @@
 -- Values and the closing of a row: their own faults by what the book was asked, and how wide a number is. Assumes nothing.
-use mathlib.Core.Path.{_≡_, refl}
+use mathlib.Core.Path.{_≡_, refl, ap}
 use mathlib.Core.List.{List, [], _∷_}
 use mathlib.Core.Bool.{Bool, true, false, _&&_}
 use mathlib.Core.Option.{Option, some, none}
@@ -9,6 +9,8 @@ use lib.ListN.{length, drop, length-drop}
 use lib.Dec.{leb, eqb}
 use borrow.Author.Tests.{le-leb, lt-leb}
 use Rattle.octets.specs.Writing.{word}
+use Rattle.texts.specs.Texts as texts
+use Rattle.texts.specs.declared.Rule.{Rule}
 use Rattle.kinds.specs.declared.Basic.{Basic}
 use Rattle.kinds.specs.declared.Basic.the-variants as basic
 use Rattle.kinds.specs.declared.Form.{Form}
@@ -18,10 +20,11 @@ use Rattle.layouts.specs.Layout.{Attribute, Layout}
 use Rattle.kinds.specs.Forms.{Value, bits, valueImage}
 use Rattle.writing_parts.specs.declared.Fault.the-variants.{Refused}
 use Rattle.writing_parts.specs.Faults.{fine, unless, _or_}
+use Rattle.writing_parts.proofs.Faults.{holds}
 use Rattle.writing_parts.specs.Answers.{firstOf, nextOf}
 use Rattle.writing_parts.specs.declared.Next.{Next}
 use Rattle.writing_parts.specs.declared.Next.the-variants as next
-use Rattle.writer.specs.Writer.{inBook, suits, valueBreach, isNext}
+use Rattle.writer.specs.Writer.{inBook, suits, breach, valueBreach, isNext}
 use Rattle.writer.specs.Own.{widthOf, valueFault, closeFault}
 
 -- A value's own fault, by the next field.
@@ -52,6 +55,14 @@ close-own (some l) n = go (drop n (l .attributes)) (length-drop n (l .attributes
     go : (xs : List Attribute) → length xs ≡ length (l .attributes) - n → closeFault (firstOf xs) ≡ unless (leb (length (l .attributes)) n) 22
     go [] e = rw (le-leb (length (l .attributes)) n (omega arith)) refl
     go (a ∷ rest) e = rw (lt-leb (length (l .attributes)) n (omega arith)) refl
+
+-- Octets that are what their rule asks have no fault, and those without it are.
+module _ (rule : Rule) (xs : List ℕ) where
+  pub unbroken : texts.holds rule xs ≡ true → breach rule xs ≡ fine
+  unbroken e = ap (λ (t : Bool). unless t (texts.fault rule)) e
+
+  pub obeyed : breach rule xs ≡ fine → texts.holds rule xs ≡ true
+  obeyed e = holds (texts.holds rule xs) (texts.fault rule) e
 
 -- A number breaks no rule.
 pub number-free : (f : Form) (n : ℕ) → fine ≡ valueBreach f (bits n)
