@@ -2,7 +2,7 @@
 //! with calls that are wrong, and states that no call ever answered.
 
 use super::by_hand::{into_a_full_book, opened_by_hand};
-use super::call::{any_call, changed, noisy};
+use super::call::{any_call, changed, noisy, spoiled};
 use super::desk::{fresh, Desk};
 use super::document::{document, small};
 use super::random::Random;
@@ -60,11 +60,27 @@ pub fn every_smaller_room(calls: &[Command], size: usize) -> Vec<Command> {
     (0..size).flat_map(|room| in_room(calls, room)).collect()
 }
 
-/// A few calls too many, left out, repeated, swapped, given up or changed.
+/// Before some call with a string the same with a bad one; often a value.
+fn give_badly_first(random: &mut Random, calls: &mut Vec<Command>) {
+    let values_only = random.one_in(2);
+    let mut bad: Vec<(usize, Command)> = Vec::new();
+    for (index, call) in calls.iter().enumerate() {
+        if !values_only || call.letter == b'v' {
+            bad.extend(spoiled(random, call).map(|call| (index, call)));
+        }
+    }
+    if !bad.is_empty() {
+        let (index, call) = random.pick(&bad);
+        calls.insert(index, call);
+    }
+}
+
+/// A few calls too many, left out, repeated, swapped, given up or changed, and
+/// strings that are bad before they are given well.
 fn edit(random: &mut Random, calls: &mut Vec<Command>) {
     for _ in 0..random.between(1, 4) {
         let index = random.below(calls.len());
-        match random.below(8) {
+        match random.below(11) {
             0 => calls.insert(index, any_call(random)),
             1 => {
                 calls.remove(index);
@@ -73,6 +89,7 @@ fn edit(random: &mut Random, calls: &mut Vec<Command>) {
             3 => calls.swap(index, random.below(index + 1)),
             4 => calls.insert(index, Command::new(b'z')),
             5 => calls.insert(index, Command::new(b'x')),
+            6..=8 => give_badly_first(random, calls),
             _ => calls[index] = changed(random, &calls[index]),
         }
     }
