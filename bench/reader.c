@@ -41,11 +41,12 @@ enum refusal {
     ROW_LENGTH = 13,
     BAD_BOOLEAN = 14,
     END_COUNT = 15,
-    AFTER_END = 16
+    AFTER_END = 16,
+    NOT_UTF8 = 24
 };
 
 /* How a value stands in a row. A number's form is its width. */
-enum form { FORM_OCTETS = 0, FORM_1 = 1, FORM_2 = 2, FORM_4 = 4, FORM_8 = 8, FORM_BOOLEAN = 9 };
+enum form { FORM_OCTETS = 0, FORM_1 = 1, FORM_2 = 2, FORM_4 = 4, FORM_8 = 8, FORM_BOOLEAN = 9, FORM_STRING = 10 };
 
 /*
  * The place of reading, at most `end`. What reads moves the place behind what
@@ -114,7 +115,7 @@ static bool read_number(struct cursor *in, uint32_t *number)
 }
 
 /* Passes a length and its octets; a length that reaches too far is refused where it stands. */
-static bool pass_string(struct cursor *in)
+static bool pass_octets(struct cursor *in)
 {
     uint32_t start = in->at;
     uint32_t length;
@@ -124,6 +125,54 @@ static bool pass_string(struct cursor *in)
         return refuse(in, CUT_SHORT, start);
     in->at += length;
     return true;
+}
+
+static bool is_tail(uint8_t octet)
+{
+    return (octet & 0xc0) == 0x80;
+}
+
+/* How many of the octets left, at least one, the character at p takes; 0 where none is well-formed there. */
+static uint32_t character(const uint8_t *p, uint32_t left)
+{
+    if (p[0] < 0x80)
+        return 1;
+    if (p[0] < 0xc2) /* a tail, or what one octet would do for */
+        return 0;
+    if (p[0] < 0xe0)
+        return left >= 2 && is_tail(p[1]) ? 2 : 0;
+    if (p[0] < 0xf0) {
+        uint8_t low = p[0] == 0xe0 ? 0xa0 : 0x80;  /* below it two octets would do */
+        uint8_t high = p[0] == 0xed ? 0x9f : 0xbf; /* above it stand the surrogates */
+        return left >= 3 && low <= p[1] && p[1] <= high && is_tail(p[2]) ? 3 : 0;
+    }
+    if (p[0] < 0xf5) {
+        uint8_t low = p[0] == 0xf0 ? 0x90 : 0x80;  /* below it three octets would do */
+        uint8_t high = p[0] == 0xf4 ? 0x8f : 0xbf; /* above it there is no character */
+        return left >= 4 && low <= p[1] && p[1] <= high && is_tail(p[2]) && is_tail(p[3]) ? 4 : 0;
+    }
+    return 0;
+}
+
+/* Whether octets are UTF-8 as RFC 3629 has it, looked at character by character. */
+static bool is_utf8(const uint8_t *octets, uint32_t size)
+{
+    for (uint32_t at = 0; at < size;) {
+        uint32_t taken = character(octets + at, size - at);
+        if (taken == 0)
+            return false;
+        at += taken;
+    }
+    return true;
+}
+
+/* Passes a length and octets that must be UTF-8; if they are all there and are not, the length is refused. */
+static bool pass_string(struct cursor *in)
+{
+    uint32_t start = in->at;
+    if (!pass_octets(in))
+        return false;
+    return is_utf8(in->octets + start + 4, in->at - start - 4) || refuse(in, NOT_UTF8, start);
 }
 
 /* Passes a number that must have a value. */
@@ -193,8 +242,10 @@ static bool form_of(uint8_t basic, uint8_t *form)
         *form = FORM_8;
         return true;
     case 0x27: /* hexBinary */
-    case 0x28: /* string */
         *form = FORM_OCTETS;
+        return true;
+    case 0x28: /* string */
+        *form = FORM_STRING;
         return true;
     case 0x29: /* boolean */
         *form = FORM_BOOLEAN;
@@ -289,6 +340,8 @@ static bool pass_value(struct cursor *in, uint8_t form)
 {
     switch (form) {
     case FORM_OCTETS:
+        return pass_octets(in);
+    case FORM_STRING:
         return pass_string(in);
     case FORM_BOOLEAN:
         return pass_boolean(in);
