@@ -31,7 +31,10 @@ pub fn commands(random: &mut Random) -> Vec<Command> {
     match random.below(60) {
         0 if size < 160 && random.one_in(2) => every_smaller_room(&calls, size),
         1..=12 => written(&calls, size + random.pick(&[0, 0, 1, 100])),
-        13..=20 => in_room(&calls, random.below(size)),
+        13..=20 => {
+            let room = random.below(size);
+            in_room(random, &calls, room)
+        }
         21..=38 => {
             edit(random, &mut calls);
             let less = random.pick(&[0, 0, size / 2]);
@@ -47,17 +50,20 @@ fn written(calls: &[Command], size: usize) -> Vec<Command> {
     [&[fresh(size)], calls, &[Command::new(b'i')]].concat()
 }
 
-/// Calls up to the first that is refused in this room, and a giving up.
-fn in_room(calls: &[Command], size: usize) -> Vec<Command> {
+/// Calls up to the first that is refused in this room, that one with a bad
+/// string where it has one, and a giving up.
+fn in_room(random: &mut Random, calls: &[Command], size: usize) -> Vec<Command> {
     let mut desk = Desk::new(size);
     let accepted = calls.iter().take_while(|call| desk.accepts(call)).count();
     let given = calls.len().min(accepted + 1);
+    let bad = calls[..given].last().and_then(|call| spoiled(random, call));
     let last = [b'i', b'z', b'i'].map(Command::new);
-    [&[fresh(size)], &calls[..given], &last].concat()
+    let given = [fresh(size)].into_iter().chain(calls[..given].iter().cloned());
+    given.chain(bad).chain(last).collect()
 }
 
 pub fn every_smaller_room(calls: &[Command], size: usize) -> Vec<Command> {
-    (0..size).flat_map(|room| in_room(calls, room)).collect()
+    (0..size).flat_map(|room| in_room(&mut Random::of(0, room as u64), calls, room)).collect()
 }
 
 /// Before some call with a string the same with a bad one; often a value.
