@@ -45,8 +45,8 @@ enum refusal {
     NOT_UTF8 = 24
 };
 
-/* How a value stands in a row. A number's form is its width. */
-enum form { FORM_OCTETS = 0, FORM_1 = 1, FORM_2 = 2, FORM_4 = 4, FORM_8 = 8, FORM_BOOLEAN = 9, FORM_STRING = 10 };
+/* How a value stands in a row. A number's form is its width, and no other form is as small. */
+enum form { FORM_1 = 1, FORM_2 = 2, FORM_4 = 4, FORM_8 = 8, FORM_BOOLEAN, FORM_OCTETS, FORM_STRING };
 
 /*
  * The place of reading, at most `end`. What reads moves the place behind what
@@ -114,8 +114,49 @@ static bool read_number(struct cursor *in, uint32_t *number)
     return true;
 }
 
-/* Passes a length and its octets; a length that reaches too far is refused where it stands. */
-static bool pass_octets(struct cursor *in)
+static bool is_tail(uint8_t octet)
+{
+    return (octet & 0xc0) == 0x80;
+}
+
+/* Whether octets are UTF-8 as RFC 3629 has it, looked at character by character. */
+static bool is_utf8(const uint8_t *p, size_t size)
+{
+    const uint8_t *end = p + size;
+    while (p < end) {
+        uint8_t first = *p++;
+        if (first < 0x80)
+            continue;
+        size_t left = (size_t)(end - p);
+        if (first < 0xc2) /* a tail, or a longer form of ASCII */
+            return false;
+        if (first < 0xe0) {
+            if (left < 1 || !is_tail(p[0]))
+                return false;
+            p += 1;
+        } else if (first < 0xf0) {
+            if (left < 2 || !is_tail(p[0]) || !is_tail(p[1]))
+                return false;
+            if ((first == 0xe0 && p[0] < 0xa0) || (first == 0xed && p[0] > 0x9f)) /* a longer form, a surrogate */
+                return false;
+            p += 2;
+        } else {
+            if (first > 0xf4 || left < 3 || !is_tail(p[0]) || !is_tail(p[1]) || !is_tail(p[2]))
+                return false;
+            if ((first == 0xf0 && p[0] < 0x90) || (first == 0xf4 && p[0] > 0x8f)) /* a longer form, past the last */
+                return false;
+            p += 3;
+        }
+    }
+    return true;
+}
+
+/*
+ * Passes a length and its octets, which must be UTF-8 if they are a string.
+ * A length that reaches too far, or whose octets are not UTF-8, is refused
+ * where it stands.
+ */
+static bool pass_led(struct cursor *in, bool is_string)
 {
     uint32_t start = in->at;
     uint32_t length;
@@ -123,56 +164,15 @@ static bool pass_octets(struct cursor *in)
         return false;
     if (length > left(in))
         return refuse(in, CUT_SHORT, start);
+    if (is_string && !is_utf8(in->octets + in->at, length))
+        return refuse(in, NOT_UTF8, start);
     in->at += length;
     return true;
 }
 
-static bool is_tail(uint8_t octet)
-{
-    return (octet & 0xc0) == 0x80;
-}
-
-/* How many of the octets left, at least one, the character at p takes; 0 where none is well-formed there. */
-static uint32_t character(const uint8_t *p, uint32_t left)
-{
-    if (p[0] < 0x80)
-        return 1;
-    if (p[0] < 0xc2) /* a tail, or what one octet would do for */
-        return 0;
-    if (p[0] < 0xe0)
-        return left >= 2 && is_tail(p[1]) ? 2 : 0;
-    if (p[0] < 0xf0) {
-        uint8_t low = p[0] == 0xe0 ? 0xa0 : 0x80;  /* below it two octets would do */
-        uint8_t high = p[0] == 0xed ? 0x9f : 0xbf; /* above it stand the surrogates */
-        return left >= 3 && low <= p[1] && p[1] <= high && is_tail(p[2]) ? 3 : 0;
-    }
-    if (p[0] < 0xf5) {
-        uint8_t low = p[0] == 0xf0 ? 0x90 : 0x80;  /* below it three octets would do */
-        uint8_t high = p[0] == 0xf4 ? 0x8f : 0xbf; /* above it there is no character */
-        return left >= 4 && low <= p[1] && p[1] <= high && is_tail(p[2]) && is_tail(p[3]) ? 4 : 0;
-    }
-    return 0;
-}
-
-/* Whether octets are UTF-8 as RFC 3629 has it, looked at character by character. */
-static bool is_utf8(const uint8_t *octets, uint32_t size)
-{
-    for (uint32_t at = 0; at < size;) {
-        uint32_t taken = character(octets + at, size - at);
-        if (taken == 0)
-            return false;
-        at += taken;
-    }
-    return true;
-}
-
-/* Passes a length and octets that must be UTF-8; if they are all there and are not, the length is refused. */
 static bool pass_string(struct cursor *in)
 {
-    uint32_t start = in->at;
-    if (!pass_octets(in))
-        return false;
-    return is_utf8(in->octets + start + 4, in->at - start - 4) || refuse(in, NOT_UTF8, start);
+    return pass_led(in, true);
 }
 
 /* Passes a number that must have a value. */
@@ -338,16 +338,11 @@ static bool pass_boolean(struct cursor *in)
 
 static bool pass_value(struct cursor *in, uint8_t form)
 {
-    switch (form) {
-    case FORM_OCTETS:
-        return pass_octets(in);
-    case FORM_STRING:
-        return pass_string(in);
-    case FORM_BOOLEAN:
-        return pass_boolean(in);
-    default:
+    if (form <= FORM_8)
         return pass(in, form);
-    }
+    if (form == FORM_BOOLEAN)
+        return pass_boolean(in);
+    return pass_led(in, form == FORM_STRING);
 }
 
 static bool pass_values(struct cursor *in, const struct layout *layout)
