@@ -10,7 +10,7 @@ import sys
 import damage
 import programs
 
-TABLED = range(1, 17)  # the refusals that a whole check can give
+TABLED = [*range(1, 17), 24]  # the refusals that a whole check can give
 
 
 def second():

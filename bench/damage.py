@@ -1,6 +1,8 @@
 """Documents to compare readers on: the measured ones, border cases, and damaged ones, all made from a seed."""
-from documents import (ALL_TYPES, BOOLEAN, END_SIZE, KIND_LAYOUT, MOST_ATTRIBUTES, MOST_DOCUMENT, MOST_LAYOUTS, MOST_LISTED,
-                       NAMED, SHAPES, STRING, Image, Layout, Random, document, many, measured, put_end, put_header, put_layout, texts)
+import characters
+from documents import (ALL_TYPES, BOOLEAN, END_SIZE, HEX_BINARY, KIND_LAYOUT, KIND_ROW, MOST_ATTRIBUTES, MOST_DOCUMENT,
+                       MOST_LAYOUTS, MOST_LISTED, NAMED, SHAPES, STRING, UNSTATED, Image, Layout, Random, document, many,
+                       measured, put_end, put_header, put_layout, texts)
 
 RECORDER = 4  # the place of the recorder's length
 
@@ -23,7 +25,7 @@ def crowded(size, strings, seed=7):
 
 def bases():
     """What is damaged: short documents, so that damage meets headers and layouts as often as rows."""
-    small = {"short": 600, "wide": 1500, "strings": 1200}
+    small = {"short": 600, "wide": 1500, "strings": 1200, "letters": 1200}
     images = {shape: SHAPES[shape](size) for shape, size in small.items()}
     return {**images, "mixed": mixed(900), "many": many(36_000), "texts": texts(60_000), "crowded": crowded(20_000, 43)}
 
@@ -93,6 +95,37 @@ def set_boolean(octets, image, random):
     return octets[:place] + bytes([random.pick([2, 3, 0x7F, 0x80, 0xFF])]) + octets[place + 1:]
 
 
+def spoilt(octets, image, random):
+    """A fault over some octets of a string, and the place of its length."""
+    place = random.pick([place for place in image.texts if number_at(octets, place)])
+    size = number_at(octets, place)
+    fault = random.pick([fault for fault in characters.FAULTS if len(fault) <= size])
+    start = place + 4 + random.pick([0, size - len(fault), random.below(size - len(fault) + 1)])
+    return octets[:start] + fault + octets[start + len(fault):], place
+
+
+def spoil(octets, image, random):
+    return spoilt(octets, image, random)[0]
+
+
+def spoil_and_cut(octets, image, random):
+    """A bad string that is just whole, or lacks an octet or two."""
+    octets, place = spoilt(octets, image, random)
+    return octets[:place + 4 + number_at(octets, place) - random.below(3)]
+
+
+def spoil_and_length(octets, image, random):
+    """A bad string whose length is wrong too."""
+    octets, place = spoilt(octets, image, random)
+    behind = len(octets) - place - 4
+    return with_number(octets, place, random.pick(border_numbers(number_at(octets, place), behind)))
+
+
+def spoil_and_more(octets, image, random):
+    """A bad string, and a fault somewhere before or behind it."""
+    return random.pick([set_border, set_boolean, change_one, spoil])(spoil(octets, image, random), image, random)
+
+
 def borders(image):
     """Where each element starts, with its kind and its end."""
     ends = [place for place, _ in image.elements[1:]] + [len(image.octets)]
@@ -120,13 +153,21 @@ def repeat_renumbered(octets, image, random):
     return repeat_layout(octets, image, random, lambda layout, random: with_number(layout, 4, random.below(2**32)))
 
 
+def repeat_badly_named(octets, image, random):
+    def change(layout, random):
+        name = random.pick(characters.FAULTS)
+        return with_number(layout, 8, len(name))[:12] + name + layout[12 + number_at(layout, 8):]
+    return repeat_layout(octets, image, random, change)
+
+
 def repeat_element(octets, image, random):
     start, end, _ = random.pick(borders(image))
     return octets[:end] + octets[start:end] + octets[end:]
 
 
 DAMAGES = [change_one, change_some, cut, cut_at_field, grow, insert, remove, set_border, set_border, set_border,
-           set_boolean, repeat_layout, repeat_changed, repeat_renumbered, repeat_element]
+           set_boolean, set_boolean, repeat_layout, repeat_changed, repeat_renumbered, repeat_element, spoil, spoil,
+           spoil_and_cut, spoil_and_length, spoil_and_more, repeat_badly_named]
 
 
 def damaged(count, seed):
@@ -191,6 +232,74 @@ def book_over():
     return with_number(octets, place, 1)[:place + 4] + b"A" + octets[place + 4:]
 
 
+SLOTS = ["recorder", "default namespace", "URI", "short name", "service", "type name", "attribute name", "value", "value of a derived type"]
+
+
+def spelt(slot, octets, stated=False, truth=1):
+    """A document in which one of the strings is these octets; the id and a hexBinary are none that a string could be."""
+    text = {name: b"x" for name in SLOTS} | {slot: octets}
+    image = Image()
+    image.number(4)
+    image.text(text["recorder"])
+    image.time(0)
+    image.text(text["default namespace"])
+    image.number(1)
+    image.text(text["URI"])
+    image.text(text["short name"])
+    image.number(1)
+    image.text(text["service"])
+    image.led(b"\xff" * 16)
+    image.number(0xFFFFFFFF)
+    attributes = [(text["attribute name"], STRING), (b"", BOOLEAN), (b"", HEX_BINARY), (b"", 0x0500 | STRING)]
+    put_layout(image, Layout(7, text["type name"], attributes))
+    image.kind(KIND_ROW)
+    image.number(7)
+    image.number(4 + len(text["value"]) + 1 + 6 + 4 + len(text["value of a derived type"]) if stated else UNSTATED)
+    image.text(text["value"])
+    image.booleans.append(len(image.octets))
+    image.octets.append(truth)
+    image.led(b"\xff\xc3")
+    image.text(text["value of a derived type"])
+    put_end(image, 1)
+    return image
+
+
+def string_cases():
+    """Characters and faults in each string; then each bad one with a fault before or behind it."""
+    for slot in SLOTS:
+        for octets in [b"", *characters.GOOD, *characters.FAULTS]:
+            for stated in (False, True):
+                yield f"{slot} {octets.hex()}", bytes(spelt(slot, octets, stated).octets)
+    for slot in SLOTS:
+        for stated in (False, True):
+            yield from faults_about(slot, b"x\xe9", stated)
+    for octets in characters.at_every_place(40):
+        for slot in ("recorder", "value"):
+            yield f"{slot} {octets.hex()}", bytes(spelt(slot, octets).octets)
+
+
+def faults_about(slot, bad, stated):
+    image = spelt(slot, bad, stated)
+    octets = bytes(image.octets)
+    place = image.texts[SLOTS.index(slot)]
+    for end in range(place + 3, place + 4 + len(bad) + 6):
+        yield f"bad {slot}, cut at {end}", octets[:end]
+    for field in image.numbers:
+        for number in border_numbers(number_at(octets, field), len(octets) - field - 4):
+            yield f"bad {slot}, {number % 2**32} at {field}", with_number(octets, field, number)
+    yield f"bad {slot} and boolean", bytes(spelt(slot, bad, stated, 2).octets)
+
+
+def bad_names():
+    """Bad names under a known number and in a full book, where their refusal comes first."""
+    for bad in characters.FAULTS:
+        for attributes in ([], [(bad, 0x21)]):
+            name = b"" if attributes else bad
+            yield f"a known number, name {bad.hex()}", with_layouts([Layout(1, b"", []), Layout(1, name, attributes)])
+            full = [Layout(n, b"", []) for n in range(MOST_LAYOUTS)]
+            yield f"a full book, name {bad.hex()}", with_layouts([*full, Layout(99, name, attributes)])
+
+
 def border_cases():
     full = bytes(SHAPES["short"](MOST_DOCUMENT - 100).octets)
     yield "no octets", b""
@@ -208,6 +317,8 @@ def border_cases():
     yield "a header not followed by its mark", with_number(bare, len(bare) - END_SIZE - 4, 0)
     for strings in range(42, 46):
         yield f"a plan of {strings} strings more", bytes(crowded(30_000, strings).octets)
+    yield from string_cases()
+    yield from bad_names()
     yield "a book too full", book_over()
     yield "a layout again, shorter", shorter_again()
 

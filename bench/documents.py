@@ -58,6 +58,7 @@ class Image:
     def __init__(self):
         self.octets = bytearray()
         self.numbers = []  # every field of four octets that is no value
+        self.texts = []  # the lengths of what must be UTF-8
         self.booleans = []
         self.elements = []
 
@@ -68,9 +69,13 @@ class Image:
     def time(self, milliseconds):
         self.octets += milliseconds.to_bytes(8, "big", signed=True)
 
-    def string(self, octets):
+    def led(self, octets):
         self.number(len(octets))
         self.octets += octets
+
+    def text(self, octets):
+        self.texts.append(len(self.octets))
+        self.led(octets)
 
     def kind(self, kind):
         self.elements.append((len(self.octets), kind))
@@ -89,27 +94,27 @@ class Layout:
 
 def put_header(image, random, namespaces=2, services=1):
     image.number(4)
-    image.string(b"recorder.example")
+    image.text(b"recorder.example")
     image.time(1_000_000_000_000)
-    image.string(b"http://records.example/ns")
+    image.text(b"http://records.example/ns")
     image.number(namespaces)
     for n in range(namespaces):
-        image.string(b"http://records.example/ns/%d" % n)
-        image.string(b"n%d" % n)
+        image.text(b"http://records.example/ns/%d" % n)
+        image.text(b"n%d" % n)
     image.number(services)
     for n in range(services):
-        image.string(b"http://records.example/service/%d.xsd" % n)
-    image.string(random.octets(16))
+        image.text(b"http://records.example/service/%d.xsd" % n)
+    image.led(random.octets(16))
     image.number(0xFFFFFFFF)
 
 
 def put_layout(image, layout):
     image.kind(KIND_LAYOUT)
     image.number(layout.number)
-    image.string(layout.name)
+    image.text(layout.name)
     image.number(len(layout.attributes))
     for name, kind in layout.attributes:
-        image.string(name)
+        image.text(name)
         image.number(kind)
 
 
@@ -118,10 +123,37 @@ def basic_of(kind):
     return kind & 0xFF
 
 
-def put_value(image, kind, random, longest):
+# Octets as ASCII that can be printed, so that a string has the length that chance gave it.
+PRINTABLE = bytes(0x20 + octet % 95 for octet in range(256))
+
+# Names and streets, of each script.
+LATIN = ["José Núñez", "Zoë Müller", "Łukasz Dąbrowski", "Françoise Lefèvre", "Åsa Sjöström", "Jiří Dvořák",
+         "Calle de Alcalá", "Königstraße", "Rue de l’Église", "Náměstí Míru", "Øster Allé", "Via dell’Università"]
+CYRILLIC = ["Анна Иванова", "Дмитрий Соколов", "Олександр Шевченко", "Ђорђе Петровић", "Невский проспект", "улица Мира",
+            "вулиця Хрещатик", "площадь Победы", "Цветни трг", "бульвар Победителей"]
+CHINESE = ["王小明", "李娜", "张伟", "欧阳修文", "北京市朝阳区", "上海市南京东路", "广州市天河区中山大道", "成都市春熙路", "人民路", "建国门外大街"]
+SCRIPTS = [LATIN, CYRILLIC, CHINESE]
+
+
+def printable(random, size):
+    return random.octets(size).translate(PRINTABLE)
+
+
+def words(random, size):
+    """Words of one script, as many whole characters as that many octets hold."""
+    script = random.pick(SCRIPTS)
+    text = b""
+    while len(text) < size:
+        text += random.pick(script).encode() + b" "
+    return text[:size].decode(errors="ignore").encode()
+
+
+def put_value(image, kind, random, longest, text):
     kind = basic_of(kind)
-    if kind in (HEX_BINARY, STRING):
-        image.string(random.octets(random.below(longest + 1)))
+    if kind == HEX_BINARY:
+        image.led(random.octets(random.below(longest + 1)))
+    elif kind == STRING:
+        image.text(text(random, random.below(longest + 1)))
     elif kind == BOOLEAN:
         image.booleans.append(len(image.octets))
         image.octets.append(random.below(2))
@@ -129,14 +161,14 @@ def put_value(image, kind, random, longest):
         image.octets += random.octets(WIDTHS[kind])
 
 
-def put_row(image, layout, random, longest):
+def put_row(image, layout, random, longest, text=printable):
     """A row of which half, by chance, state their length."""
     image.kind(KIND_ROW)
     image.number(layout.number)
     at_length = len(image.octets)
     image.number(UNSTATED)
     for _, kind in layout.attributes:
-        put_value(image, kind, random, longest)
+        put_value(image, kind, random, longest, text)
     if random.below(2):
         length = len(image.octets) - at_length - 4
         image.octets[at_length:at_length + 4] = length.to_bytes(4, "big")
@@ -153,8 +185,8 @@ def row_size(layout, longest):
     return 12 + sum(WIDTHS.get(basic_of(kind), 4 + longest) for _, kind in layout.attributes)
 
 
-def document(layouts, size, seed, longest=0):
-    """Header, layouts, rows of each layout in turn as far as `size` octets surely hold them, end."""
+def document(layouts, size, seed, longest=0, text=printable):
+    """Header, layouts, rows of each layout in turn as far as `size` octets surely hold them, end; strings are such texts."""
     random = Random(seed)
     image = Image()
     put_header(image, random)
@@ -162,7 +194,7 @@ def document(layouts, size, seed, longest=0):
         put_layout(image, layout)
     rows = 0
     while len(image.octets) + row_size(layouts[rows % len(layouts)], longest) + END_SIZE <= size:
-        put_row(image, layouts[rows % len(layouts)], random, longest)
+        put_row(image, layouts[rows % len(layouts)], random, longest, text)
         rows += 1
     put_end(image, rows)
     return image
@@ -183,9 +215,16 @@ def wide(size, seed=2):
 
 @functools.cache
 def strings(size, seed=3):
-    """One layout of six strings and two numbers."""
+    """One layout of six strings and two numbers; all is ASCII."""
     kinds = [0x24, STRING, STRING, STRING, 0x22, STRING, STRING, STRING]
     return document([Layout(3, b"Strings", [(b"f%d" % i, kind) for i, kind in enumerate(kinds)])], size, seed, 32)
+
+
+@functools.cache
+def letters(size, seed=8):
+    """One layout like that of `strings`; the strings are words in Latin with accents, Cyrillic and Chinese letters."""
+    fields = {"número": 0x24, "имя": STRING, "улица": STRING, "Straße": STRING, "номер": 0x22, "姓名": STRING, "街道": STRING, "città": STRING}
+    return document([Layout(8, "Größe".encode(), [(name.encode(), kind) for name, kind in fields.items()])], size, seed, 32, words)
 
 
 @functools.cache
@@ -214,7 +253,7 @@ def texts(size, seed=6):
     return document([Layout(1000 + i, b"", [(b"", STRING)] * 62) for i in range(MOST_LAYOUTS)], size, seed, 8)
 
 
-SHAPES = {"short": short, "wide": wide, "strings": strings, "many": many}
+SHAPES = {"short": short, "wide": wide, "strings": strings, "many": many, "letters": letters}
 
 # What is counted only where it is named.
 NAMED = {**SHAPES, "texts": texts}

@@ -1,5 +1,5 @@
 """
-Counts the checks that are meant to be fast on the four documents of 64 KiB. Counts are exact and repeatable, so a
+Counts the checks that are meant to be fast on the five documents of 64 KiB. Counts are exact and repeatable, so a
 limit on them is no matter of chance.
 """
 import sys
@@ -9,7 +9,10 @@ import documents
 import programs
 
 HELD = [programs.WHOLE, programs.RUNS]
+
+# Shares of the C reader's count. Strings of ASCII alone must gain by it, and those of other letters may not lose.
 LIMIT = 0.9
+LIMITS = {("strings", programs.WHOLE): 0.5, ("letters", programs.WHOLE): 1.0, ("letters", programs.RUNS): 1.0}
 
 
 def main():
@@ -19,9 +22,10 @@ def main():
     failed = 0
     for shape in documents.SHAPES:
         for check in HELD:
+            limit = LIMITS.get((shape, check), LIMIT)
             ratio = of(check, shape, "small") / of(programs.READER, shape, "small")
-            failed += ratio > LIMIT
-            print(f"{shape}, {counts.NAMES[check]}: {ratio:.3f} of the C reader" + (f", above {LIMIT}" if ratio > LIMIT else ""))
+            failed += ratio > limit
+            print(f"{shape}, {counts.NAMES[check]}: {ratio:.3f} of the C reader" + (f", above {limit}" if ratio > limit else ""))
     print(f"{len(HELD) * len(documents.SHAPES) - failed} passed, {failed} failed")
     return 1 if failed else 0
 

@@ -41,11 +41,12 @@ enum refusal {
     ROW_LENGTH = 13,
     BAD_BOOLEAN = 14,
     END_COUNT = 15,
-    AFTER_END = 16
+    AFTER_END = 16,
+    NOT_UTF8 = 24
 };
 
-/* How a value stands in a row. A number's form is its width. */
-enum form { FORM_OCTETS = 0, FORM_1 = 1, FORM_2 = 2, FORM_4 = 4, FORM_8 = 8, FORM_BOOLEAN = 9 };
+/* How a value stands in a row. A number's form is its width, and no other form is as small. */
+enum form { FORM_1 = 1, FORM_2 = 2, FORM_4 = 4, FORM_8 = 8, FORM_BOOLEAN, FORM_OCTETS, FORM_STRING };
 
 /*
  * The place of reading, at most `end`. What reads moves the place behind what
@@ -113,8 +114,49 @@ static bool read_number(struct cursor *in, uint32_t *number)
     return true;
 }
 
-/* Passes a length and its octets; a length that reaches too far is refused where it stands. */
-static bool pass_string(struct cursor *in)
+static bool is_tail(uint8_t octet)
+{
+    return (octet & 0xc0) == 0x80;
+}
+
+/* Whether octets are UTF-8 as RFC 3629 has it, looked at character by character. */
+static bool is_utf8(const uint8_t *p, size_t size)
+{
+    const uint8_t *end = p + size;
+    while (p < end) {
+        uint8_t first = *p++;
+        if (first < 0x80)
+            continue;
+        size_t left = (size_t)(end - p);
+        if (first < 0xc2) /* a tail, or a longer form of ASCII */
+            return false;
+        if (first < 0xe0) {
+            if (left < 1 || !is_tail(p[0]))
+                return false;
+            p += 1;
+        } else if (first < 0xf0) {
+            if (left < 2 || !is_tail(p[0]) || !is_tail(p[1]))
+                return false;
+            if ((first == 0xe0 && p[0] < 0xa0) || (first == 0xed && p[0] > 0x9f)) /* a longer form, a surrogate */
+                return false;
+            p += 2;
+        } else {
+            if (first > 0xf4 || left < 3 || !is_tail(p[0]) || !is_tail(p[1]) || !is_tail(p[2]))
+                return false;
+            if ((first == 0xf0 && p[0] < 0x90) || (first == 0xf4 && p[0] > 0x8f)) /* a longer form, past the last */
+                return false;
+            p += 3;
+        }
+    }
+    return true;
+}
+
+/*
+ * Passes a length and its octets, which must be UTF-8 if they are a string.
+ * A length that reaches too far, or whose octets are not UTF-8, is refused
+ * where it stands.
+ */
+static bool pass_led(struct cursor *in, bool is_string)
 {
     uint32_t start = in->at;
     uint32_t length;
@@ -122,8 +164,15 @@ static bool pass_string(struct cursor *in)
         return false;
     if (length > left(in))
         return refuse(in, CUT_SHORT, start);
+    if (is_string && !is_utf8(in->octets + in->at, length))
+        return refuse(in, NOT_UTF8, start);
     in->at += length;
     return true;
+}
+
+static bool pass_string(struct cursor *in)
+{
+    return pass_led(in, true);
 }
 
 /* Passes a number that must have a value. */
@@ -193,8 +242,10 @@ static bool form_of(uint8_t basic, uint8_t *form)
         *form = FORM_8;
         return true;
     case 0x27: /* hexBinary */
-    case 0x28: /* string */
         *form = FORM_OCTETS;
+        return true;
+    case 0x28: /* string */
+        *form = FORM_STRING;
         return true;
     case 0x29: /* boolean */
         *form = FORM_BOOLEAN;
@@ -287,14 +338,11 @@ static bool pass_boolean(struct cursor *in)
 
 static bool pass_value(struct cursor *in, uint8_t form)
 {
-    switch (form) {
-    case FORM_OCTETS:
-        return pass_string(in);
-    case FORM_BOOLEAN:
-        return pass_boolean(in);
-    default:
+    if (form <= FORM_8)
         return pass(in, form);
-    }
+    if (form == FORM_BOOLEAN)
+        return pass_boolean(in);
+    return pass_led(in, form == FORM_STRING);
 }
 
 static bool pass_values(struct cursor *in, const struct layout *layout)

@@ -102,7 +102,7 @@ def print_all(shapes):
 def main():
     words = argparse.ArgumentParser(prog="bench/run")
     words.add_argument("--small", action="store_true", help="documents of 64 KiB alone")
-    words.add_argument("document", nargs="*", help=f"of {', '.join(documents.NAMED)}; the first four if none is named")
+    words.add_argument("document", nargs="*", help=f"of {', '.join(documents.NAMED)}; the first five if none is named")
     given = words.parse_args()
     unknown = set(given.document) - set(documents.NAMED)
     if unknown:

@@ -100,9 +100,10 @@ enum ipdr_refusal {
     IPDR_BOOLEAN = 14,     /* a boolean is not 0 or 1: that octet */
     IPDR_END_COUNT = 15,   /* the end's count is not that of the rows: the count */
     IPDR_AFTER_END = 16,   /* octets follow the end: the first of them */
-    IPDR_LENT = 17         /* steps and runs, after 2: the book is too short, used is over IPDR_BOOK_SIZE, the used octets
-                              are not whole valid layouts of different numbers, at most IPDR_BOOK_MOST of them, or rows
-                              is over IPDR_ROWS_MOST: 0 */
+    IPDR_LENT = 17,        /* steps and runs, after 2: the book is too short, used is over IPDR_BOOK_SIZE, the used octets
+                              are not whole valid layouts of different numbers with names in UTF-8, at most
+                              IPDR_BOOK_MOST of them, or rows is over IPDR_ROWS_MOST: 0 */
+    IPDR_NOT_UTF8 = 24     /* a string of the header, a name or a value of type string is not UTF-8: its length */
 };
 
 /* A refusal taken apart. A place is an index into the document: it is at most the document's length or, for a step or
@@ -120,7 +121,7 @@ static inline int64_t ipdr_time(uint64_t bits)
 
 /* The header check.
  *
- * Answers 0 with these words in `out`, the other four as they were, or a refusal: 1 to 6. */
+ * Answers 0 with these words in `out`, the other four as they were, or a refusal: 1 to 6, 24. */
 enum ipdr_header_word {
     IPDR_HEADER_START = 0,      /* the start time in milliseconds, its two's complement bits: ipdr_time */
     IPDR_HEADER_NAMESPACES = 1, /* how many other namespaces, at most 16 */
@@ -137,10 +138,10 @@ uint64_t ipdr_header(const uint8_t *doc, size_t doc_len, uint64_t out[8]);
  *       number to its last type, without the kind; book_len is at least IPDR_BOOK_SIZE
  * used  how many octets of the book they fill; 0 for an empty book, whatever it holds
  *
- * Answers 0 with all eight words in `out`, or a refusal: 1, 2, 4, 7 to 17. A layout that the book does not have is put
- * behind its used octets, and then only the new used count and those octets differ; in all else the book is as it was.
- * The header is not looked at, nor whether an element begins at the place. Every step checks the used octets of the
- * book, so a book that was spoilt between two steps is refused. */
+ * Answers 0 with all eight words in `out`, or a refusal: 1, 2, 4, 7 to 17, 24. A layout that the book does not have is
+ * put behind its used octets, and then only the new used count and those octets differ; in all else the book is as it
+ * was. The header is not looked at, nor whether an element begins at the place. Every step checks the used octets of
+ * the book, so a book that was spoilt between two steps is refused. */
 enum ipdr_step_word {
     IPDR_STEP_KIND = 0,      /* IPDR_LAYOUT, IPDR_ROW or IPDR_END */
     IPDR_STEP_NEXT = 1,      /* the place behind the element; behind the end it is the document's length */
@@ -160,8 +161,8 @@ uint64_t ipdr_step(const uint8_t *doc, size_t doc_len, uint32_t at, uint32_t row
 /* A run of steps: the layouts and rows from a place on, as ipdr_step reads them one after another.
  *
  * at, rows, book and used are as for ipdr_step. A run is refused exactly where ipdr_step is refused at its first
- * element, by the same number and place: 1, 2, 4, 7 to 17. Else it passes at most IPDR_RUN_MOST items and stops before
- * the end and before an element where the step is refused (by 17 too, behind a row that takes the count over
+ * element, by the same number and place: 1, 2, 4, 7 to 17, 24. Else it passes at most IPDR_RUN_MOST items and stops
+ * before the end and before an element where the step is refused (by 17 too, behind a row that takes the count over
  * IPDR_ROWS_MOST): the step there, or the next run, says which. The lent items are IPDR_RUN_MOST words; the first
  * IPDR_RUN_COUNT of them are written, the others are as they were.
  *
@@ -186,7 +187,7 @@ static inline uint32_t ipdr_item_next(uint64_t item) { return (uint32_t)(item & 
 
 /* The whole check: header and elements to the end, over a book of its own, in time linear in the document's length.
  *
- * Answers 0 with the count of rows in `rows`, or the refusal of a reading from the first octet: 1 to 16. */
+ * Answers 0 with the count of rows in `rows`, or the refusal of a reading from the first octet: 1 to 16, 24. */
 uint64_t ipdr_whole(const uint8_t *doc, size_t doc_len, uint64_t *rows);
 
 #ifdef __cplusplus

@@ -22,11 +22,12 @@ pub fn examples() -> Vec<Example> {
         example("specimen", "The specimen of the scope: one layout, a row of stated and a row of unstated length.", SPECIMEN.to_vec()),
         example("bare", "A header and an end with nothing between them, the shortest document there is.", bare()),
         example("every-type", "All thirteen types, with their lowest and highest values; the layout's number is negative when it is read as signed.", every_type()),
-        example("odd-strings", "Strings that are empty or need escapes, lists in the header, a row without fields, times before 1970 and after 9999.", odd_strings()),
+        example("odd-strings", "Strings that are empty, need escapes or have characters of more than one octet, lists in the header, a row without fields, times before 1970 and after 9999.", odd_strings()),
         example("repeated-layout", "A layout that stands twice, equal both times, and a second one that comes late: nothing of this is a fault.", repeated_layout()),
         example("june", "In June a layout gets one more attribute but keeps its number. The rows before it are listed, the new layout is refused.", june()),
         example("lacking-layout", "A row names a layout that the document does not have.", with(91, &[0, 0, 0, 8])),
         example("wrong-length", "A row states six octets where its layout takes five. Skipping by the stated length would lose the next element.", with(95, &[0, 0, 0, 6])),
+        example("old-code", "A subscriber's name in UTF-8, and the same name in an old eight-bit code, where the last letter is the one octet E9. That is no UTF-8, and is refused at the length before the name.", old_code()),
         example("unstated-string", "The octets FF FF FF FF before a string. They are a length like any other, and the document ends before it does.", unstated_string()),
         example("cut", "The specimen without its last octet: the end time is cut short.", SPECIMEN[..136].to_vec()),
     ]
@@ -135,7 +136,8 @@ fn odd_strings() -> Vec<u8> {
     let items = vec![
         Item::Layout(layout(1, "", &[("", 0x28), ("", 0x28)])),
         row(1, true, vec![text(b""), text(b"=")]),
-        row(1, true, vec![text(b"a b"), text(b"50% \xe2\x82\xac\n\x7f~!")]),
+        row(1, true, vec![text(b"a b"), text("50% €\n\x7f~!".as_bytes())]),
+        row(1, false, vec![text("\u{feff}\0Ж東😀".as_bytes()), text("\u{10ffff}".as_bytes())]),
         Item::Layout(layout(2, "no fields", &[])),
         row(2, true, vec![]),
         row(2, false, vec![]),
@@ -179,6 +181,20 @@ fn june() -> Vec<u8> {
     ];
     let header = Header { start: 1_117_497_600_007, ..Header::default() };
     image(&Document { header, items, end_time: 1_117_670_400_000 }).octets
+}
+
+fn old_code() -> Vec<u8> {
+    let named = |name: &[u8]| {
+        let values = vec![Value::octets(Basic::String, name), Value::number(Basic::UnsignedLong, 1200)];
+        row(1, true, values)
+    };
+    let items = vec![
+        Item::Layout(layout(1, "Usage", &[("subscriber", 0x28), ("bytes", 0x24)])),
+        named("José".as_bytes()),
+        named(b"Jos\xe9"),
+    ];
+    let header = Header { start: 1_117_497_600_000, ..Header::default() };
+    image(&Document { header, items, end_time: 1_117_584_000_000 }).octets
 }
 
 fn unstated_string() -> Vec<u8> {

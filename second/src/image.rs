@@ -1,5 +1,6 @@
 //! The image of a meaning: its octets, with the places of its fields. The
-//! limits are not looked at, so meanings beyond them have an image too.
+//! limits are not looked at, nor whether strings are UTF-8, so meanings beyond
+//! them have an image too.
 
 use crate::basic::Basic;
 use crate::element::Kind;
@@ -10,7 +11,10 @@ use crate::row::UNSTATED;
 #[derive(Clone, Copy, Debug, PartialEq, Eq)]
 pub enum Mark {
     Version,
+    /// Of a hexBinary.
     Length,
+    /// Of what must be UTF-8.
+    StringLength,
     Time,
     Count,
     IdLength,
@@ -109,7 +113,8 @@ impl Image {
 
     fn value(&mut self, value: &Value) {
         match value.basic {
-            Basic::HexBinary | Basic::String => self.put_string(&value.octets),
+            Basic::HexBinary => self.put_led(Mark::Length, &value.octets),
+            Basic::String => self.put_string(&value.octets),
             basic => {
                 if basic == Basic::Boolean {
                     self.mark(Mark::Boolean);
@@ -139,7 +144,11 @@ impl Image {
     }
 
     fn put_string(&mut self, octets: &[u8]) {
-        self.put_number(Mark::Length, octets.len() as u32);
+        self.put_led(Mark::StringLength, octets);
+    }
+
+    fn put_led(&mut self, mark: Mark, octets: &[u8]) {
+        self.put_number(mark, octets.len() as u32);
         self.octets.extend(octets);
     }
 }

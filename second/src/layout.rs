@@ -20,8 +20,8 @@ pub struct Layout<'a> {
     pub octets: &'a [u8],
 }
 
-/// Reads the layout at a place, with 1, 4, 8 and 9 as its fields are met;
-/// answers the place behind it too.
+/// Reads the layout at a place, with 1, 4, 8, 9 and 24 as its fields are
+/// met; answers the place behind it too.
 pub fn read(octets: &[u8], place: u64) -> Answer<(Layout<'_>, u64)> {
     let mut walk = Walk::new(octets, place);
     let number = walk.number()?;

@@ -37,6 +37,7 @@ pub fn meaning() -> Document {
 
 /// A document with the answer that its whole check must give: the rows, or a
 /// refusal's number and place.
+#[derive(Clone)]
 pub struct FixedCase {
     pub name: &'static str,
     pub document: Vec<u8>,

@@ -13,12 +13,14 @@ pub struct Value<'a> {
 }
 
 impl<'a> Value<'a> {
-    /// Reads a value: 1 where it passes the end, 14 for a bad boolean.
+    /// Reads a value: 1 where it passes the end, 24 for a string that is not
+    /// UTF-8, 14 for a bad boolean.
     pub fn read(walk: &mut Walk<'a>, basic: Basic) -> Answer<Value<'a>> {
         let place = walk.place();
         let octets = match basic.width() {
             Some(width) => walk.take(width as u64)?,
-            None => walk.string()?,
+            None if basic == Basic::String => walk.string()?,
+            None => walk.led()?,
         };
         if basic == Basic::Boolean && octets[0] > 1 {
             return refuse(14, place);

@@ -1,6 +1,7 @@
 //! Reading fields one behind another, up to the end of some octets.
 
 use crate::refusal::{refuse, Answer};
+use crate::utf8;
 
 /// A place in octets. The place may be any number; a field that would pass
 /// the end is refused by 1 at its own place and leaves the walk where it was.
@@ -47,10 +48,21 @@ impl<'a> Walk<'a> {
     }
 
     /// A length and its octets; both faults stand at the length.
-    pub fn string(&mut self) -> Answer<&'a [u8]> {
+    pub fn led(&mut self) -> Answer<&'a [u8]> {
         let place = self.place;
         let size = self.number()?;
         self.take(size.into()).or_else(|_| refuse(1, place))
+    }
+
+    /// A length and octets that are UTF-8; once they are there, 24 where they
+    /// are not.
+    pub fn string(&mut self) -> Answer<&'a [u8]> {
+        let place = self.place;
+        let octets = self.led()?;
+        if !utf8::is_well_formed(octets) {
+            return refuse(24, place);
+        }
+        Ok(octets)
     }
 
     /// A count, refused by 4 where it is over its limit.

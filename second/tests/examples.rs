@@ -16,11 +16,12 @@ fn last_lines() {
     assert_eq!(last_line("specimen"), "end 121 2 1970-01-01T00:01:26.401Z");
     assert_eq!(last_line("bare"), "end 52 0 2000-02-29T23:59:59.999Z");
     assert_eq!(last_line("every-type"), "end 411 2 1970-01-01T00:00:00.001Z");
-    assert_eq!(last_line("odd-strings"), "end 262 4 @253402300800000");
+    assert_eq!(last_line("odd-strings"), "end 299 5 @253402300800000");
     assert_eq!(last_line("repeated-layout"), "end 315 4 2001-09-09T02:46:40.050Z");
     assert_eq!(last_line("june"), "refused 10 166");
     assert_eq!(last_line("lacking-layout"), "refused 12 91");
     assert_eq!(last_line("wrong-length"), "refused 13 95");
+    assert_eq!(last_line("old-code"), "refused 24 145");
     assert_eq!(last_line("unstated-string"), "refused 1 96");
     assert_eq!(last_line("cut"), "refused 1 129");
 }

@@ -9,6 +9,7 @@ use second::generate::document::{document, fullest};
 use second::generate::field;
 use second::generate::random::Random;
 use second::generate::script::script;
+use second::generate::text::{self, CHARACTERS, FAULTS, WORDS};
 use second::image::image;
 use second::limits;
 use second::probe;
@@ -46,17 +47,30 @@ fn every_answer_is_reached() {
     for word in ["header", "whole", "layout", "row", "end", "field", "name", "attribute", "text"] {
         assert!(counts.get(word).copied().unwrap_or(0) >= 20, "{word}");
     }
-    for number in [1, 3, 4, 5, 6, 18] {
-        assert!(counts.contains_key(&format!("t {number}")), "t {number}");
+    let refusals: [(char, &[u8]); 7] = [
+        ('h', &[1, 3, 4, 5, 6, 24]),
+        ('w', &[1, 3, 4, 5, 6, 7, 8, 9, 10, 11, 12, 13, 14, 15, 16, 24]),
+        ('t', &[1, 3, 4, 5, 6, 18, 24]),
+        ('s', &[1, 7, 8, 9, 10, 11, 12, 13, 14, 15, 16, 17, 24]),
+        ('f', &[1, 7, 12, 13, 14, 17, 18, 19, 24]),
+        ('a', &[1, 4, 7, 8, 9, 10, 11, 17, 18, 19, 24]),
+        ('y', &[1, 4, 7, 8, 9, 10, 11, 17, 19, 24]),
+    ];
+    for (letter, numbers) in refusals {
+        for number in numbers {
+            assert!(counts.contains_key(&format!("{letter} {number}")), "{letter} {number}");
+        }
     }
-    for number in [1, 7, 8, 9, 10, 11, 12, 13, 14, 15, 16, 17] {
-        assert!(counts.contains_key(&format!("s {number}")), "s {number}");
-    }
-    for number in [1, 7, 12, 13, 14, 17, 18, 19] {
-        assert!(counts.contains_key(&format!("f {number}")), "f {number}");
-    }
-    for number in [1, 4, 7, 8, 9, 10, 11, 17, 18, 19] {
-        assert!(counts.contains_key(&format!("a {number}")), "a {number}");
+}
+
+/// Bad strings must not hide what stands behind them, nor be too few.
+#[test]
+fn good_and_bad_strings_have_their_share() {
+    let of = |answer: &str| answers().get(answer).copied().unwrap_or(0);
+    for (answer, least) in
+        [("whole", 1500 + 400), ("w 24", 150), ("h 24", 60), ("s 24", 150), ("f 24", 20), ("v 24", 20)]
+    {
+        assert!(of(answer) >= least, "{answer}: {}", of(answer));
     }
 }
 
@@ -64,22 +78,22 @@ fn every_answer_is_reached() {
 fn every_refusal_of_the_writer_is_reached() {
     let counts = answers();
     let refusals: [(char, &[u8]); 19] = [
-        ('1', &[]),
+        ('1', &[24]),
         ('2', &[]),
-        ('3', &[]),
+        ('3', &[24]),
         ('4', &[4]),
-        ('5', &[]),
-        ('6', &[]),
+        ('5', &[24]),
+        ('6', &[24]),
         ('7', &[4]),
-        ('8', &[]),
+        ('8', &[24]),
         ('9', &[5]),
         ('k', &[]),
-        ('m', &[]),
+        ('m', &[24]),
         ('c', &[4, 10, 11]),
-        ('n', &[]),
+        ('n', &[24]),
         ('u', &[8, 9, 10, 11]),
         ('o', &[12]),
-        ('v', &[12, 21]),
+        ('v', &[12, 21, 24]),
         ('x', &[12, 22]),
         ('z', &[]),
         ('e', &[]),
@@ -130,6 +144,61 @@ fn good_documents_are_accepted() {
         }
     }
     assert!(accepted > 900, "{accepted} of 1000 accepted");
+}
+
+#[test]
+fn strings_are_of_every_kind() {
+    let mut random = Random::of(6, 0);
+    let strings: Vec<Vec<u8>> = (0..20_000).map(|_| text::string(&mut random)).collect();
+    let strings: Vec<&str> = strings.iter().map(|octets| std::str::from_utf8(octets).unwrap()).collect();
+    let holding = |wanted: &dyn Fn(&str) -> bool| strings.iter().filter(|text| wanted(text)).count();
+    assert!(holding(&|text| text.is_empty()) > 1000);
+    assert!(holding(&|text| text.is_ascii()) > 8000);
+    assert!(holding(&|text| !text.is_ascii()) > 6000);
+    assert!(holding(&|text| text.len() > 255) > 100);
+    for character in CHARACTERS {
+        assert!(holding(&|text| text.contains(character)) >= 100, "{character:?}");
+    }
+    for word in WORDS {
+        assert!(holding(&|text| text.contains(word)) >= 100, "{word}");
+    }
+    for octets in 1..=4 {
+        let has = |text: &str| text.chars().any(|character| character.len_utf8() == octets);
+        assert!(holding(&has) > 2000, "characters of {octets} octets");
+    }
+}
+
+#[test]
+fn bad_strings_are_of_every_kind() {
+    let mut random = Random::of(6, 1);
+    let strings: Vec<Vec<u8>> = (0..20_000).map(|_| text::bad(&mut random)).collect();
+    assert!(strings.iter().all(|octets| std::str::from_utf8(octets).is_err()));
+    let holding = |wanted: &dyn Fn(&[u8]) -> bool| strings.iter().filter(|octets| wanted(octets)).count();
+    for fault in FAULTS {
+        assert!(holding(&|octets| octets == fault) >= 20, "{fault:x?} alone");
+        assert!(
+            holding(&|octets| octets.len() > fault.len() && octets.starts_with(fault)) >= 100,
+            "{fault:x?} first"
+        );
+        assert!(
+            holding(&|octets| octets.len() > fault.len() && octets.ends_with(fault)) >= 100,
+            "{fault:x?} last"
+        );
+    }
+}
+
+#[test]
+fn spoiling_leaves_the_length_and_mostly_no_string() {
+    let mut bad = 0;
+    for index in 0..2000 {
+        let mut random = Random::of(6, 2 + index);
+        let before = text::string(&mut random);
+        let mut after = before.clone();
+        text::spoil(&mut random, &mut after);
+        assert_eq!(after.len(), before.len());
+        bad += u64::from(std::str::from_utf8(&after).is_err());
+    }
+    assert!(bad > 1500, "{bad} of 2000");
 }
 
 #[test]

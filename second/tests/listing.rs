@@ -86,9 +86,10 @@ fn of(layout: Layout, rows: Vec<Vec<Value>>) -> Vec<u8> {
 #[test]
 fn every_type() {
     let attributes = BASICS.iter().map(|(low, _)| Attribute { name: vec![], kind: (*low).into() }).collect();
-    let values = |bits: u64, octets: &[u8]| -> Vec<Value> {
+    let values = |bits: u64, octets: &[u8], string: &str| -> Vec<Value> {
         let value = |basic: Basic| match basic {
-            Basic::HexBinary | Basic::String => Value::octets(basic, octets),
+            Basic::HexBinary => Value::octets(basic, octets),
+            Basic::String => Value::octets(basic, string.as_bytes()),
             Basic::Boolean => Value::number(basic, bits & 1),
             _ => Value::number(basic, bits),
         };
@@ -98,34 +99,49 @@ fn every_type() {
     let document = of(
         layout,
         vec![
-            values(u64::MAX, b"\xabZ"),
-            values(0, b""),
-            values(0x8000_0000_8000_8080, b"%"),
-            values(0x7fff_ffff_7fff_7f7f, b"~"),
+            values(u64::MAX, b"\xabZ", "«Z"),
+            values(0, b"", ""),
+            values(0x8000_0000_8000_8080, b"%", "%"),
+            values(0x7fff_ffff_7fff_7f7f, b"~", "~"),
         ],
     );
     let expected = "\
 document 4 1970-01-01T00:00:00.000Z
 layout 52 -1 = 13
-row 172 -1 -1 4294967295 -1 18446744073709551615 xffffffff xffffffffffffffff xab5a =%ABZ 1 -1 255 -1 65535
-row 239 -1 0 0 0 0 x00000000 x0000000000000000 x = 0 0 0 0 0
-row 302 -1 -2147450752 2147516544 -9223372034707259264 9223372039002292352 x80008080 x8000000080008080 x25 =%25 0 -128 128 -32640 32896
-row 367 -1 2147450751 2147450751 9223372034707259263 9223372034707259263 x7fff7f7f x7fffffff7fff7f7f x7e =~ 1 127 127 32639 32639
-end 432 4 1970-01-01T00:00:00.000Z
+row 172 -1 -1 4294967295 -1 18446744073709551615 xffffffff xffffffffffffffff xab5a =%C2%ABZ 1 -1 255 -1 65535
+row 240 -1 0 0 0 0 x00000000 x0000000000000000 x = 0 0 0 0 0
+row 303 -1 -2147450752 2147516544 -9223372034707259264 9223372039002292352 x80008080 x8000000080008080 x25 =%25 0 -128 128 -32640 32896
+row 368 -1 2147450751 2147450751 9223372034707259263 9223372034707259263 x7fff7f7f x7fffffff7fff7f7f x7e =~ 1 127 127 32639 32639
+end 433 4 1970-01-01T00:00:00.000Z
 ";
     assert_eq!(list(&document), expected);
 }
 
 #[test]
+fn strings_that_are_not_utf_8() {
+    let layout = Layout { number: 1, name: vec![], attributes: vec![Attribute { name: vec![], kind: 0x28 }] };
+    let string = |octets: &[u8]| vec![Value::octets(Basic::String, octets)];
+    let document = of(layout, vec![string("é".as_bytes()), string(b"\xe9"), string(b"e")]);
+    let expected = "\
+document 4 1970-01-01T00:00:00.000Z
+layout 52 1 = 1
+row 76 1 =%C3%A9
+refused 24 106
+";
+    assert_eq!(list(&document), expected);
+    assert_eq!(list(&[0, 0, 0, 4, 0, 0, 0, 1, 0xe9]), "refused 24 4\n");
+}
+
+#[test]
 fn escapes() {
-    let name: Vec<u8> = vec![0x00, 0x1f, 0x20, 0x21, b'%', b'&', b'=', b'a', 0x7e, 0x7f, 0x80, 0xff];
+    let name = "\0\x1f !%&=a~\x7f\u{80}ÿ東😀".as_bytes().to_vec();
     let document = of(Layout { number: 0x8000_0000, name, attributes: vec![] }, vec![vec![], vec![]]);
     let expected = "\
 document 4 1970-01-01T00:00:00.000Z
-layout 52 -2147483648 =%00%1F%20!%25&=a~%7F%80%FF 0
-row 80 -2147483648
-row 92 -2147483648
-end 104 2 1970-01-01T00:00:00.000Z
+layout 52 -2147483648 =%00%1F%20!%25&=a~%7F%C2%80%C3%BF%E6%9D%B1%F0%9F%98%80 0
+row 89 -2147483648
+row 101 -2147483648
+end 113 2 1970-01-01T00:00:00.000Z
 ";
     assert_eq!(list(&document), expected);
 }

@@ -5,11 +5,13 @@ use second::command::{stream, Command};
 use second::generate::document::small;
 use second::generate::random::Random;
 use second::generate::script::script;
+use second::generate::text::{FAULTS, WORDS};
 use second::image::{book_octets, image};
 use second::meaning::Layout;
 use second::probe;
 use second::refusal::Refusal;
 use second::specimen::SPECIMEN;
+use second::whole::whole_check;
 use second::writer;
 use second::writer::call::{Call, Given};
 use second::writer::state::{State, Turn};
@@ -353,6 +355,109 @@ fn booleans_and_octets() {
     assert_eq!(desk.give(&octets(Basic::String, b"")), Ok(()));
     assert_eq!(desk.give(&Call::CloseRow), Ok(()));
     assert!(desk.image().ends_with(&[0, 0, 0, 1, 0, 0, 0, 10, 1, 0, 0, 0, 1, 0xab, 0, 0, 0, 0]));
+}
+
+/// The calls of a document with every kind of string, each string the same.
+fn calls_of_strings(string: &[u8]) -> Vec<Call<'_>> {
+    vec![
+        Call::Recorder(string),
+        Call::StartTime(0),
+        Call::DefaultNamespace(string),
+        Call::NamespaceCount(1),
+        Call::Uri(string),
+        Call::ShortName(string),
+        Call::ServiceCount(1),
+        Call::Service(string),
+        Call::DocumentId(&[0xff; 16]),
+        Call::OpenLayout(7),
+        Call::TypeName(string),
+        Call::AttributeCount(2),
+        Call::AttributeName(string),
+        Call::AttributeType(0x528),
+        Call::AttributeName(string),
+        Call::AttributeType(0x27),
+        Call::OpenRow { number: 7, stated: true },
+        octets(Basic::String, string),
+        octets(Basic::HexBinary, b"\xff\xc3"),
+        Call::CloseRow,
+        Call::Finish(0),
+    ]
+}
+
+#[test]
+fn bad_strings_are_24_and_can_be_given_anew() {
+    for word in WORDS.map(str::as_bytes) {
+        let mut desk = Desk::of(500);
+        let mut refused = 0;
+        for (good, bad) in calls_of_strings(word).iter().zip(calls_of_strings(b"Jos\xe9")) {
+            if *good != bad {
+                assert_eq!(desk.give(&bad), Err(24), "{bad:?}");
+                refused += 1;
+            }
+            assert_eq!(desk.give(good), Ok(()), "{good:?}");
+        }
+        assert_eq!(refused, 9);
+        assert_eq!(desk.state.turn, Turn::Nothing);
+        assert_eq!(whole_check(desk.image()), Ok(1));
+    }
+}
+
+#[test]
+fn every_fault_in_every_call_is_24() {
+    for fault in FAULTS {
+        let (good, bad) = (calls_of_strings(b"x"), calls_of_strings(fault));
+        for (index, call) in bad.iter().enumerate().filter(|(index, call)| **call != good[*index]) {
+            let mut desk = Desk::after(500, &good[..index]);
+            assert_eq!(desk.give(call), Err(24), "{call:?}");
+        }
+    }
+}
+
+#[test]
+fn what_comes_before_24_and_what_behind() {
+    let bad = b"\xff";
+    let calls = calls_of_strings(b"x");
+    let row = &calls[..17];
+    // 17, then 20.
+    let mut desk = Desk::of(100);
+    desk.used = 1;
+    assert_eq!(desk.give(&Call::Recorder(bad)), Err(17));
+    desk.used = 0;
+    assert_eq!(desk.give(&Call::DefaultNamespace(bad)), Err(20));
+    desk.state.place = 101;
+    assert_eq!(desk.give(&Call::Recorder(bad)), Err(20));
+    // 12, then 21, for a value.
+    let mut desk = Desk::after(500, row);
+    assert_eq!(desk.give(&octets(Basic::HexBinary, bad)), Err(21));
+    assert_eq!(desk.give(&octets(Basic::String, bad)), Err(24));
+    assert_eq!(desk.give(&octets(Basic::String, b"x")), Ok(()));
+    assert_eq!(desk.give(&octets(Basic::String, bad)), Err(21));
+    assert_eq!(desk.give(&octets(Basic::HexBinary, bad)), Ok(()));
+    assert_eq!(desk.give(&octets(Basic::String, bad)), Err(21));
+    let mut desk = Desk::after(500, row);
+    desk.used = 0;
+    assert_eq!(desk.give(&octets(Basic::String, bad)), Err(12));
+    // 23 comes last, also where no room would do.
+    let long = [&vec![b'a'; 1_048_576][..], bad].concat();
+    for (index, call) in calls_of_strings(&long).iter().enumerate() {
+        if *call != calls[index] {
+            let mut desk = Desk::after(500, &calls[..index]);
+            assert_eq!(desk.give(call), Err(24));
+            desk.buffer.truncate(desk.state.place as usize);
+            assert_eq!(desk.give(call), Err(24));
+            assert_eq!(desk.give(&calls[index]), Err(23));
+        }
+    }
+}
+
+#[test]
+fn bad_octets_of_an_open_layout_are_taken_and_then_17() {
+    let mut desk = behind_header(&LAYOUT[..6]);
+    desk.buffer[64] = 0xff;
+    assert_eq!(desk.give(&LAYOUT[6]), Ok(()));
+    assert_eq!((desk.state.turn, desk.used, desk.book[8]), (Turn::Element, 31, 0xff));
+    assert_eq!(desk.give(&Call::OpenRow { number: 7, stated: true }), Err(17));
+    assert_eq!(desk.give(&Call::Finish(0)), Err(17));
 }
 
 #[test]

@@ -175,23 +175,38 @@ static void header_accepts(const char *what, uint64_t start, uint64_t namespaces
     check(what, painted_header(made.at, made.len, out) == 0 && words_are(words));
 }
 
-static void header_refuses(const char *what, uint32_t number, uint32_t place)
+static int header_is_refused(uint32_t number, uint32_t place)
 {
     lend_words();
-    check(what, is_refusal(painted_header(made.at, made.len, out), number, place) && words_are(out_before));
+    return is_refusal(painted_header(made.at, made.len, out), number, place) && words_are(out_before);
+}
+
+static void header_refuses(const char *what, uint32_t number, uint32_t place)
+{
+    check(what, header_is_refused(number, place));
+}
+
+static int whole_is_accepted(uint64_t rows)
+{
+    uint64_t lent = UINT64_C(0xfedcba9876543210);
+    return painted_whole(made.at, made.len, &lent) == 0 && lent == rows;
 }
 
 static void whole_accepts(const char *what, uint64_t rows)
 {
-    uint64_t lent = UINT64_C(0xfedcba9876543210);
-    check(what, painted_whole(made.at, made.len, &lent) == 0 && lent == rows);
+    check(what, whole_is_accepted(rows));
+}
+
+static int whole_is_refused(uint32_t number, uint32_t place)
+{
+    const uint64_t before = UINT64_C(0xfedcba9876543210);
+    uint64_t lent = before;
+    return is_refusal(painted_whole(made.at, made.len, &lent), number, place) && lent == before;
 }
 
 static void whole_refuses(const char *what, uint32_t number, uint32_t place)
 {
-    const uint64_t before = UINT64_C(0xfedcba9876543210);
-    uint64_t lent = before;
-    check(what, is_refusal(painted_whole(made.at, made.len, &lent), number, place) && lent == before);
+    check(what, whole_is_refused(number, place));
 }
 
 /* A step that puts no layout into the book. */
@@ -236,7 +251,7 @@ static int item_is_step(uint64_t item, const uint64_t words[WORDS])
 
 /* A run passes so many items, each as the step there reads it, and leaves book, places and counts as the steps do;
  * the step behind a run that is not full is the end or refused, and behind one of no items the end. */
-static void run_is_steps(const char *what, uint32_t at, uint32_t rows, uint32_t used, uint64_t count)
+static int is_run_of_steps(uint32_t at, uint32_t rows, uint32_t used, uint64_t count)
 {
     static uint8_t stepped[sizeof book];
     uint64_t words[WORDS], n = 0;
@@ -255,18 +270,28 @@ static void run_is_steps(const char *what, uint32_t at, uint32_t rows, uint32_t 
     good = good && words_are(due) && items_are_as_lent_from(count) && memcmp(book, stepped, sizeof book) == 0;
     if (good && count < IPDR_RUN_MOST)
         good = painted_step(made.at, made.len, at, rows, stepped, book_len, used, words) != 0 ? count > 0 : words[IPDR_STEP_KIND] == IPDR_END;
-    check(what, good);
+    return good;
+}
+
+static void run_is_steps(const char *what, uint32_t at, uint32_t rows, uint32_t used, uint64_t count)
+{
+    check(what, is_run_of_steps(at, rows, used, count));
 }
 
 /* A step is refused, and a run from its place alike; neither changes anything. */
-static void step_refuses(const char *what, uint32_t at, uint32_t rows, uint32_t used, uint32_t number, uint32_t place)
+static int step_is_refused(uint32_t at, uint32_t rows, uint32_t used, uint32_t number, uint32_t place)
 {
     lend_words();
     lend_items();
     uint64_t step = painted_step(made.at, made.len, at, rows, book, book_len, used, out);
     int stepped = is_refusal(step, number, place) && words_are(out_before) && book_is_as_lent();
     uint64_t run = painted_run(made.at, made.len, at, rows, book, book_len, used, items, out);
-    check(what, stepped && run == step && words_are(out_before) && items_are_as_lent_from(0) && book_is_as_lent());
+    return stepped && run == step && words_are(out_before) && items_are_as_lent_from(0) && book_is_as_lent();
+}
+
+static void step_refuses(const char *what, uint32_t at, uint32_t rows, uint32_t used, uint32_t number, uint32_t place)
+{
+    check(what, step_is_refused(at, rows, used, number, place));
 }
 
 static void lend_empty_book(void)
@@ -702,6 +727,420 @@ static void try_plans(uint32_t strings)
     step_refuses("a length of one more in the last row: 13 there", last_row, 0, used, IPDR_ROW_LENGTH, last_row + 8);
 }
 
+/* Where a string may stand, in the order of reading: in the header, in a layout, and in a row of unstated and a row of
+ * stated length, each of which has a string of a derived type, a boolean, a hexBinary and another string. */
+enum slot {
+    RECORDER, DEFAULT_NAMESPACE, URI, SHORT_NAME, SERVICE,
+    TYPE_NAME, FIRST_NAME, LAST_NAME,
+    UNSTATED_FIRST, UNSTATED_LAST, STATED_FIRST, STATED_LAST,
+    SLOTS
+};
+static const char *const slot_names[SLOTS] = {
+    "recorder", "default namespace", "URI", "short name", "service definition", "type name", "first attribute's name",
+    "last attribute's name", "first value, unstated", "last value, unstated", "first value, stated", "last value, stated",
+};
+
+/* A string of any octets. */
+struct string {
+    size_t size;
+    const char *octets;
+};
+#define STRING(octets) {sizeof(octets) - 1, octets}
+static const struct string plain = STRING("ok"), bad = STRING("Jos\xe9");
+
+/* The document that is spelt, one string of which was chosen. */
+static struct {
+    enum slot slot;
+    struct string chosen;
+    uint32_t lengths[SLOTS]; /* the place of each string's length */
+    uint32_t layout, rows[2], end;
+} spelt;
+
+static struct string string_in(enum slot slot)
+{
+    return slot == spelt.slot ? spelt.chosen : plain;
+}
+
+static void put_string(enum slot slot)
+{
+    struct string string = string_in(slot);
+    spelt.lengths[slot] = (uint32_t)made.len;
+    put_number((uint32_t)string.size);
+    put((const uint8_t *)string.octets, string.size);
+}
+
+static const uint8_t no_utf8[16] = {0xff, 0xfe, 0xc3, 0x28, 0x80, 0xff, 0xff, 0xff, 0xff, 0xff, 0xff, 0xff, 0xff, 0xff, 0xff, 0xe9};
+enum { TRUTH_AND_HEX = 1 + 4 + sizeof no_utf8 };
+
+static void put_spelt_row(int stated)
+{
+    enum slot first = stated ? STATED_FIRST : UNSTATED_FIRST, last = stated ? STATED_LAST : UNSTATED_LAST;
+    spelt.rows[stated] = (uint32_t)made.len;
+    put_number(2);
+    put_number(7);
+    put_number(stated ? (uint32_t)(4 + string_in(first).size + TRUTH_AND_HEX + 4 + string_in(last).size) : 0xffffffff);
+    put_string(first);
+    put((const uint8_t[]){1}, 1);
+    put_number(sizeof no_utf8);
+    put(no_utf8, sizeof no_utf8);
+    put_string(last);
+}
+
+/* A document with a string in every slot, this one in that one. Its id and each hexBinary are no UTF-8. */
+static void spell(enum slot slot, struct string string)
+{
+    spelt.slot = slot;
+    spelt.chosen = string;
+    begin(4);
+    put_string(RECORDER);
+    put(specimen + 8, 8);
+    put_string(DEFAULT_NAMESPACE);
+    put_number(1);
+    put_string(URI);
+    put_string(SHORT_NAME);
+    put_number(1);
+    put_string(SERVICE);
+    put_number(sizeof no_utf8);
+    put(no_utf8, sizeof no_utf8);
+    put_number(0xffffffff);
+    spelt.layout = (uint32_t)made.len;
+    put_number(1);
+    put_number(7);
+    put_string(TYPE_NAME);
+    put_number(4);
+    put_string(FIRST_NAME);
+    put_number(0x0528);
+    put_number(0);
+    put_number(0x29);
+    put_number(0);
+    put_number(0x27);
+    put_string(LAST_NAME);
+    put_number(0x28);
+    put_spelt_row(0);
+    put_spelt_row(1);
+    spelt.end = (uint32_t)made.len;
+    put_end(2);
+}
+
+static void set_number(size_t place, uint32_t number)
+{
+    size_t len = made.len;
+    made.len = place;
+    put_number(number);
+    made.len = len;
+}
+
+/* The layout of the spelt document as a book holds it. */
+static uint32_t lend_spelt_book(void)
+{
+    uint32_t used = spelt.rows[0] - spelt.layout - 4;
+    lend_book(made.at + spelt.layout + 4, used);
+    return used;
+}
+
+static int header_is_accepted(void)
+{
+    lend_words();
+    return painted_header(made.at, made.len, out) == 0 && out[IPDR_HEADER_NEXT] == spelt.layout;
+}
+
+/* Every call accepts the spelt document. */
+static int is_accepted(void)
+{
+    lend_empty_book();
+    return header_is_accepted() && whole_is_accepted(2) && is_run_of_steps(spelt.layout, 0, 0, 3);
+}
+
+/* The whole check gives this refusal, and so does the call that reads the chosen string; calls before it accept. */
+static int is_refused(uint32_t number, uint32_t place)
+{
+    if (!whole_is_refused(number, place))
+        return 0;
+    if (spelt.slot <= SERVICE)
+        return header_is_refused(number, place);
+    int good = header_is_accepted();
+    lend_empty_book();
+    if (spelt.slot <= LAST_NAME)
+        return good && step_is_refused(spelt.layout, 0, 0, number, place);
+    int stated = spelt.slot >= STATED_FIRST;
+    good = good && is_run_of_steps(spelt.layout, 0, 0, (uint64_t)stated + 1);
+    return step_is_refused(spelt.rows[stated], 0, lend_spelt_book(), number, place) && good;
+}
+
+static void spelt_is_refused(const char *what, uint32_t number, uint32_t place)
+{
+    char line[160];
+    snprintf(line, sizeof line, "%s: %u at %u", what, number, place);
+    check(line, is_refused(number, place));
+}
+
+/* A line for a string in every slot, which names the first slot where the answer is another. */
+static void in_every_slot(struct string string, int good)
+{
+    char line[160];
+    int len = snprintf(line, sizeof line, "string");
+    for (size_t i = 0; i < string.size; i++)
+        len += snprintf(line + len, sizeof line - (size_t)len, " %02X", (uint8_t)string.octets[i]);
+    int slot = 0;
+    for (; slot < SLOTS; slot++) {
+        spell((enum slot)slot, string);
+        if (!(good ? is_accepted() : is_refused(IPDR_NOT_UTF8, spelt.lengths[slot])))
+            break;
+    }
+    snprintf(line + len, sizeof line - (size_t)len, ": %s%s%s", good ? "accepted in every place" : "24 at its length in every place",
+             slot < SLOTS ? ", but not as a " : "", slot < SLOTS ? slot_names[slot] : "");
+    check(line, slot == SLOTS);
+}
+
+/* Strings of every form, and what is no string, in every place; the borders of each range of RFC 3629. */
+static void try_strings(void)
+{
+    static const struct string good[] = {
+        STRING(""), STRING("\0"), STRING("\x7f"), STRING("\xc2\x80"), STRING("\xdf\xbf"), STRING("\xe0\xa0\x80"),
+        STRING("\xe0\xbf\xbf"), STRING("\xe1\x80\x80"), STRING("\xec\xbf\xbf"), STRING("\xed\x80\x80"), STRING("\xed\x9f\xbf"),
+        STRING("\xee\x80\x80"), STRING("\xef\xbb\xbf"), STRING("\xef\xbf\xbd"), STRING("\xef\xbf\xbe"), STRING("\xef\xbf\xbf"),
+        STRING("\xf0\x90\x80\x80"), STRING("\xf0\xbf\xbf\xbf"), STRING("\xf1\x80\x80\x80"), STRING("\xf3\xbf\xbf\xbf"),
+        STRING("\xf4\x80\x80\x80"), STRING("\xf4\x8f\xbf\xbf"), STRING("Jos\xc3\xa9"), STRING("\xd0\x96\xd1\x83\xd0\xba"),
+        STRING("\xe6\x9d\xb1\xe4\xba\xac"), STRING("ok \xf0\x9f\x98\x80!"),
+    };
+    static const struct string faults[] = {
+        STRING("\x80"), STRING("\xbf"), STRING("a\x80"), STRING("\xc2\x80\x80"),                           /* tails alone */
+        STRING("\xc0\x80"), STRING("\xc1\xbf"), STRING("\xe0\x80\x80"), STRING("\xe0\x9f\xbf"),             /* longer than need be */
+        STRING("\xf0\x80\x80\x80"), STRING("\xf0\x8f\xbf\xbf"),
+        STRING("\xed\xa0\x80"), STRING("\xed\xbf\xbf"), STRING("\xed\xa0\xbd\xed\xb8\x80"),               /* surrogates */
+        STRING("\xf4\x90\x80\x80"), STRING("\xf5\x80\x80\x80"), STRING("\xf8\x88\x80\x80\x80"),             /* past the last */
+        STRING("\xfe"), STRING("\xff"),
+        STRING("\xc2"), STRING("\xdf"), STRING("\xe0\xa0"), STRING("\xe1\x80"), STRING("\xef\xbf"), STRING("\xf0"), /* cut */
+        STRING("\xf0\x90"), STRING("\xf1\x80\x80"), STRING("\xf4\x8f\xbf"),
+        STRING("\xc2" "A"), STRING("\xe1\x80" "A"), STRING("\xf1\x80\x80" "A"), STRING("\xc2\xc2\x80"),       /* interrupted */
+        STRING("\xe1" "A\x80"), STRING("\xf0\x90" "A\x80"),
+        STRING("Jos\xe9"), STRING("\xe9t\xe9"),                                                           /* an old code */
+    };
+    for (size_t i = 0; i < sizeof good / sizeof good[0]; i++)
+        in_every_slot(good[i], 1);
+    for (size_t i = 0; i < sizeof faults / sizeof faults[0]; i++)
+        in_every_slot(faults[i], 0);
+}
+
+/* What comes before a bad string and what behind it, in the header. */
+static void try_bad_headers(void)
+{
+    spell(RECORDER, bad);
+    made.len = 8 + bad.size;
+    spelt_is_refused("a bad recorder and nothing more", IPDR_NOT_UTF8, 4);
+    made.len--;
+    spelt_is_refused("a bad recorder, its last octet missing", IPDR_CUT_SHORT, 4);
+    spell(RECORDER, bad);
+    set_number(0, 3);
+    spelt_is_refused("a bad recorder of version 3", IPDR_VERSION, 0);
+    spell(RECORDER, bad);
+    set_number(4, 0xffffffff);
+    spelt_is_refused("a bad recorder of FFFFFFFF octets", IPDR_CUT_SHORT, 4);
+    spell(RECORDER, (struct string)STRING("\xc3"));
+    made.at[9] = 0xa9;
+    spelt_is_refused("a recorder that ends inside a character, the start time begins with its rest", IPDR_NOT_UTF8, 4);
+    spell(DEFAULT_NAMESPACE, bad);
+    set_number(spelt.lengths[URI] - 4, 17);
+    spelt_is_refused("a bad default namespace before 17 others", IPDR_NOT_UTF8, spelt.lengths[DEFAULT_NAMESPACE]);
+    spell(URI, bad);
+    set_number(spelt.lengths[URI] - 4, 17);
+    spelt_is_refused("17 namespaces, the first URI bad", IPDR_COUNT, spelt.lengths[URI] - 4);
+    spell(SERVICE, bad);
+    set_number(spelt.lengths[SERVICE] + 4 + bad.size, 15);
+    spelt_is_refused("a bad service definition before an id of 15 octets", IPDR_NOT_UTF8, spelt.lengths[SERVICE]);
+}
+
+static void try_bad_names(void)
+{
+    spell(TYPE_NAME, bad);
+    uint32_t name = spelt.lengths[TYPE_NAME];
+    set_number(name + 4 + bad.size, 65);
+    spelt_is_refused("a bad type name before 65 attributes", IPDR_NOT_UTF8, name);
+    made.len = name + 4 + bad.size;
+    spelt_is_refused("a bad type name and nothing more", IPDR_NOT_UTF8, name);
+    made.len--;
+    spelt_is_refused("a bad type name, its last octet missing", IPDR_CUT_SHORT, name);
+
+    spell(FIRST_NAME, bad);
+    name = spelt.lengths[FIRST_NAME];
+    set_number(name + 4 + bad.size, 0x20);
+    spelt_is_refused("a bad attribute name before no type", IPDR_NOT_UTF8, name);
+    set_number(name + 4 + bad.size, 0x80000028);
+    spelt_is_refused("a bad attribute name before a user-defined type", IPDR_NOT_UTF8, name);
+    spell(LAST_NAME, bad);
+    set_number(spelt.lengths[LAST_NAME] - 4, 0x20);
+    spelt_is_refused("no type before a bad attribute name", IPDR_TYPE, spelt.lengths[LAST_NAME] - 4);
+
+    spell(TYPE_NAME, plain);
+    lend_specimen_book();
+    step_refuses("a layout of a known number with other content: 10", spelt.layout, 0, LAYOUT_SIZE, IPDR_DIFFERS, spelt.layout + 4);
+    static const enum slot names[] = {TYPE_NAME, FIRST_NAME, LAST_NAME};
+    for (size_t i = 0; i < sizeof names / sizeof names[0]; i++) {
+        spell(names[i], bad);
+        step_refuses("the same with a bad name: 24 at its length", spelt.layout, 0, LAYOUT_SIZE, IPDR_NOT_UTF8, spelt.lengths[names[i]]);
+    }
+
+    begin(HEADER_END);
+    for (uint32_t n = 0; n < IPDR_BOOK_MOST; n++)
+        put_layout(n, 0);
+    uint32_t at = (uint32_t)made.len;
+    put_layout(IPDR_BOOK_MOST, 1);
+    made.at[at + 12] = 0x80;
+    put_end(0);
+    whole_refuses("a bad name in a full book: 24 at its length", IPDR_NOT_UTF8, at + 8);
+    lend_empty_book();
+    for (uint32_t n = 0; n < IPDR_BOOK_MOST; n++)
+        memcpy(book + n * 12, made.at + HEADER_END + n * 16 + 4, 12);
+    memcpy(book_before, book, sizeof book);
+    step_refuses("a bad name over a full book: 24 at its length", at, 0, IPDR_BOOK_MOST * 12, IPDR_NOT_UTF8, at + 8);
+}
+
+static void try_bad_values(void)
+{
+    spell(UNSTATED_FIRST, bad);
+    uint32_t first = spelt.lengths[UNSTATED_FIRST];
+    made.at[first + 4 + bad.size] = 2;
+    spelt_is_refused("a bad string before a boolean of 2", IPDR_NOT_UTF8, first);
+    made.len = first + 4 + bad.size;
+    spelt_is_refused("a bad string and nothing more", IPDR_NOT_UTF8, first);
+    made.len--;
+    spelt_is_refused("a bad string, its last octet missing", IPDR_CUT_SHORT, first);
+    spell(UNSTATED_FIRST, (struct string)STRING("\xc3"));
+    made.at[first + 5] = 0xa9;
+    spelt_is_refused("a string that ends inside a character, the next value begins with its rest", IPDR_NOT_UTF8, first);
+    spell(UNSTATED_LAST, bad);
+    uint32_t truth = spelt.lengths[UNSTATED_LAST] - TRUTH_AND_HEX;
+    made.at[truth] = 2;
+    spelt_is_refused("a boolean of 2 before a bad string", IPDR_BOOLEAN, truth);
+
+    spell(STATED_LAST, bad);
+    uint32_t last = spelt.lengths[STATED_LAST], length = spelt.rows[1] + 8, size = spelt.end - length - 4;
+    set_number(length, size - 1);
+    spelt_is_refused("a bad string that passes its row's end", IPDR_ROW_LENGTH, length);
+    set_number(length, size + 1);
+    spelt_is_refused("a bad string before an octet that is left over", IPDR_NOT_UTF8, last);
+    set_number(length, (uint32_t)made.len);
+    spelt_is_refused("a bad string in a row that passes the document's end", IPDR_CUT_SHORT, length);
+    spell(STATED_LAST, plain);
+    set_number(length, spelt.end - length - 4 + 1);
+    spelt_is_refused("a good string before an octet that is left over", IPDR_ROW_LENGTH, length);
+    spell(STATED_FIRST, bad);
+    set_number(length, 4 + (uint32_t)bad.size);
+    spelt_is_refused("a bad string that fills its row, in which values are missing", IPDR_NOT_UTF8, spelt.lengths[STATED_FIRST]);
+    set_number(length, 3 + (uint32_t)bad.size);
+    spelt_is_refused("a bad string of one octet more than its row", IPDR_ROW_LENGTH, length);
+}
+
+static void try_badly_named_books(void)
+{
+    static const enum slot names[] = {TYPE_NAME, FIRST_NAME, LAST_NAME};
+    for (size_t i = 0; i < sizeof names / sizeof names[0]; i++) {
+        spell(names[i], bad);
+        uint32_t used = lend_spelt_book();
+        step_refuses("a book with a bad name, at its layout: 17", spelt.layout, 0, used, IPDR_LENT, 0);
+        step_refuses("a book with a bad name, at a row: 17", spelt.rows[0], 0, used, IPDR_LENT, 0);
+        step_refuses("a book with a bad name, at the end: 17", spelt.end, 2, used, IPDR_LENT, 0);
+        step_refuses("a book with a bad name, past the document: 17", UINT32_MAX, 0, used, IPDR_LENT, 0);
+        lend_empty_book();
+        memcpy(book, specimen + LAYOUT_NUMBER, LAYOUT_SIZE);
+        memcpy(book + LAYOUT_SIZE, made.at + spelt.layout + 4, used);
+        book[LAYOUT_SIZE + 3] = 8;
+        memcpy(book_before, book, sizeof book);
+        begin(SPECIMEN_SIZE);
+        step_refuses("a bad name in the book's second layout: 17", FIRST_ROW, 0, LAYOUT_SIZE + used, IPDR_LENT, 0);
+        step_accepts("a bad name behind the book's used octets", FIRST_ROW, 0, LAYOUT_SIZE, first_row_words);
+    }
+    spell(LAST_NAME, (struct string)STRING("\xd0\x96"));
+    uint32_t used = lend_spelt_book();
+    run_is_steps("a book with a name of other letters", spelt.rows[0], 0, used, 2);
+}
+
+/* Strings of up to 40 letters: a bad octet at each place, and a character of three octets at each. */
+static void try_every_place(void)
+{
+    static const enum slot slots[] = {RECORDER, LAST_NAME, UNSTATED_FIRST, STATED_LAST};
+    char octets[40], line[80];
+    for (size_t size = 1; size <= sizeof octets; size++) {
+        int good = 1;
+        for (size_t i = 0; i < sizeof slots / sizeof slots[0]; i++)
+            for (size_t place = 0; place < size; place++) {
+                memset(octets, 'a', size);
+                octets[place] = (char)(place % 2 ? 0x80 : 0xe9);
+                spell(slots[i], (struct string){size, octets});
+                good = good && whole_is_refused(IPDR_NOT_UTF8, spelt.lengths[slots[i]]);
+                memcpy(octets + place, "\xe6\x9d\xb1", size - place < 3 ? size - place : 3);
+                spell(slots[i], (struct string){size, octets});
+                good = good && (size - place < 3 ? whole_is_refused(IPDR_NOT_UTF8, spelt.lengths[slots[i]]) : whole_is_accepted(2));
+            }
+        snprintf(line, sizeof line, "a bad octet and a character at each place of %zu letters", size);
+        check(line, good);
+    }
+}
+
+/* Strings that fill a document, of characters of two octets. */
+static void try_long_strings(void)
+{
+    static char octets[1000000];
+    for (size_t i = 0; i < sizeof octets; i += 2)
+        memcpy(octets + i, "\xd0\x96", 2);
+    static const enum slot slots[] = {RECORDER, UNSTATED_LAST, STATED_FIRST};
+    for (size_t i = 0; i < sizeof slots / sizeof slots[0]; i++) {
+        char line[80];
+        snprintf(line, sizeof line, "a %s of 1,000,000 octets", slot_names[slots[i]]);
+        octets[sizeof octets - 1] = (char)0x96;
+        spell(slots[i], (struct string){sizeof octets, octets});
+        check(line, is_accepted());
+        octets[sizeof octets - 1] = 'a';
+        spell(slots[i], (struct string){sizeof octets, octets});
+        spelt_is_refused("the same without its last tail", IPDR_NOT_UTF8, spelt.lengths[slots[i]]);
+    }
+}
+
+/* A row of so many strings of one letter of two octets. */
+static void put_letters_row(uint32_t number, uint32_t strings, int stated)
+{
+    put_number(2);
+    put_number(number);
+    put_number(stated ? 6 * strings : 0xffffffff);
+    for (uint32_t i = 0; i < strings; i++) {
+        put_number(2);
+        put((const uint8_t[]){0xd0, 0x96}, 2);
+    }
+}
+
+/* Bad strings in rows under layouts that have plans and layouts that have none: of 64 layouts of 62 strings the first and
+ * the last, in the first, a middle and the last value. */
+static void try_bad_strings_and_plans(void)
+{
+    enum { STRINGS = 62, ROW = 12 + 6 * STRINGS };
+    begin(HEADER_END);
+    for (uint32_t n = 0; n < IPDR_BOOK_MOST; n++)
+        put_wide_layout(n, STRINGS, 0x28);
+    uint32_t rows_at = (uint32_t)made.len;
+    for (uint32_t n = 0; n < 4; n++)
+        put_letters_row(n < 2 ? 0 : IPDR_BOOK_MOST - 1, STRINGS, (int)(n % 2));
+    put_end(4);
+    whole_accepts("rows of letters, with plans and without", 4);
+    lend_empty_book();
+    run_is_steps("a run over rows of letters", HEADER_END, 0, 0, IPDR_BOOK_MOST + 4);
+    uint32_t used = (uint32_t)out[IPDR_RUN_USED];
+    memcpy(book_before, book, sizeof book);
+    for (uint32_t n = 0; n < 4; n++) {
+        static const uint32_t values[] = {0, 30, STRINGS - 1};
+        for (size_t i = 0; i < sizeof values / sizeof values[0]; i++) {
+            uint32_t row = rows_at + n * ROW, length = row + 12 + 6 * values[i];
+            char line[100];
+            snprintf(line, sizeof line, "value %u of row %u bad: 24 at its length", values[i], n);
+            made.at[length + 5] = 'a';
+            whole_refuses(line, IPDR_NOT_UTF8, length);
+            step_refuses(line, row, n, used, IPDR_NOT_UTF8, length);
+            made.at[length + 5] = 0x96;
+        }
+    }
+    made.at[rows_at + 3 * ROW + 17] = 'a';
+    run_is_steps("a run up to a bad string", rows_at, 0, used, 3);
+}
+
 /* What calls have used of their stacks. */
 _Static_assert(IPDR_HEADER_STACK <= 1024 && IPDR_STEP_STACK <= 1024, "calls that keep no plans fit 1,024 octets");
 _Static_assert(IPDR_RUN_STACK <= 4096 && IPDR_WHOLE_STACK <= 4096, "calls that keep plans fit 4,096 octets");
@@ -742,6 +1181,14 @@ int main(void)
     try_large();
     for (uint32_t strings = 42; strings <= 45; strings++)
         try_plans(strings);
+    try_strings();
+    try_bad_headers();
+    try_bad_names();
+    try_bad_values();
+    try_badly_named_books();
+    try_every_place();
+    try_long_strings();
+    try_bad_strings_and_plans();
     try_stacks();
     printf("%d passed, %d failed\n", passed, failed);
     return failed != 0;

@@ -6,10 +6,11 @@ use crate::examples;
 use crate::generate::document::{fullest, padded};
 use crate::generate::random::Random;
 use crate::generate::script::script;
-use crate::generate::{self, bad_input, exhaustive, large, reading, states, values, writing, Case};
+use crate::generate::{self, bad_input, exhaustive, large, reading, states, strings, values, writing, Case};
 use crate::image::image;
 use crate::limits;
 use crate::specimen::{fixed_cases, meaning, SPECIMEN};
+use crate::string_cases::string_cases;
 
 /// Every so many generated cases end in bad input once.
 const BAD_EVERY: u64 = 20;
@@ -26,17 +27,19 @@ impl Named {
     }
 }
 
-/// The documents of the scope, the examples and some documents about the
-/// listing's longest, read in ways that do not depend on a seed.
+/// The documents of the scope, those about strings, the examples and some
+/// documents about the listing's longest, read in ways that do not depend on a
+/// seed.
 pub fn fixed() -> Vec<Named> {
-    let listed =
-        fixed_cases().into_iter().map(|case| (format!("fixed case \"{}\"", case.name), case.document));
+    let cases = fixed_cases().into_iter().chain(string_cases());
+    let listed = cases.map(|case| (format!("fixed case \"{}\"", case.name), case.document));
     let documents = listed.chain(examples()).chain(sized()).zip(0..);
     documents.map(|((label, document), index)| read(index, label, document)).collect()
 }
 
 /// Entries that a probe alone is given: every cut and every changed octet of
-/// small documents, and the specimen in detail, read, asked about and written.
+/// small documents, short strings, and the specimen in detail, read, asked
+/// about and written.
 pub fn fixed_entries() -> Vec<Entry> {
     let mut entries = vec![
         entry("the specimen from 104", specimen_from_104()),
@@ -45,6 +48,10 @@ pub fn fixed_entries() -> Vec<Entry> {
         entry("the fullest document written", fullest_written()),
         entry("states about every border", states::every_border()),
         entry("a value of every type", values::every_value()),
+        entry("short strings as recorders", strings::recorders(&strings::short_strings())),
+        entry("short strings as values", strings::values(&strings::of_borders())),
+        entry("characters at every place of a value", strings::values(&strings::at_every_place(40))),
+        entry("strings given to a writer", strings::given()),
     ];
     for (label, document) in examples() {
         entries.push(entry(&format!("{label}, cut"), exhaustive::every_cut(&document)));

@@ -1,11 +1,12 @@
 //! Elements and books that no call put there.
 
-use super::call::fitting_call;
+use super::call::{fitting_call, spoiled};
 use super::desk::{fresh, put_book, put_state, some_book};
 use super::document::{filling, layout};
 use super::lent_book::whole;
 use super::random::Random;
 use super::script::open_layout;
+use super::spoil;
 use crate::command::{Argument, Command};
 use crate::image::{book_octets, image};
 use crate::limits;
@@ -16,10 +17,14 @@ use crate::writer::state::{State, Turn};
 /// open, a book that may know it, and calls on it.
 pub fn opened_by_hand(random: &mut Random, document: &Document) -> Vec<Command> {
     let mut commands = vec![fresh(random.between(40, 400))];
+    let put = match random.below(4) {
+        0 => spoil::spoiled(random, document),
+        _ => document.clone(),
+    };
     let layouts: Vec<Vec<u8>> = document.layouts().into_iter().map(book_octets).collect();
     for _ in 0..random.between(1, 4) {
         let start = random.below(30) as u64;
-        let element = random.pick(&image(document).pieces());
+        let element = random.pick(&image(&put).pieces());
         let place = start + (element.len() as u64).saturating_sub(random.pick(&[0, 0, 1, 4, 4, 4, 9]));
         let turn = match element[3] {
             1 => random.pick(&[
@@ -64,7 +69,12 @@ pub fn into_a_full_book(random: &mut Random) -> Vec<Command> {
     let mut commands = vec![fresh(random.pick(&[size, size + 3, size + 4, 700]))];
     commands.push(put_state(&State { turn: Turn::Element, ..State::default() }));
     commands.push(put_book(&book.octets, book.used));
-    commands.extend(open_layout(&layout));
+    for call in open_layout(&layout) {
+        if random.one_in(4) {
+            commands.extend(spoiled(random, &call));
+        }
+        commands.push(call);
+    }
     commands.extend([b'z', b'i'].map(Command::new));
     commands
 }

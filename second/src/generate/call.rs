@@ -3,6 +3,7 @@
 use super::field;
 use super::random::Random;
 use super::script::script;
+use super::text;
 use crate::basic::Basic;
 use crate::command::{Argument, Command};
 use crate::limits;
@@ -65,7 +66,7 @@ pub fn fitting_call(random: &mut Random, turn: Turn, document: &Document) -> Com
 /// A call of this letter.
 pub fn call(random: &mut Random, letter: u8) -> Command {
     match letter {
-        b'1' | b'3' | b'5' | b'6' | b'8' | b'm' | b'n' => Command::octets(letter, &octets(random)),
+        b'1' | b'3' | b'5' | b'6' | b'8' | b'm' | b'n' => Command::octets(letter, &string(random)),
         b'2' | b'e' => Command::numbers(letter, &[field::time(random) as u64]),
         b'4' | b'7' | b'c' => Command::numbers(letter, &[count(random)]),
         b'9' => {
@@ -83,10 +84,13 @@ pub fn call(random: &mut Random, letter: u8) -> Command {
     }
 }
 
-fn octets(random: &mut Random) -> Vec<u8> {
+/// A string that may be bad, and may be too long for the room.
+fn string(random: &mut Random) -> Vec<u8> {
     match random.below(90) {
         0 => vec![b'l'; random.pick(&[1000, 65_535, 65_600])],
-        _ => field::string(random),
+        1 => [vec![b'l'; random.pick(&[1000, 65_535, 65_599])], vec![0xe9]].concat(),
+        2..=24 => text::bad(random),
+        _ => text::string(random),
     }
 }
 
@@ -104,8 +108,25 @@ fn given(random: &mut Random, basic: Basic) -> Command {
         Basic::Boolean => random.pick(&[0, 1, 1, 2, 3, 255, 256, 257, 258, u64::MAX - 254]),
         _ => field::bits(random),
     };
-    let octets = Argument::Octets(octets(random));
-    Command::numbers(b'v', &[basic.low().into(), bits]).and(octets)
+    let octets = match basic {
+        Basic::HexBinary => field::octets(random),
+        _ => string(random),
+    };
+    Command::numbers(b'v', &[basic.low().into(), bits]).and(Argument::Octets(octets))
+}
+
+/// The same call with a bad string; none where it takes no string.
+pub fn spoiled(random: &mut Random, old: &Command) -> Option<Command> {
+    let takes_a_string = match old.arguments[..] {
+        [Argument::Number(low), ..] if old.letter == b'v' => low == Basic::String.low().into(),
+        _ => b"13568mn".contains(&old.letter),
+    };
+    let mut command = old.clone();
+    match command.arguments.last_mut() {
+        Some(Argument::Octets(octets)) if takes_a_string => *octets = text::bad(random),
+        _ => return None,
+    }
+    Some(command)
 }
 
 /// A call with other arguments; a value mostly keeps its type.

@@ -2,10 +2,11 @@
 
 use super::field::{self, BORDERS32};
 use super::random::Random;
+use super::text;
 use crate::image::{Image, Mark};
 
 /// The kinds of damage; those inside rows count double.
-const KINDS: [fn(&mut Random, &Image) -> Vec<u8>; 25] = [
+const KINDS: [fn(&mut Random, &Image) -> Vec<u8>; 31] = [
     cut_anywhere,
     cut_at_a_field,
     grown,
@@ -28,9 +29,15 @@ const KINDS: [fn(&mut Random, &Image) -> Vec<u8>; 25] = [
     boolean_bad,
     kind_bad,
     type_doubtful,
+    type_doubtful,
     end_count_changed,
     header_number_changed,
     row_of_another_layout,
+    string_bad,
+    string_bad,
+    string_bad_and_its_length,
+    string_bad_before_a_fault,
+    layout_badly_named_under_its_number,
 ];
 
 /// One kind of damage; where it moved nothing, sometimes a second one.
@@ -109,7 +116,7 @@ fn length_wrong(random: &mut Random, image: &Image) -> Vec<u8> {
     changed(
         random,
         image,
-        |mark| mark == Mark::Length,
+        |mark| matches!(mark, Mark::Length | Mark::StringLength),
         |random, was| match random.below(4) {
             0 => random.pick(&[u32::MAX, u32::MAX - 3, 0x8000_0000, 0x7fff_ffff]),
             1 => rest.wrapping_sub(random.below(80) as u32),
@@ -155,15 +162,33 @@ fn element_behind_the_end(random: &mut Random, image: &Image) -> Vec<u8> {
 /// A layout stands a second time before the end, with one octet changed that
 /// is not of its kind or number.
 fn layout_changed_under_its_number(random: &mut Random, image: &Image) -> Vec<u8> {
+    layout_again(random, image, |random, layout| {
+        let place = random.between(8, layout.len() - 1);
+        layout[place] ^= 1 << random.below(8);
+    })
+}
+
+/// A layout stands a second time before the end, and its type name is bad.
+fn layout_badly_named_under_its_number(random: &mut Random, image: &Image) -> Vec<u8> {
+    layout_again(random, image, |random, layout| {
+        // Its length may have been damaged before.
+        let end = (12 + number_at(layout, 8) as usize).min(layout.len());
+        let name = text::bad(random);
+        layout.splice(8..end, [&(name.len() as u32).to_be_bytes()[..], &name].concat());
+    })
+}
+
+/// A layout once more, changed, behind itself and before the end.
+fn layout_again(random: &mut Random, image: &Image, change: impl Fn(&mut Random, &mut Vec<u8>)) -> Vec<u8> {
     let mut pieces = image.pieces();
-    let layouts: Vec<usize> = (1..pieces.len()).filter(|index| pieces[*index][..4] == [0, 0, 0, 1]).collect();
+    let is_layout = |index: &usize| pieces[*index][..4] == [0, 0, 0, 1];
+    let layouts: Vec<usize> = (1..pieces.len() - 1).filter(is_layout).collect();
     if layouts.is_empty() {
         return element_removed(random, image);
     }
     let index = random.pick(&layouts);
     let mut changed = pieces[index].clone();
-    let place = random.between(8, changed.len() - 1);
-    changed[place] ^= 1 << random.below(8);
+    change(random, &mut changed);
     let again = random.between(index + 1, pieces.len() - 1);
     pieces.insert(again, changed);
     pieces.concat()
@@ -236,6 +261,76 @@ fn row_of_another_layout(random: &mut Random, image: &Image) -> Vec<u8> {
     octets
 }
 
+/// A fault over some octets of a string.
+fn string_bad(random: &mut Random, image: &Image) -> Vec<u8> {
+    spoiled_at(random, image).map_or_else(|| octets_changed(random, image), |(octets, _)| octets)
+}
+
+/// A bad string, of which the length is wrong too.
+fn string_bad_and_its_length(random: &mut Random, image: &Image) -> Vec<u8> {
+    let Some((mut octets, place)) = spoiled_at(random, image) else {
+        return length_wrong(random, image);
+    };
+    let length = match random.below(3) {
+        0 => (octets.len() - place - 3) as u32,
+        _ => a_little_off(random, number_at(&octets, place)),
+    };
+    octets[place..place + 4].copy_from_slice(&length.to_be_bytes());
+    octets
+}
+
+/// A bad string, and a fault of another kind that may stand before or behind it.
+fn string_bad_before_a_fault(random: &mut Random, image: &Image) -> Vec<u8> {
+    let octets = string_bad(random, image);
+    let image = Image { octets, ..image.clone() };
+    random.pick(&[type_doubtful, boolean_bad, row_length_wrong, row_length_wrong])(random, &image)
+}
+
+/// The image with a fault in a string that has octets, and the place of its length.
+fn spoiled_at(random: &mut Random, image: &Image) -> Option<(Vec<u8>, usize)> {
+    let mut octets = image.octets.clone();
+    let is_string = |mark: &Mark| *mark == Mark::StringLength;
+    let strings = image.marks.iter().filter(|(_, mark)| is_string(mark)).map(|(place, _)| *place);
+    let filled: Vec<usize> = strings.filter(|place| string_at(&octets, *place).is_some()).collect();
+    let wanted = random.pick(&[Part::Header, Part::Layout, Part::Row, Part::Row]);
+    let chosen: Vec<usize> = filled.iter().copied().filter(|place| part(image, *place) == wanted).collect();
+    let place = match (&chosen[..], &filled[..]) {
+        ([], []) => return None,
+        ([], filled) => random.pick(filled),
+        (chosen, _) => random.pick(chosen),
+    };
+    let string = string_at(&octets, place)?;
+    text::spoil(random, &mut octets[string]);
+    Some((octets, place))
+}
+
+#[derive(Clone, PartialEq)]
+enum Part {
+    Header,
+    Layout,
+    Row,
+}
+
+/// What a string at a place belongs to.
+fn part(image: &Image, place: usize) -> Part {
+    match image.starts.iter().rposition(|start| *start <= place) {
+        None | Some(0) => Part::Header,
+        Some(index) if image.octets[image.starts[index]..][..4] == [0, 0, 0, 1] => Part::Layout,
+        Some(_) => Part::Row,
+    }
+}
+
+/// Where the octets of a string stand, if it has any and they are all there.
+fn string_at(octets: &[u8], place: usize) -> Option<std::ops::Range<usize>> {
+    let from = place + 4;
+    let to = from.checked_add(number_at(octets, place) as usize)?;
+    (from < to && to <= octets.len()).then_some(from..to)
+}
+
+fn number_at(octets: &[u8], place: usize) -> u32 {
+    octets[place..place + 4].iter().fold(0, |number, octet| number << 8 | u32::from(*octet))
+}
+
 fn a_little_off(random: &mut Random, was: u32) -> u32 {
     was.wrapping_add(random.pick(&[1, 1, 2, 4, 8])).wrapping_sub(random.pick(&[0, 2, 4, 9]))
 }
@@ -261,9 +356,7 @@ fn changed(
         return octets_changed(random, image);
     };
     let mut octets = image.octets.clone();
-    let mut was = [0; 4];
-    was.copy_from_slice(&octets[place..place + 4]);
-    let number = to(random, u32::from_be_bytes(was));
+    let number = to(random, number_at(&octets, place));
     octets[place..place + 4].copy_from_slice(&number.to_be_bytes());
     octets
 }

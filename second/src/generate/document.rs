@@ -3,6 +3,7 @@
 
 use super::field;
 use super::random::Random;
+use super::text;
 use crate::basic::Basic;
 use crate::image::{book_octets, image};
 use crate::limits;
@@ -86,23 +87,22 @@ fn header(random: &mut Random, namespaces: usize, services: usize) -> Header {
         id.copy_from_slice(&random.octets(limits::ID));
     }
     Header {
-        recorder: field::string(random),
+        recorder: text::string(random),
         start: field::time(random),
-        namespace: field::string(random),
+        namespace: text::string(random),
         namespaces: (0..namespaces)
-            .map(|_| Namespace { uri: field::string(random), short: field::string(random) })
+            .map(|_| Namespace { uri: text::string(random), short: text::string(random) })
             .collect(),
-        services: (0..services).map(|_| field::string(random)).collect(),
+        services: (0..services).map(|_| text::string(random)).collect(),
         id,
     }
 }
 
 pub fn layout(random: &mut Random, number: u32, attributes: usize) -> Layout {
-    let attribute =
-        |random: &mut Random| Attribute { name: field::string(random), kind: field::kind(random) };
+    let attribute = |random: &mut Random| Attribute { name: text::string(random), kind: field::kind(random) };
     Layout {
         number,
-        name: field::string(random),
+        name: text::string(random),
         attributes: (0..attributes).map(|_| attribute(random)).collect(),
     }
 }

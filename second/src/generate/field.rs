@@ -1,11 +1,13 @@
-//! Single fields: strings, times, numbers, types and values.
+//! Single fields: octets, times, numbers, types and values.
 
 use super::random::Random;
+use super::text;
 use crate::basic::{Basic, BASICS};
 use crate::meaning::Value;
 use crate::time::{new_year, LAST};
 
-pub fn string(random: &mut Random) -> Vec<u8> {
+/// What a hexBinary may be, which is anything.
+pub fn octets(random: &mut Random) -> Vec<u8> {
     const ODD: &[u8] = &[0, 0x0a, 0x1f, 0x20, 0x21, b'%', b'=', b'0', 0x7e, 0x7f, 0x80, 0xc3, 0xfe, 0xff];
     match random.below(10) {
         0 | 1 => vec![],
@@ -101,7 +103,7 @@ pub fn number(random: &mut Random) -> u32 {
 /// A basic type; those that can be wrong inside a row are the likelier ones.
 pub fn basic(random: &mut Random) -> Basic {
     match random.below(3) {
-        0 => random.pick(&[Basic::HexBinary, Basic::String, Basic::Boolean]),
+        0 => random.pick(&[Basic::HexBinary, Basic::String, Basic::String, Basic::Boolean, Basic::Boolean]),
         _ => random.pick(&BASICS).1,
     }
 }
@@ -140,7 +142,8 @@ pub fn bits(random: &mut Random) -> u64 {
 
 pub fn value(random: &mut Random, basic: Basic) -> Value {
     match basic {
-        Basic::HexBinary | Basic::String => Value::octets(basic, &string(random)),
+        Basic::HexBinary => Value::octets(basic, &octets(random)),
+        Basic::String => Value::octets(basic, &text::string(random)),
         Basic::Boolean => Value::number(basic, random.below(2) as u64),
         _ => Value::number(basic, bits(random)),
     }

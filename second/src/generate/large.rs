@@ -12,7 +12,7 @@ use crate::limits;
 use crate::meaning::{Document, Item, Layout};
 
 /// How many large cases there are.
-pub const COUNT: u64 = 9;
+pub const COUNT: u64 = 12;
 
 pub fn case(seed: u64, index: u64) -> Case {
     let mut random = Random::of(seed, u64::MAX - index);
@@ -35,8 +35,25 @@ fn octets(random: &mut Random, index: u64) -> Vec<u8> {
             let image = image(&with_rows(random, 60_000));
             damage::damaged(random, &image)
         }
-        _ => damage::damaged(random, &image(&padded(small, limits::DOCUMENT - 20))),
+        8 => damage::damaged(random, &image(&padded(small, limits::DOCUMENT - 20))),
+        9 => image(&padded(of_a_script(small), limits::DOCUMENT)).octets,
+        10 => image(&ending_badly(padded(of_a_script(small), limits::DOCUMENT))).octets,
+        _ => image(&ending_badly(padded(small, limits::DOCUMENT))).octets,
     }
+}
+
+/// The document with a long recorder of characters of two to four octets.
+fn of_a_script(mut document: Document) -> Document {
+    document.header.recorder = "Ж東😀".repeat(100_000).into_bytes();
+    document
+}
+
+/// The document with a fault in the last octet of its recorder, which has some.
+fn ending_badly(mut document: Document) -> Document {
+    let recorder = &mut document.header.recorder;
+    recorder.pop();
+    recorder.push(0xe9);
+    document
 }
 
 /// A document of rows that take twelve octets each.

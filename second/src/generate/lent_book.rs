@@ -3,8 +3,11 @@
 use super::document;
 use super::field;
 use super::random::Random;
+use super::spoil;
+use super::text;
 use crate::image::book_octets;
 use crate::limits;
+use crate::meaning::Layout;
 
 /// A book as it is lent, with the count of its octets said to be used.
 #[derive(Clone, Debug)]
@@ -16,7 +19,7 @@ pub struct LentBook {
 /// A book that holds some of the layouts given, others, or no layouts.
 pub fn lent_book(random: &mut Random, layouts: &[Vec<u8>]) -> LentBook {
     let mut chosen = layouts.to_vec();
-    match random.below(16) {
+    match random.below(18) {
         0..=2 => {}
         3 | 4 => random.shuffle(&mut chosen),
         5 => {
@@ -35,6 +38,10 @@ pub fn lent_book(random: &mut Random, layouts: &[Vec<u8>]) -> LentBook {
         12 => return short(random, &chosen.concat()),
         13 => return wrongly_used(random, &chosen.concat()),
         14 => chosen.clear(),
+        15 | 16 => {
+            let place = random.below(chosen.len() + 1);
+            chosen.insert(place, badly_named(random));
+        }
         _ => chosen.insert(0, other_layout(random)),
     }
     whole(random, &chosen.concat())
@@ -79,15 +86,24 @@ pub fn odd_used(random: &mut Random, used: u64) -> u64 {
 }
 
 fn other_layout(random: &mut Random) -> Vec<u8> {
+    book_octets(&some_layout(random))
+}
+
+fn badly_named(random: &mut Random) -> Vec<u8> {
+    let layout = some_layout(random);
+    book_octets(&spoil::badly_named(random, &layout))
+}
+
+fn some_layout(random: &mut Random) -> Layout {
     let number = field::number(random);
     let attributes = random.below(4);
-    book_octets(&document::layout(random, number, attributes))
+    document::layout(random, number, attributes)
 }
 
 fn small(random: &mut Random, number: u32) -> Vec<u8> {
     let mut layout = document::layout(random, number, 1);
-    layout.name.truncate(20);
-    layout.attributes[0].name.truncate(20);
+    text::shorten(&mut layout.name, 20);
+    text::shorten(&mut layout.attributes[0].name, 20);
     book_octets(&layout)
 }
 

@@ -13,8 +13,11 @@ pub mod lent_book;
 pub mod random;
 pub mod reading;
 pub mod script;
+pub mod spoil;
 pub mod states;
 pub mod stray;
+pub mod strings;
+pub mod text;
 pub mod values;
 pub mod visit;
 pub mod wander;
@@ -32,10 +35,15 @@ pub struct Case {
     pub commands: Vec<Command>,
 }
 
-/// A document, good or damaged, what is done with it, and a writer's script.
+/// A document, good, with a bad string or damaged, what is done with it, and
+/// a writer's script.
 pub fn case(seed: u64, index: u64) -> Case {
     let mut random = Random::of(seed, index);
-    let image = image(&document::document(&mut random));
+    let mut meaning = document::document(&mut random);
+    if random.one_in(6) {
+        meaning = spoil::spoiled(&mut random, &meaning);
+    }
+    let image = image(&meaning);
     let mut document = match random.below(5) {
         0 | 1 => image.octets.clone(),
         _ => damage::damaged(&mut random, &image),

@@ -38,12 +38,14 @@ pub fn commands(random: &mut Random, document: &[u8], starts: &[usize]) -> Vec<C
 }
 
 impl Read<'_> {
-    /// Steps from an empty book, not so many in most cases; here and there a
-    /// question on the element before the step takes it.
+    /// Steps from an empty book, not so many in most cases; here and there, and
+    /// often where the reading ends, questions on the element before the step
+    /// takes it.
     fn walk(&self, random: &mut Random, commands: &mut Vec<Command>) {
         let most = random.pick(&[4, 8, 8, 12, 12, 70]);
         for visit in self.seen.visits.iter().take(most) {
-            if random.one_in(3) {
+            let is_last = self.seen.visits.last() == Some(visit);
+            if random.one_in(if is_last { 2 } else { 3 }) {
                 self.questions(random, visit, commands);
             }
             commands.push(step(visit));

@@ -76,26 +76,27 @@ fn opened(turn: Turn) -> Command {
 /// Every call that the turn allows, and at last one that it does not.
 fn calls(turn: Turn) -> Vec<Command> {
     let text = |letter| Command::octets(letter, b"x");
+    let bad = |letter| Command::octets(letter, b"x\xe9");
     let number = |letter, n| Command::numbers(letter, &[n]);
     let value = |basic| Command::numbers(b'v', &[basic, 1]).and(Argument::Octets(vec![]));
     let give_up = Command::new(b'z');
     match turn {
-        Turn::Recorder => vec![text(b'1'), give_up],
+        Turn::Recorder => vec![text(b'1'), bad(b'1'), give_up],
         Turn::StartTime => vec![number(b'2', 1), give_up],
-        Turn::DefaultNamespace => vec![text(b'3'), give_up],
+        Turn::DefaultNamespace => vec![text(b'3'), bad(b'3'), give_up],
         Turn::NamespaceCount => vec![number(b'4', 16), number(b'4', 17), give_up],
-        Turn::Uri => vec![text(b'5'), give_up],
-        Turn::ShortName => vec![text(b'6'), text(b'5')],
+        Turn::Uri => vec![text(b'5'), bad(b'5'), give_up],
+        Turn::ShortName => vec![text(b'6'), bad(b'6'), text(b'5'), bad(b'5')],
         Turn::ServiceCount => vec![number(b'7', 16), number(b'7', 17), give_up],
-        Turn::Service => vec![text(b'8'), give_up],
-        Turn::DocumentId => vec![Command::octets(b'9', &[1; 16]), text(b'9'), give_up],
+        Turn::Service => vec![text(b'8'), bad(b'8'), give_up],
+        Turn::DocumentId => vec![Command::octets(b'9', &[0xe9; 16]), text(b'9'), bad(b'9'), give_up],
         Turn::Element => {
             let rows = [7, 9].map(|layout| Command::numbers(b'o', &[layout, 1]));
             [&[number(b'k', 1), number(b'e', 1), give_up][..], &rows].concat()
         }
-        Turn::TypeName => vec![text(b'm'), give_up, Command::new(b'x')],
+        Turn::TypeName => vec![text(b'm'), bad(b'm'), give_up, Command::new(b'x')],
         Turn::AttributeCount => vec![number(b'c', 0), number(b'c', 64), number(b'c', 65), give_up],
-        Turn::AttributeName => vec![text(b'n'), give_up, text(b'm')],
+        Turn::AttributeName => vec![text(b'n'), bad(b'n'), give_up, text(b'm')],
         Turn::AttributeType => vec![number(b'u', 0x21), number(b'u', 0x20), give_up],
         Turn::Value => vec![value(0x22), value(0x2a), Command::new(b'x'), give_up, text(b'n')],
         Turn::Nothing => vec![number(b'e', 1), text(b'1'), give_up],

@@ -8,7 +8,11 @@ use crate::limits;
 use crate::meaning::{Attribute, Layout};
 use crate::writer::state::{State, Turn};
 
-/// A row of every type that is given a value of every type in each field.
+/// No string, but a hexBinary like others.
+const BAD: &[u8] = b"Jos\xe9";
+
+/// A row of every type that is given a value of every type in each field,
+/// and of the type string a bad one before each other value.
 pub fn every_value() -> Vec<Command> {
     let attribute = |(low, _): &(u8, Basic)| Attribute { name: vec![], kind: (*low).into() };
     let layout = Layout { number: 7, name: vec![], attributes: BASICS.iter().map(attribute).collect() };
@@ -21,7 +25,9 @@ pub fn every_value() -> Vec<Command> {
     for field in 0..=BASICS.len() {
         let (right, wrong): (Vec<_>, Vec<_>) = BASICS.iter().zip(0..).partition(|(_, index)| *index == field);
         for ((low, basic), _) in wrong.into_iter().chain(right) {
-            commands.extend(bits(*basic).iter().map(|bits| value(*low, *bits)));
+            commands.push(value(Basic::String.low(), 0, BAD));
+            let octets = if *basic == Basic::HexBinary { BAD } else { b"octets" };
+            commands.extend(bits(*basic).iter().map(|bits| value(*low, *bits, octets)));
         }
         commands.push(Command::new(b'x'));
     }
@@ -37,6 +43,6 @@ fn bits(basic: Basic) -> &'static [u64] {
     }
 }
 
-fn value(low: u8, bits: u64) -> Command {
-    Command::numbers(b'v', &[low.into(), bits]).and(Argument::Octets(b"octets".to_vec()))
+fn value(low: u8, bits: u64, octets: &[u8]) -> Command {
+    Command::numbers(b'v', &[low.into(), bits]).and(Argument::Octets(octets.to_vec()))
 }

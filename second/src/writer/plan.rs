@@ -9,6 +9,7 @@ use crate::header::{NO_ELEMENT_COUNT, VERSION};
 use crate::layout::Attribute;
 use crate::limits;
 use crate::row::UNSTATED;
+use crate::utf8;
 
 /// The changes of an accepted call.
 #[derive(Clone, Debug, PartialEq, Eq)]
@@ -36,23 +37,23 @@ impl Asked<'_> {
     pub fn plan(&self, call: &Call) -> Result<Plan, u8> {
         match *call {
             Call::Recorder(octets) => {
-                Ok(self.put(Turn::StartTime, [words(&[VERSION]), led(octets)].concat()))
+                Ok(self.put(Turn::StartTime, [words(&[VERSION]), string(octets)?].concat()))
             }
             Call::StartTime(time) => Ok(self.put(Turn::DefaultNamespace, time.to_be_bytes().to_vec())),
-            Call::DefaultNamespace(octets) => Ok(self.put(Turn::NamespaceCount, led(octets))),
+            Call::DefaultNamespace(octets) => Ok(self.put(Turn::NamespaceCount, string(octets)?)),
             Call::NamespaceCount(n) => self.list(n, limits::LISTED, Turn::Uri, Turn::ServiceCount),
-            Call::Uri(octets) => Ok(self.put(Turn::ShortName, led(octets))),
-            Call::ShortName(octets) => Ok(self.listed(octets, Turn::Uri, Turn::ServiceCount)),
+            Call::Uri(octets) => Ok(self.put(Turn::ShortName, string(octets)?)),
+            Call::ShortName(octets) => self.listed(octets, Turn::Uri, Turn::ServiceCount),
             Call::ServiceCount(n) => self.list(n, limits::LISTED, Turn::Service, Turn::DocumentId),
-            Call::Service(octets) => Ok(self.listed(octets, Turn::Service, Turn::DocumentId)),
+            Call::Service(octets) => self.listed(octets, Turn::Service, Turn::DocumentId),
             Call::DocumentId(octets) => self.document_id(octets),
             Call::OpenLayout(number) => {
                 Ok(self.open(Turn::TypeName, words(&[Kind::Layout.number(), number])))
             }
-            Call::TypeName(octets) => Ok(self.put(Turn::AttributeCount, led(octets))),
+            Call::TypeName(octets) => Ok(self.put(Turn::AttributeCount, string(octets)?)),
             Call::AttributeCount(0) => self.complete(words(&[0])),
             Call::AttributeCount(n) => self.list(n, limits::ATTRIBUTES, Turn::AttributeName, Turn::Element),
-            Call::AttributeName(octets) => Ok(self.put(Turn::AttributeType, led(octets))),
+            Call::AttributeName(octets) => Ok(self.put(Turn::AttributeType, string(octets)?)),
             Call::AttributeType(bits) => self.attribute_type(bits),
             Call::OpenRow { number, stated } => self.open_row(number, stated),
             Call::Value(given) => self.value(&given),
@@ -80,11 +81,11 @@ impl Asked<'_> {
     }
 
     /// The last string of an item, and the turn of the next or behind the list.
-    fn listed(&self, octets: &[u8], item: Turn, behind: Turn) -> Plan {
+    fn listed(&self, octets: &[u8], item: Turn, behind: Turn) -> Result<Plan, u8> {
         let left = self.state.count - 1;
-        let mut plan = self.put(if left > 0 { item } else { behind }, led(octets));
+        let mut plan = self.put(if left > 0 { item } else { behind }, string(octets)?);
         plan.next.count = left;
-        plan
+        Ok(plan)
     }
 
     fn document_id(&self, octets: &[u8]) -> Result<Plan, u8> {
@@ -138,7 +139,7 @@ impl Asked<'_> {
         if basic != Some(given.basic) || is_bad_boolean {
             return Err(21);
         }
-        let mut plan = self.put(Turn::Value, given.image());
+        let mut plan = self.put(Turn::Value, given.image()?);
         plan.next.count += 1;
         Ok(plan)
     }
@@ -185,16 +186,25 @@ impl Asked<'_> {
 }
 
 impl Given<'_> {
-    fn image(&self) -> Vec<u8> {
+    fn image(&self) -> Result<Vec<u8>, u8> {
         match self.basic.width() {
-            Some(width) => self.bits.to_be_bytes()[8 - width..].to_vec(),
-            None => led(self.octets),
+            Some(width) => Ok(self.bits.to_be_bytes()[8 - width..].to_vec()),
+            None if self.basic == Basic::String => string(self.octets),
+            None => Ok(led(self.octets)),
         }
     }
 }
 
 fn words(words: &[u32]) -> Vec<u8> {
     words.iter().flat_map(|word| word.to_be_bytes()).collect()
+}
+
+/// A string behind its length, or 24 where it is not UTF-8.
+fn string(octets: &[u8]) -> Result<Vec<u8>, u8> {
+    if !utf8::is_well_formed(octets) {
+        return Err(24);
+    }
+    Ok(led(octets))
 }
 
 /// Octets behind their length. The length of octets that no room holds is cut,
