@@ -1,3 +1,4 @@
 pub mod Ascii
 pub mod Characters
 pub mod Grammar
+pub mod Computed
