@@ -2,3 +2,4 @@ pub mod Ascii
 pub mod Characters
 pub mod Grammar
 pub mod Computed
+pub mod Contracts
