@@ -2,18 +2,17 @@
 use Prim.Native.Nat.{ℕ, zero, suc, _+_, _-_, _≤_, _<_}
 use mathlib.Core.Path.{_≡_, refl, sym, ap, _∙_, subst}
 use mathlib.Core.List.{List, [], _∷_}
-use mathlib.Core.Bool.{Bool, true, false, _&&_}
+use mathlib.Core.Bool.{Bool, true, false}
 use mathlib.Core.Option.{Option, some, none}
 use native.Mathlib.Numerals.{add-one}
 use native.Mathlib.Omega.{arith}
 use lib.ListN.{length, getD}
 use lib.Seq.{drop-cons}
-use lib.Dec.{leb, ltb}
-use borrow.Author.Tests.{le-leb, lt-leb, leb-true, leb-false, ltb-true, ltb-false}
+use lib.Dec.{leb}
+use borrow.Author.Tests.{le-leb, lt-leb, leb-true, leb-false}
 use Rattle.octets.specs.Reading.{choose, part}
-use Rattle.octets.proofs.Copies.{both-true}
 use Rattle.utf8.specs.Utf8.{Range, _‥_, within, tail, forms, opens, spells, utf8}
-use Rattle.utf8.specs.Answers.{stands, Plain, Passes}
+use Rattle.utf8.specs.Answers.{Plain, Steps, Passes}
 use Rattle.utf8.specs.declared.Passed.{Passed}
 use Rattle.utf8.specs.declared.Passed.the-variants.{To, None}
 
@@ -54,9 +53,9 @@ sides-between a b x ((r ∷ rest) ∷ lines) e h g =
 pub alike : (a b x : ℕ) → sides a forms ≡ sides b forms → a ≤ x → x ≤ b → opens x forms ≡ opens a forms
 alike a b x e h g = opens-by x a forms (sides-between a b x forms e h g)
 
-pub by-line : (a b x : ℕ) (s : List ℕ) (at to : ℕ) (p : Passed) → sides a forms ≡ sides b forms → a ≤ x → x ≤ b
-    → Passes (opens a forms) s at to p → Passes (opens x forms) s at to p
-by-line a b x s at to p e h g = subst (λ (o : Option (List Range)). Passes o s at to p) (sym (alike a b x e h g))
+-- So what holds of what the first of them opens holds of what each does.
+pub by-line : (P : Option (List Range) → Type 0) (a b x : ℕ) → sides a forms ≡ sides b forms → a ≤ x → x ≤ b → P (opens a forms) → P (opens x forms)
+by-line P a b x e h g = subst P (sym (alike a b x e h g))
 
 pub spells-none : (xs : List ℕ) → spells none xs ≡ false
 unfolding spells
@@ -80,40 +79,39 @@ part-none : (s : List ℕ) (at to : ℕ) → to ≤ at → part s at (to - at) �
 unfolding part
 part-none s at to h = let none : to - at ≡ 0 = omega arith in rw none refl
 
-module _ (s : List ℕ) (at to : ℕ) (fits : to ≤ length s) where
-  passes-on : (o p : Option (List Range)) (r : Passed) → spells o (part s at (to - at)) ≡ spells p (part s (at + 1) (to - (at + 1)))
-      → Passes p s (at + 1) to r → Passes o s at to r
-  passes-on o p (To next) e (h, g, f) = (omega arith, g, e ∙ f)
-  passes-on o p None e f = e ∙ f
+module _ (s : List ℕ) (at to : ℕ) where
+  -- A step, and what is passed behind it.
+  module _ (o p : Option (List Range)) {t : Bool} (step : Steps o p s at to t) where
+    pub step-inside : t ≡ true → at + 1 ≤ to
+    step-inside e = subst (Steps o p s at to) e step .0
 
-  -- Between two characters an octet says what is wanted behind it.
-  pub opened : at < to → spells (some []) (part s at (to - at)) ≡ spells (opens (getD s at 0) forms) (part s (at + 1) (to - (at + 1)))
+    pub step-pass : t ≡ true → (r : Passed) → Passes p s (at + 1) to r → Passes o s at to r
+    step-pass e r f = go r f (subst (Steps o p s at to) e step)
+      where
+        go : (r : Passed) → Passes p s (at + 1) to r → Steps o p s at to true → Passes o s at to r
+        go (To next) (past, inside, same) (h, on) = (omega arith, inside, on ∙ same)
+        go None same (h, on) = on ∙ same
+
+    pub step-none : t ≡ false → Passes o s at to None
+    step-none e = subst (Steps o p s at to) e step
+
+  pub steps-end : (r : Range) (rest : List Range) → to ≤ at → Steps (some (r ∷ rest)) (some rest) s at to false
   unfolding spells
-  opened h = ap (spells (some [])) (part-next s at to h fits)
+  steps-end r rest h = ap (spells (some (r ∷ rest))) (part-none s at to h)
 
-  -- The octet that is wanted stands there, and what is passed behind it is passed with it; or it is missing.
-  pub stood : (r : Range) {t : Bool} → t ≡ stands r s at to → t ≡ true → at + 1 ≤ to
-  stood r is e = let before = ltb-true at to (both-true (ltb at to) (within r (getD s at 0)) (sym is ∙ e) .0) in omega arith
+  module _ (fits : to ≤ length s) (h : at < to) where
+    -- Between two characters an octet says what is wanted behind it.
+    pub opened : spells (some []) (part s at (to - at)) ≡ spells (opens (getD s at 0) forms) (part s (at + 1) (to - (at + 1)))
+    unfolding spells
+    opened = ap (spells (some [])) (part-next s at to h fits)
 
-  pub wanted : (r : Range) (rest : List Range) {t : Bool} → t ≡ stands r s at to → t ≡ true
-      → (p : Passed) → Passes (some rest) s (at + 1) to p → Passes (some (r ∷ rest)) s at to p
-  unfolding spells
-  wanted r rest is e p q =
-      passes-on (some (r ∷ rest)) (some rest) p
-      (ap (spells (some (r ∷ rest))) (part-next s at to (let before = stood r is e in omega arith) fits)
-      ∙ wants r rest (getD s at 0) (part s (at + 1) (to - (at + 1))) true (both-true (ltb at to) (within r (getD s at 0)) (sym is ∙ e) .1))
-      q
-
-  pub missing : (r : Range) (rest : List Range) {t : Bool} → t ≡ stands r s at to → t ≡ false → Passes (some (r ∷ rest)) s at to None
-  unfolding spells
-  missing r rest is e = go (ltb at to) refl (sym is ∙ e)
-    where
-      go : (t : Bool) → ltb at to ≡ t → t && within r (getD s at 0) ≡ false → spells (some (r ∷ rest)) (part s at (to - at)) ≡ false
-      go true q e =
-          ap (spells (some (r ∷ rest))) (part-next s at to (ltb-true at to q) fits)
-          ∙ wants r rest (getD s at 0) (part s (at + 1) (to - (at + 1))) false e
-          ∙ spells-none (part s (at + 1) (to - (at + 1)))
-      go false q e = ap (spells (some (r ∷ rest))) (part-none s at to (ltb-false at to q))
+    pub steps-within : (r : Range) (rest : List Range) (t : Bool) → within r (getD s at 0) ≡ t → Steps (some (r ∷ rest)) (some rest) s at to t
+    steps-within r rest t e = go t (ap (spells (some (r ∷ rest))) (part-next s at to h fits) ∙ wants r rest (getD s at 0) (part s (at + 1) (to - (at + 1))) t e)
+      where
+        go : (t : Bool) → spells (some (r ∷ rest)) (part s at (to - at)) ≡ spells (choose t (λ _. some rest) (λ _. none)) (part s (at + 1) (to - (at + 1)))
+            → Steps (some (r ∷ rest)) (some rest) s at to t
+        go true f = (omega arith, f)
+        go false f = f ∙ spells-none (part s (at + 1) (to - (at + 1)))
 
 -- ASCII octets are characters.
 ascii-each : (s : List ℕ) (k at to : ℕ) → at + k ≤ to → to ≤ length s → Plain s at (at + k)

@@ -2,12 +2,11 @@
 use Prim.Native.Nat.{ℕ, zero, suc, _+_, _-_, _*_, _/_, _^_, _≤_, _<_}
 use mathlib.Core.Path.{_≡_}
 use mathlib.Core.List.{List}
-use mathlib.Core.Bool.{Bool, false, _&&_}
+use mathlib.Core.Bool.{Bool, true, false}
 use mathlib.Core.Option.{Option}
 use lib.ListN.{getD}
-use lib.Dec.{ltb}
 use Rattle.octets.specs.Reading.{part}
-use Rattle.utf8.specs.Utf8.{Range, within, spells, utf8}
+use Rattle.utf8.specs.Utf8.{Range, spells, utf8}
 use Rattle.utf8.specs.declared.Passed.{Passed}
 use Rattle.utf8.specs.declared.Passed.the-variants.{To, None}
 
@@ -24,10 +23,12 @@ Zeros m r = (r ≤ 8) × (m < 256 ^ (8 - r)) × ((n : ℕ) → m < 256 ^ n → 8
 abbrev pub Plain : List ℕ → ℕ → ℕ → Type 0
 Plain s at to = (i : ℕ) → at ≤ i → i < to → getD s i 0 < 128
 
-abbrev pub stands : Range → List ℕ → ℕ → ℕ → Bool
-stands r s at to = ltb at to && within r (getD s at 0)
+-- Where something is wanted at a place, the octet there is right and something else is wanted behind it, or octets are never right from there to an end.
+abbrev pub Steps : Option (List Range) → Option (List Range) → List ℕ → ℕ → ℕ → Bool → Type 0
+Steps wanted later s at to true = (at + 1 ≤ to) × (spells wanted (part s at (to - at)) ≡ spells later (part s (at + 1) (to - (at + 1))))
+Steps wanted later s at to false = spells wanted (part s at (to - at)) ≡ false
 
--- Where something is wanted at a place, the octets from there to an end are right just where those behind what was passed are, or never.
+-- The same of all that is wanted: octets are right from there to an end just where those behind what was passed are UTF-8, or never.
 abbrev pub Passes : Option (List Range) → List ℕ → ℕ → ℕ → Passed → Type 0
 Passes wanted s at to (To next) = (at ≤ next) × (next ≤ to) × (spells wanted (part s at (to - at)) ≡ utf8 (part s next (to - next)))
 Passes wanted s at to None = spells wanted (part s at (to - at)) ≡ false

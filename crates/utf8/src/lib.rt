@@ -2,13 +2,13 @@
 // The forms stand in specs/Utf8.antt, the RFC's own sentence in Grammar.antt, what the functions here answer in Answers.antt, strings that were tried in Cases.antt.
 
 ghost use mathlib.Core.Path.{_≡_};
-ghost use mathlib.Core.List.{[], _∷_};
+ghost use mathlib.Core.List.{List, [], _∷_};
 ghost use mathlib.Core.Option.{some};
 ghost use Prim.Native.Nat.{_+_, _-_, _≤_, _<_};
 ghost use lib.ListN.{length, getD};
 ghost use Rattle.octets.specs.Reading.{part};
-ghost use Rattle.utf8.specs.Utf8.{_‥_, tail, forms, opens, utf8};
-ghost use Rattle.utf8.specs.Answers.{stands, marks, Zeros, Plain, Passes};
+ghost use Rattle.utf8.specs.Utf8.{Range, _‥_, tail, forms, opens, utf8};
+ghost use Rattle.utf8.specs.Answers.{marks, Zeros, Plain, Steps, Passes};
 
 // The place behind what was passed, or that no character stands there.
 pub enum Passed {
@@ -62,10 +62,10 @@ fn ascii_to(s: &[u8], at: usize, to: usize) -> usize
     last_ascii_to(s, i, to)
 }
 
-// Whether an octet of a range stands at a place before the end.
+// Whether an octet of a range stands at a place before the end, whatever is wanted behind it.
 fn stands(s: &[u8], at: usize, to: usize, low: u8, high: u8) -> bool
     requires { ⌜ (at ≤ to) × (to ≤ length (now s)) ⌝ }
-    ensures { λ r. ⌜ r ≡ stands (low ‥ high) (now (s .entry)) at to ⌝ }
+    ensures { λ r. ⌜ ((rest : List Range) → Steps (some (low ‥ high ∷ rest)) (some rest) (now (s .entry)) at to r) ⌝ }
 {
     if at == to {
         return false;
@@ -76,38 +76,62 @@ fn stands(s: &[u8], at: usize, to: usize, low: u8, high: u8) -> bool
     s[at] <= high
 }
 
-// The octets that end a character: one of a range, and as many tails behind it.
-fn pass_one(s: &[u8], at: usize, to: usize, low: u8, high: u8) -> Passed
-    requires { ⌜ (at ≤ to) × (to ≤ length (now s)) ⌝ }
-    ensures { λ r. ⌜ Passes (some (low ‥ high ∷ [])) (now (s .entry)) at to r ⌝ }
+// Whether the second octet of a character of three stands there, by the first.
+fn second_of_three(x: u8, s: &[u8], at: usize, to: usize) -> bool
+    requires { ⌜ (0xe0 ≤ x) × (x < 0xf0) × (at ≤ to) × (to ≤ length (now s)) ⌝ }
+    ensures { λ r. ⌜ Steps (opens x forms) (some (tail ∷ [])) (now (s .entry)) at to r ⌝ }
 {
-    if stands(s, at, to, low, high) {
+    if x < 0xe1 {
+        return stands(s, at, to, 0xa0, 0xbf);
+    }
+    if x < 0xed {
+        return stands(s, at, to, 0x80, 0xbf);
+    }
+    if x < 0xee {
+        return stands(s, at, to, 0x80, 0x9f);
+    }
+    stands(s, at, to, 0x80, 0xbf)
+}
+
+// The same of four; an octet past F4 is the first of nothing.
+fn second_of_four(x: u8, s: &[u8], at: usize, to: usize) -> bool
+    requires { ⌜ (0xf0 ≤ x) × (at ≤ to) × (to ≤ length (now s)) ⌝ }
+    ensures { λ r. ⌜ Steps (opens x forms) (some (tail ∷ tail ∷ [])) (now (s .entry)) at to r ⌝ }
+{
+    if x < 0xf1 {
+        return stands(s, at, to, 0x90, 0xbf);
+    }
+    if x < 0xf4 {
+        return stands(s, at, to, 0x80, 0xbf);
+    }
+    if x < 0xf5 {
+        return stands(s, at, to, 0x80, 0x8f);
+    }
+    false
+}
+
+// The one tail that ends a character, and the two.
+fn pass_tail(s: &[u8], at: usize, to: usize) -> Passed
+    requires { ⌜ (at ≤ to) × (to ≤ length (now s)) ⌝ }
+    ensures { λ r. ⌜ Passes (some (tail ∷ [])) (now (s .entry)) at to r ⌝ }
+{
+    if stands(s, at, to, 0x80, 0xbf) {
         return Passed::To(at + 1);
     }
     Passed::None
 }
 
-fn pass_two(s: &[u8], at: usize, to: usize, low: u8, high: u8) -> Passed
+fn pass_tails(s: &[u8], at: usize, to: usize) -> Passed
     requires { ⌜ (at ≤ to) × (to ≤ length (now s)) ⌝ }
-    ensures { λ r. ⌜ Passes (some (low ‥ high ∷ tail ∷ [])) (now (s .entry)) at to r ⌝ }
+    ensures { λ r. ⌜ Passes (some (tail ∷ tail ∷ [])) (now (s .entry)) at to r ⌝ }
 {
-    if stands(s, at, to, low, high) {
-        return pass_one(s, at + 1, to, 0x80, 0xbf);
+    if stands(s, at, to, 0x80, 0xbf) {
+        return pass_tail(s, at + 1, to);
     }
     Passed::None
 }
 
-fn pass_three(s: &[u8], at: usize, to: usize, low: u8, high: u8) -> Passed
-    requires { ⌜ (at ≤ to) × (to ≤ length (now s)) ⌝ }
-    ensures { λ r. ⌜ Passes (some (low ‥ high ∷ tail ∷ tail ∷ [])) (now (s .entry)) at to r ⌝ }
-{
-    if stands(s, at, to, low, high) {
-        return pass_two(s, at + 1, to, 0x80, 0xbf);
-    }
-    Passed::None
-}
-
-// What has to follow a first octet that is not ASCII, by the lines of the table.
+// What has to follow a first octet that is not ASCII.
 fn pass_rest(x: u8, s: &[u8], at: usize, to: usize) -> Passed
     requires { ⌜ (0x80 ≤ x) × (at ≤ to) × (to ≤ length (now s)) ⌝ }
     ensures { λ r. ⌜ Passes (opens x forms) (now (s .entry)) at to r ⌝ }
@@ -116,28 +140,16 @@ fn pass_rest(x: u8, s: &[u8], at: usize, to: usize) -> Passed
         return Passed::None;
     }
     if x < 0xe0 {
-        return pass_one(s, at, to, 0x80, 0xbf);
-    }
-    if x < 0xe1 {
-        return pass_two(s, at, to, 0xa0, 0xbf);
-    }
-    if x < 0xed {
-        return pass_two(s, at, to, 0x80, 0xbf);
-    }
-    if x < 0xee {
-        return pass_two(s, at, to, 0x80, 0x9f);
+        return pass_tail(s, at, to);
     }
     if x < 0xf0 {
-        return pass_two(s, at, to, 0x80, 0xbf);
+        if second_of_three(x, s, at, to) {
+            return pass_tail(s, at + 1, to);
+        }
+        return Passed::None;
     }
-    if x < 0xf1 {
-        return pass_three(s, at, to, 0x90, 0xbf);
-    }
-    if x < 0xf4 {
-        return pass_three(s, at, to, 0x80, 0xbf);
-    }
-    if x < 0xf5 {
-        return pass_three(s, at, to, 0x80, 0x8f);
+    if second_of_four(x, s, at, to) {
+        return pass_tails(s, at + 1, to);
     }
     Passed::None
 }

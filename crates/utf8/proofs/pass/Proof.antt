@@ -6,6 +6,7 @@ use Prim.Native.Nat.{_+_}
 use mathlib.Core.Path.{refl}
 use lib.ListN.{getD}
 use Rattle.utf8.specs.Utf8.{opens}
+use Rattle.utf8.specs.Answers.{Passes}
 use Rattle.utf8.specs.declared.Passed.the-variants.{To}
 use Rattle.utf8.proofs.Characters.{by-line, ascii-passes}
 use Rattle.utf8.proofs.pass.Statement.{statement}
@@ -18,7 +19,7 @@ returns c =
     let s = now (a .s) in
     let j = c .ascii-to .result in
     let p = c .ascii-to .ensures in
-    by-line 0x00 0x7f (getD s (a .at) 0) s (a .at + 1) (a .to) (To j) refl (omega arith) (omega (arith, c .before .if1 .taken)) (ascii-passes s (a .at + 1) j (a .to) (p .0) (p .1) (omega arith) (p .2))
+    by-line (λ o. Passes o s (a .at + 1) (a .to) (To j)) 0x00 0x7f (getD s (a .at) 0) refl (omega arith) (omega (arith, c .before .if1 .taken)) (ascii-passes s (a .at + 1) j (a .to) (p .0) (p .1) (omega arith) (p .2))
 
 pub pass-spec : {M : Type 1} → statement M
 pass-spec =
