@@ -15,7 +15,7 @@ use borrow.Author.Tests.{eqb-true, eqb-false, leb-true, leb-false}
 use Rattle.octets.specs.Reading.{be}
 use Rattle.octets.specs.Writing.{Each, Octet}
 use Rattle.octets.proofs.Spans.{each-getD}
-use Rattle.utf8.specs.Answers.{marks, Zeros, Plain}
+use Rattle.utf8.specs.Answers.{marks, Zeros, Ascii}
 
 -- The top bits of so many octets, as a mask.
 abbrev pub tops : ℕ → ℕ
@@ -47,10 +47,10 @@ marks-lt (suc n) s at o =
     rw (pow-suc 256 n) (digits-lt (marks-lt n s at o) (let top : getD s (at + n) 0 / 128 * 128 < 256 = omega arith in top))
 
 -- Where no octet is marked, all are ASCII.
-pub unmarked-plain : (w : ℕ) (s : List ℕ) (at : ℕ) → marks w s at ≡ 0 → Plain s at (at + w)
+pub unmarked-ascii : (w : ℕ) (s : List ℕ) (at : ℕ) → marks w s at ≡ 0 → Ascii s at (at + w)
 unfolding marks
-unmarked-plain zero s at e i a b = absurd (omega arith)
-unmarked-plain (suc w) s at e i a b = go (eqb i (at + w)) refl (λ h. unmarked-plain w s at (omega (arith, e)) i a h)
+unmarked-ascii zero s at e i a b = absurd (omega arith)
+unmarked-ascii (suc w) s at e i a b = go (eqb i (at + w)) refl (λ h. unmarked-ascii w s at (omega (arith, e)) i a h)
   where
     go : (t : Bool) → eqb i (at + w) ≡ t → (i < at + w → getD s i 0 < 128) → getD s i 0 < 128
     go true q before = subst (λ (n : ℕ). getD s n 0 < 128) (sym (eqb-true i (at + w) q)) (omega (arith, e))
@@ -61,10 +61,10 @@ pow-256 zero = refl
 pow-256 (suc n) = let more : 8 * suc n ≡ 8 * n + 8 = omega arith in ap (λ (k : ℕ). 2 ^ k) more ∙ pow-add 2 (8 * n) 8 ∙ rw (pow-suc 256 n, pow-256 n) refl
 
 -- Where the marks of n octets take no more than j octets, those before these are ASCII.
-front : (n j : ℕ) (s : List ℕ) (at : ℕ) → j ≤ n → marks n s at < 256 ^ j → Plain s at (at + (n - j))
+front : (n j : ℕ) (s : List ℕ) (at : ℕ) → j ≤ n → marks n s at < 256 ^ j → Ascii s at (at + (n - j))
 front n j s at h g =
     let both : n - j + j ≡ n = omega arith in
-    unmarked-plain (n - j) s at (none (marks (n - j) s at) (256 ^ j) (marks j s (at + (n - j))) (rw (← marks-join (n - j) j s at, both) g))
+    unmarked-ascii (n - j) s at (none (marks (n - j) s at) (256 ^ j) (marks j s (at + (n - j))) (rw (← marks-join (n - j) j s at, both) g))
   where
     none : (q p r : ℕ) → q * p + r < p → q ≡ 0
     none zero p r h = refl
@@ -82,8 +82,8 @@ marks-last n s to o h g =
     rw (power n h, joined) (digits-mod (marks (8 - n) s (to - 8)) (marks-lt n s (to - n) o))
 
 -- Runs of ASCII one behind another.
-pub plain-join : (s : List ℕ) (at mid to : ℕ) → Plain s at mid → Plain s mid to → Plain s at to
-plain-join s at mid to p q i a b = go (leb mid i) refl
+pub ascii-join : (s : List ℕ) (at mid to : ℕ) → Ascii s at mid → Ascii s mid to → Ascii s at to
+ascii-join s at mid to p q i a b = go (leb mid i) refl
   where
     go : (t : Bool) → leb mid i ≡ t → getD s i 0 < 128
     go true e = q i (leb-true mid i e) b
@@ -105,7 +105,7 @@ zeros m h =
     shorter n k l g false e = absurd (let longer = pow-mono {i = n + 1} {j = k} (let past = leb-false k n e in omega arith) in omega (arith, longer, pow-add 2 n 1, l, g))
 
 -- Of n octets those are ASCII that stand before the first marked one, as many as the number of their marks has zeros more than the eight octets of a number leave.
-pub before-mark : (n m r : ℕ) (s : List ℕ) (at end : ℕ) → Each Octet s → m ≡ marks n s at → Zeros m r → end + 8 ≡ at + n + r → (at ≤ end) × Plain s at end
+pub before-mark : (n m r : ℕ) (s : List ℕ) (at end : ℕ) → Each Octet s → m ≡ marks n s at → Zeros m r → end + 8 ≡ at + n + r → (at ≤ end) × Ascii s at end
 before-mark n m r s at end o e (most, less, least) q =
     let enough = least n (rw e (marks-lt n s at o)) in
     let run = front n (8 - r) s at (omega arith) (rw (← e) less) in

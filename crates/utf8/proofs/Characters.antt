@@ -11,8 +11,8 @@ use lib.Seq.{drop-cons}
 use lib.Dec.{leb}
 use borrow.Author.Tests.{le-leb, lt-leb, leb-true, leb-false}
 use Rattle.octets.specs.Reading.{choose, part}
-use Rattle.utf8.specs.Utf8.{Range, _‥_, within, tail, forms, opens, spells, utf8}
-use Rattle.utf8.specs.Answers.{Plain, Steps, Passes}
+use Rattle.utf8.specs.Utf8.{Range, within, forms, opens, spells, utf8}
+use Rattle.utf8.specs.Answers.{Ascii, Steps, Passes}
 use Rattle.utf8.specs.declared.Passed.{Passed}
 use Rattle.utf8.specs.declared.Passed.the-variants.{To, None}
 
@@ -114,7 +114,7 @@ module _ (s : List ℕ) (at to : ℕ) where
         go false f = f ∙ spells-none (part s (at + 1) (to - (at + 1)))
 
 -- ASCII octets are characters.
-ascii-each : (s : List ℕ) (k at to : ℕ) → at + k ≤ to → to ≤ length s → Plain s at (at + k)
+ascii-each : (s : List ℕ) (k at to : ℕ) → at + k ≤ to → to ≤ length s → Ascii s at (at + k)
     → spells (some []) (part s at (to - at)) ≡ spells (some []) (part s (at + k) (to - (at + k)))
 unfolding opens
 ascii-each s zero at to h g p = let same : at ≡ at + 0 = omega arith in ap (λ (n : ℕ). spells (some []) (part s n (to - n))) same
@@ -125,7 +125,7 @@ ascii-each s (suc k) at to h g p =
     ∙ ascii-each s k (at + 1) to (omega arith) g (λ i a b. p i (omega arith) (omega arith))
     ∙ ap (λ (n : ℕ). spells (some []) (part s n (to - n))) there
 
-pub ascii-passes : (s : List ℕ) (at next to : ℕ) → at ≤ next → next ≤ to → to ≤ length s → Plain s at next → Passes (some []) s at to (To next)
+pub ascii-passes : (s : List ℕ) (at next to : ℕ) → at ≤ next → next ≤ to → to ≤ length s → Ascii s at next → Passes (some []) s at to (To next)
 unfolding utf8
 ascii-passes s at next to h g k p =
     let end : at + (next - at) ≡ next = omega arith in

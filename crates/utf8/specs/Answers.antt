@@ -20,8 +20,8 @@ abbrev pub Zeros : ℕ → ℕ → Type 0
 Zeros m r = (r ≤ 8) × (m < 256 ^ (8 - r)) × ((n : ℕ) → m < 256 ^ n → 8 ≤ r + n)
 
 -- The octets from a place to another are ASCII.
-abbrev pub Plain : List ℕ → ℕ → ℕ → Type 0
-Plain s at to = (i : ℕ) → at ≤ i → i < to → getD s i 0 < 128
+abbrev pub Ascii : List ℕ → ℕ → ℕ → Type 0
+Ascii s at to = (i : ℕ) → at ≤ i → i < to → getD s i 0 < 128
 
 -- Where something is wanted at a place, the octet there is right and something else is wanted behind it, or octets are never right from there to an end.
 abbrev pub Steps : Option (List Range) → Option (List Range) → List ℕ → ℕ → ℕ → Bool → Type 0

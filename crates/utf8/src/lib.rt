@@ -8,10 +8,10 @@ ghost use Prim.Native.Nat.{_+_, _-_, _≤_, _<_};
 ghost use lib.ListN.{length, getD};
 ghost use Rattle.octets.specs.Reading.{part};
 ghost use Rattle.utf8.specs.Utf8.{Range, _‥_, tail, forms, opens, utf8};
-ghost use Rattle.utf8.specs.Answers.{marks, Zeros, Plain, Steps, Passes};
+ghost use Rattle.utf8.specs.Answers.{marks, Zeros, Ascii, Steps, Passes};
 
 // The place behind what was passed, or that no character stands there.
-pub enum Passed {
+enum Passed {
     To(usize),
     None,
 }
@@ -31,10 +31,10 @@ fn unmarked(m: u64) -> usize
     (u64::leading_zeros(m) / 8) as usize
 }
 
-// The place up to which fewer than eight octets are ASCII, by the eight that end with them, of which the first ones are blotted out.
+// A place up to which fewer than eight octets are ASCII: by the eight that end with them, of which the others are blotted out.
 fn last_ascii_to(s: &[u8], at: usize, to: usize) -> usize
     requires { ⌜ (at ≤ to) × (to - at < 8) × (to ≤ length (now s)) ⌝ }
-    ensures { λ r. ⌜ (at ≤ r) × (r ≤ to) × Plain (now (s .entry)) at r ⌝ }
+    ensures { λ r. ⌜ (at ≤ r) × (r ≤ to) × Ascii (now (s .entry)) at r ⌝ }
 {
     if to < 8 {
         return at;
@@ -46,10 +46,10 @@ fn last_ascii_to(s: &[u8], at: usize, to: usize) -> usize
     to - 8 + unmarked(m % (1 << (8 * (to - at))))
 }
 
-// The place up to which octets are ASCII, eight at a time.
+// A place up to which octets are ASCII, eight at a time.
 fn ascii_to(s: &[u8], at: usize, to: usize) -> usize
     requires { ⌜ (at ≤ to) × (to ≤ length (now s)) ⌝ }
-    ensures { λ r. ⌜ (at ≤ r) × (r ≤ to) × Plain (now (s .entry)) at r ⌝ }
+    ensures { λ r. ⌜ (at ≤ r) × (r ≤ to) × Ascii (now (s .entry)) at r ⌝ }
 {
     let mut i = at;
     while 8 <= to - i {

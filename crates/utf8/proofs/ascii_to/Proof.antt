@@ -5,13 +5,13 @@ use denote.Ref.{now}
 use Prim.Native.Nat.{_+_, _-_, _≤_}
 use mathlib.Core.Path.{sym, _∙_}
 use Rattle.octets.proofs.Spans.{each-octet}
-use Rattle.utf8.specs.Answers.{Plain}
-use Rattle.utf8.proofs.Ascii.{unmarked-plain, before-mark, plain-join}
+use Rattle.utf8.specs.Answers.{Ascii}
+use Rattle.utf8.proofs.Ascii.{unmarked-ascii, before-mark, ascii-join}
 use Rattle.utf8.proofs.ascii_to.Statement.{statement}
 use Rattle.utf8.proofs.ascii_to.Tie as tie
 
 abbrev Inv-loop : tie.InvT-loop
-Inv-loop s at to i₀ i = (at ≤ i) × (i ≤ to) × Plain s at i
+Inv-loop s at to i₀ i = (at ≤ i) × (i ≤ to) × Ascii s at i
 
 abbrev μ-loop : tie.MeasureT-loop
 μ-loop s at to i₀ i = to - i
@@ -23,22 +23,22 @@ returns c =
     let i = k .loop .i in
     let u = c .unmarked in
     let (late, run) = before-mark 8 _ (u .result) (now (a .s)) i (i + u .result) (each-octet (now (a .s)) (k .before .shared-slice-known .given)) (c .before .before .marks-at .ensures) (u .ensures) (omega arith) in
-    (omega arith, omega (arith, u .ensures .0), plain-join (now (a .s)) (a .at) i (i + u .result) (k .loop .inv .2) run)
+    (omega arith, omega (arith, u .ensures .0), ascii-join (now (a .s)) (a .at) i (i + u .result) (k .loop .inv .2) run)
 
 loop-again : tie.Need-loop-again Inv-loop μ-loop
 loop-again c =
     let k = c .before .before .before in
     let a = k .before .before .args in
     let i = k .loop .i in
-    let more = unmarked-plain 8 (now (a .s)) i (sym (c .before .marks-at .ensures) ∙ c .if1 .left) in
-    (omega arith, omega arith, plain-join (now (a .s)) (a .at) i (i + 8) (k .loop .inv .2) more)
+    let more = unmarked-ascii 8 (now (a .s)) i (sym (c .before .marks-at .ensures) ∙ c .if1 .left) in
+    (omega arith, omega arith, ascii-join (now (a .s)) (a .at) i (i + 8) (k .loop .inv .2) more)
 
 returns-2 : tie.Need-returns-2 Inv-loop μ-loop
 returns-2 c =
     let k = c .before .before in
     let a = k .before .before .args in
     let p = c .last-ascii-to .ensures in
-    (omega (arith, p .0), p .1, plain-join (now (a .s)) (a .at) (k .loop .i) (c .last-ascii-to .result) (k .loop .inv .2) (p .2))
+    (omega (arith, p .0), p .1, ascii-join (now (a .s)) (a .at) (k .loop .i) (c .last-ascii-to .result) (k .loop .inv .2) (p .2))
 
 pub ascii-to-spec : {M : Type 1} → statement M
 ascii-to-spec =

@@ -1,4 +1,4 @@
--- `utf8::last_ascii_to` meets its contract. Assumes nothing.
+-- `utf8::last_ascii_to` meets its contract: the marks of the last octets are what is left of those of eight. Assumes nothing.
 use borrow.Author.Needs.{needs}
 use native.Mathlib.Omega.{arith}
 use native.Mathlib.Nat.{one-le-pow}
@@ -8,7 +8,7 @@ use mathlib.Core.Path.{_≡_, sym, ap, _∙_}
 use lib.Dec.{lit<}
 use Rattle.octets.proofs.Spans.{each-octet}
 use Rattle.utf8.specs.Answers.{marks}
-use Rattle.utf8.proofs.Ascii.{power, marks-last, unmarked-plain, before-mark}
+use Rattle.utf8.proofs.Ascii.{power, marks-last, unmarked-ascii, before-mark}
 use Rattle.utf8.proofs.last_ascii_to.Statement.{statement}
 use Rattle.utf8.proofs.last_ascii_to.Tie as tie
 
@@ -16,7 +16,7 @@ returns-2 : tie.Need-returns-2
 returns-2 c =
     let a = c .before .before .before .before .args in
     let whole : a .to - 8 + 8 ≡ a .to = omega arith in
-    let all = unmarked-plain 8 (now (a .s)) (a .to - 8) (sym (c .before .marks-at .ensures) ∙ c .if2 .taken) in
+    let all = unmarked-ascii 8 (now (a .s)) (a .to - 8) (sym (c .before .marks-at .ensures) ∙ c .if2 .taken) in
     (omega arith, omega arith, λ i h g. all i (omega arith) (omega arith))
 
 rem-unmarked : tie.Need-rem-unmarked
@@ -29,9 +29,12 @@ returns-3 c =
     let s = now (a .s) in
     let octets = each-octet s (k .shared-slice-known .given) in
     let u = c .unmarked in
-    let from : a .to - (a .to - a .at) ≡ a .at = omega arith in
-    let m = ap (λ (n : ℕ). n % (1 * 2 ^ (8 * (a .to - a .at)) % 2 ^ 64)) (c .before .before .marks-at .ensures) ∙ marks-last (a .to - a .at) s (a .to) octets (omega arith) (omega arith) ∙ ap (marks (a .to - a .at) s) from in
-    let (late, run) = before-mark (a .to - a .at) _ (u .result) s (a .at) (a .to - 8 + u .result) octets m (u .ensures) (omega arith) in
+    let n = a .to - a .at in
+    let from : a .to - n ≡ a .at = omega arith in
+    let left =
+    ap (λ (m : ℕ). m % (1 * 2 ^ (8 * n) % 2 ^ 64)) (c .before .before .marks-at .ensures)
+    ∙ marks-last n s (a .to) octets (omega arith) (omega arith) ∙ ap (marks n s) from in
+    let (late, run) = before-mark n _ (u .result) s (a .at) (a .to - 8 + u .result) octets left (u .ensures) (omega arith) in
     (late, omega (arith, u .ensures .0), run)
 
 pub last-ascii-to-spec : {M : Type 1} → statement M

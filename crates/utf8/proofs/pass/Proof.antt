@@ -1,5 +1,4 @@
 -- `utf8::pass` meets its contract: an ASCII octet with those behind it, or what another octet opens. Assumes nothing.
-use borrow.Author.Needs.{needs}
 use native.Mathlib.Omega.{arith}
 use denote.Ref.{now}
 use Prim.Native.Nat.{_+_}
@@ -19,7 +18,8 @@ returns c =
     let s = now (a .s) in
     let j = c .ascii-to .result in
     let p = c .ascii-to .ensures in
-    by-line (λ o. Passes o s (a .at + 1) (a .to) (To j)) 0x00 0x7f (getD s (a .at) 0) refl (omega arith) (omega (arith, c .before .if1 .taken)) (ascii-passes s (a .at + 1) j (a .to) (p .0) (p .1) (omega arith) (p .2))
+    by-line (λ o. Passes o s (a .at + 1) (a .to) (To j)) 0x00 0x7f (getD s (a .at) 0) refl (omega arith) (omega (arith, c .before .if1 .taken))
+    (ascii-passes s (a .at + 1) j (a .to) (p .0) (p .1) (omega arith) (p .2))
 
 pub pass-spec : {M : Type 1} → statement M
 pass-spec =
