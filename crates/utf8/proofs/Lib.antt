@@ -1,2 +1,5 @@
+pub mod Ascii
 pub mod Characters
 pub mod Grammar
+pub mod Computed
+pub mod Contracts

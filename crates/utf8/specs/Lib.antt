@@ -1,3 +1,4 @@
 pub mod Utf8
 pub mod Grammar
 pub mod Answers
+pub mod Cases

@@ -1,150 +1,182 @@
-// Well-formed UTF-8: whether octets from a place to another are characters one behind another, each of a form that RFC 3629 lists.
-// The forms stand in specs/Utf8.antt, what they say in the RFC's own words in Grammar.antt, strings tried in Cases.antt.
+// Well-formed UTF-8: whether octets are characters one behind another, each of a form that RFC 3629 lists.
+// The forms stand in specs/Utf8.antt, the RFC's own sentence in Grammar.antt, what the functions here answer in Answers.antt, strings that were tried in Cases.antt.
 
 ghost use mathlib.Core.Path.{_≡_};
-ghost use Prim.Native.Nat.{_+_, _-_, _≤_};
-ghost use lib.ListN.{length};
+ghost use mathlib.Core.List.{List, [], _∷_};
+ghost use mathlib.Core.Option.{some};
+ghost use Prim.Native.Nat.{_+_, _-_, _≤_, _<_};
+ghost use lib.ListN.{length, getD};
 ghost use Rattle.octets.specs.Reading.{part};
-ghost use Rattle.utf8.specs.Utf8.{characters, begun, utf8};
-ghost use Rattle.utf8.specs.Answers.{leadSays, plainAt, Plain};
+ghost use Rattle.utf8.specs.Utf8.{Range, _‥_, tail, forms, opens, utf8};
+ghost use Rattle.utf8.specs.Answers.{marks, Zeros, Ascii, Steps, Passes};
 
-// How many octets a character awaits behind its first, and between which two the next one is; or that an octet begins no character.
-pub enum Lead {
-    Awaits(usize, u8, u8),
-    Nothing,
+// The place behind what was passed, or that no character stands there.
+enum Passed {
+    To(usize),
+    None,
 }
 
-// What follows an octet that begins a character.
-fn lead_of(x: u8) -> Lead
-    ensures { λ r. ⌜ leadSays r ≡ begun x characters ⌝ }
-{
-    if x < 0x80 {
-        return Lead::Awaits(0, 0x80, 0xbf);
-    }
-    if x < 0xc2 {
-        return Lead::Nothing;
-    }
-    if x < 0xe0 {
-        return Lead::Awaits(1, 0x80, 0xbf);
-    }
-    if x < 0xe1 {
-        return Lead::Awaits(2, 0xa0, 0xbf);
-    }
-    if x < 0xed {
-        return Lead::Awaits(2, 0x80, 0xbf);
-    }
-    if x < 0xee {
-        return Lead::Awaits(2, 0x80, 0x9f);
-    }
-    if x < 0xf0 {
-        return Lead::Awaits(2, 0x80, 0xbf);
-    }
-    if x < 0xf1 {
-        return Lead::Awaits(3, 0x90, 0xbf);
-    }
-    if x < 0xf4 {
-        return Lead::Awaits(3, 0x80, 0xbf);
-    }
-    if x < 0xf5 {
-        return Lead::Awaits(3, 0x80, 0x8f);
-    }
-    Lead::Nothing
-}
-
-// Whether the eight octets at a place are all below 80 hex: one number, and the top bit of each octet of it.
-fn plain8(s: &[u8], at: usize) -> bool
+// The top bits of the eight octets at a place, which are those that no ASCII octet has.
+fn marks_at(s: &[u8], at: usize) -> u64
     requires { ⌜ at + 8 ≤ length (now s) ⌝ }
-    ensures { λ r. ⌜ r ≡ plainAt 8 (now (s .entry)) at ⌝ }
+    ensures { λ r. ⌜ r ≡ marks 8 (now (s .entry)) at ⌝ }
 {
-    octets::u64_at(s, at) & 0x8080_8080_8080_8080 == 0
+    octets::u64_at(s, at) & 0x8080_8080_8080_8080
 }
 
-// A place up to which octets are all below 80 hex: eight at a time, and the last ones by the eight that end with them.
-fn plain_to(s: &[u8], at: usize, end: usize) -> usize
-    requires { ⌜ (at ≤ end) × (end ≤ length (now s)) ⌝ }
-    ensures { λ r. ⌜ (at ≤ r) × (r ≤ end) × Plain (now (s .entry)) at r ⌝ }
+// How many octets of eight stand before the first one that is marked.
+fn unmarked(m: u64) -> usize
+    ensures { λ r. ⌜ Zeros m r ⌝ }
+{
+    (u64::leading_zeros(m) / 8) as usize
+}
+
+// A place up to which fewer than eight octets are ASCII: by the eight that end with them, of which the others are blotted out.
+fn last_ascii_to(s: &[u8], at: usize, to: usize) -> usize
+    requires { ⌜ (at ≤ to) × (to - at < 8) × (to ≤ length (now s)) ⌝ }
+    ensures { λ r. ⌜ (at ≤ r) × (r ≤ to) × Ascii (now (s .entry)) at r ⌝ }
+{
+    if to < 8 {
+        return at;
+    }
+    let m = marks_at(s, to - 8);
+    if m == 0 {
+        return to;
+    }
+    to - 8 + unmarked(m % (1 << (8 * (to - at))))
+}
+
+// A place up to which octets are ASCII, eight at a time.
+fn ascii_to(s: &[u8], at: usize, to: usize) -> usize
+    requires { ⌜ (at ≤ to) × (to ≤ length (now s)) ⌝ }
+    ensures { λ r. ⌜ (at ≤ r) × (r ≤ to) × Ascii (now (s .entry)) at r ⌝ }
 {
     let mut i = at;
-    while 8 <= end - i {
-        if !plain8(s, i) {
-            return i;
+    while 8 <= to - i {
+        let m = marks_at(s, i);
+        if m != 0 {
+            return i + unmarked(m);
         }
         i += 8;
     }
-    if end < 8 {
-        return i;
-    }
-    if plain8(s, end - 8) {
-        return end;
-    }
-    i
+    last_ascii_to(s, i, to)
 }
 
-// The same, of the next eight octets alone.
-fn plain_next(s: &[u8], at: usize, end: usize) -> usize
-    requires { ⌜ (at ≤ end) × (end ≤ length (now s)) ⌝ }
-    ensures { λ r. ⌜ (at ≤ r) × (r ≤ end) × Plain (now (s .entry)) at r ⌝ }
+// Whether an octet of a range stands at a place before the end, whatever is wanted behind it.
+fn stands(s: &[u8], at: usize, to: usize, low: u8, high: u8) -> bool
+    requires { ⌜ (at ≤ to) × (to ≤ length (now s)) ⌝ }
+    ensures { λ r. ⌜ ((rest : List Range) → Steps (some (low ‥ high ∷ rest)) (some rest) (now (s .entry)) at to r) ⌝ }
 {
-    if end - at < 8 {
-        return at;
+    if at == to {
+        return false;
     }
-    if plain8(s, at) {
-        return at + 8;
+    if s[at] < low {
+        return false;
     }
-    at
+    s[at] <= high
 }
 
-// Whether the octets from a place to another are well-formed UTF-8, in one pass.
-fn are_characters(s: &[u8], from: usize, to: usize) -> bool
-    requires { ⌜ (from ≤ to) × (to ≤ length (now s)) ⌝ }
-    ensures { λ r. ⌜ r ≡ utf8 (part (now (s .entry)) from (to - from)) ⌝ }
+// Whether the second octet of a character of three stands there, by the first.
+fn second_of_three(x: u8, s: &[u8], at: usize, to: usize) -> bool
+    requires { ⌜ (0xe0 ≤ x) × (x < 0xf0) × (at ≤ to) × (to ≤ length (now s)) ⌝ }
+    ensures { λ r. ⌜ Steps (opens x forms) (some (tail ∷ [])) (now (s .entry)) at to r ⌝ }
 {
-    let mut i = from;
-    let mut left: usize = 0;
-    let mut low: u8 = 0x80;
-    let mut high: u8 = 0xbf;
-    while i < to {
-        let x = s[i];
-        i += 1;
-        if left == 0 {
-            let lead = lead_of(x);
-            match lead {
-                Lead::Nothing => {
-                    return false;
-                }
-                Lead::Awaits(n, a, b) => {
-                    left = n;
-                    low = a;
-                    high = b;
-                }
-            }
-        } else {
-            if x < low {
-                return false;
-            }
-            if high < x {
-                return false;
-            }
-            left -= 1;
-            low = 0x80;
-            high = 0xbf;
-            if left == 0 {
-                i = plain_next(s, i, to);
-            }
+    if x < 0xe1 {
+        return stands(s, at, to, 0xa0, 0xbf);
+    }
+    if x < 0xed {
+        return stands(s, at, to, 0x80, 0xbf);
+    }
+    if x < 0xee {
+        return stands(s, at, to, 0x80, 0x9f);
+    }
+    stands(s, at, to, 0x80, 0xbf)
+}
+
+// The same of four; an octet past F4 is the first of nothing.
+fn second_of_four(x: u8, s: &[u8], at: usize, to: usize) -> bool
+    requires { ⌜ (0xf0 ≤ x) × (at ≤ to) × (to ≤ length (now s)) ⌝ }
+    ensures { λ r. ⌜ Steps (opens x forms) (some (tail ∷ tail ∷ [])) (now (s .entry)) at to r ⌝ }
+{
+    if x < 0xf1 {
+        return stands(s, at, to, 0x90, 0xbf);
+    }
+    if x < 0xf4 {
+        return stands(s, at, to, 0x80, 0xbf);
+    }
+    if x < 0xf5 {
+        return stands(s, at, to, 0x80, 0x8f);
+    }
+    false
+}
+
+// The one tail that ends a character, and the two.
+fn pass_tail(s: &[u8], at: usize, to: usize) -> Passed
+    requires { ⌜ (at ≤ to) × (to ≤ length (now s)) ⌝ }
+    ensures { λ r. ⌜ Passes (some (tail ∷ [])) (now (s .entry)) at to r ⌝ }
+{
+    if stands(s, at, to, 0x80, 0xbf) {
+        return Passed::To(at + 1);
+    }
+    Passed::None
+}
+
+fn pass_tails(s: &[u8], at: usize, to: usize) -> Passed
+    requires { ⌜ (at ≤ to) × (to ≤ length (now s)) ⌝ }
+    ensures { λ r. ⌜ Passes (some (tail ∷ tail ∷ [])) (now (s .entry)) at to r ⌝ }
+{
+    if stands(s, at, to, 0x80, 0xbf) {
+        return pass_tail(s, at + 1, to);
+    }
+    Passed::None
+}
+
+// What has to follow a first octet that is not ASCII.
+fn pass_rest(x: u8, s: &[u8], at: usize, to: usize) -> Passed
+    requires { ⌜ (0x80 ≤ x) × (at ≤ to) × (to ≤ length (now s)) ⌝ }
+    ensures { λ r. ⌜ Passes (opens x forms) (now (s .entry)) at to r ⌝ }
+{
+    if x < 0xc2 {
+        return Passed::None;
+    }
+    if x < 0xe0 {
+        return pass_tail(s, at, to);
+    }
+    if x < 0xf0 {
+        if second_of_three(x, s, at, to) {
+            return pass_tail(s, at + 1, to);
         }
+        return Passed::None;
     }
-    left == 0
+    if second_of_four(x, s, at, to) {
+        return pass_tails(s, at + 1, to);
+    }
+    Passed::None
 }
 
-// The same; most strings are done with their octets below 80 hex.
+// One whole character; an ASCII one with those that follow it.
+fn pass(s: &[u8], at: usize, to: usize) -> Passed
+    requires { ⌜ (at < to) × (to ≤ length (now s)) ⌝ }
+    ensures { λ r. ⌜ Passes (opens (getD (now (s .entry)) at 0) forms) (now (s .entry)) (at + 1) to r ⌝ }
+{
+    let x = s[at];
+    if x < 0x80 {
+        return Passed::To(ascii_to(s, at + 1, to));
+    }
+    pass_rest(x, s, at + 1, to)
+}
+
+// Whether the octets from a place to another are well-formed UTF-8.
 pub fn is_utf8(s: &[u8], from: usize, to: usize) -> bool
     requires { ⌜ (from ≤ to) × (to ≤ length (now s)) ⌝ }
     ensures { λ r. ⌜ r ≡ utf8 (part (now (s .entry)) from (to - from)) ⌝ }
 {
-    let i = plain_to(s, from, to);
-    if i == to {
-        return true;
+    let mut i = from;
+    while i < to {
+        let Passed::To(next) = pass(s, i, to) else {
+            return false;
+        };
+        i = next;
     }
-    are_characters(s, i, to)
+    true
 }
-

@@ -1,35 +1,51 @@
--- `utf8::is_utf8` meets its contract: octets below 80 hex are characters, and what is left decides. Assumes nothing.
+-- `utf8::is_utf8` meets its contract. The invariant: the octets are UTF-8 just where those that are left are. The measure is what is left. Assumes nothing.
 use borrow.Author.Needs.{needs}
 use native.Mathlib.Omega.{arith}
 use denote.Ref.{now}
-use mathlib.Core.Path.{_≡_, sym, _∙_}
-use mathlib.Core.List.{List}
-use Prim.Native.Nat.{ℕ, _-_, _≤_}
-use lib.ListN.{length}
+use Prim.Native.Nat.{_-_, _≤_}
+use mathlib.Core.Path.{_≡_, refl, sym, _∙_}
 use Rattle.octets.specs.Reading.{part}
 use Rattle.utf8.specs.Utf8.{utf8}
-use Rattle.utf8.specs.Answers.{Plain}
-use Rattle.utf8.proofs.Characters.{plain-skip, await-end}
+use Rattle.utf8.proofs.Characters.{utf8-on, utf8-not, utf8-end}
 use Rattle.utf8.proofs.is_utf8.Statement.{statement}
 use Rattle.utf8.proofs.is_utf8.Tie as tie
 
--- What stands behind octets below 80 hex decides.
-behind : (s : List ℕ) (from i end : ℕ) → from ≤ i → i ≤ end → end ≤ length s → Plain s from i → utf8 (part s i (end - i)) ≡ utf8 (part s from (end - from))
-unfolding utf8
-behind s from i end h g k p = sym (plain-skip s from i end h g k p)
+abbrev Inv-loop : tie.InvT-loop
+Inv-loop s from to i₀ i = (from ≤ i) × (i ≤ to) × (utf8 (part s from (to - from)) ≡ utf8 (part s i (to - i)))
 
-returns : tie.Need-returns
-unfolding utf8
+abbrev μ-loop : tie.MeasureT-loop
+μ-loop s from to i₀ i = to - i
+
+returns : tie.Need-returns Inv-loop μ-loop
 returns c =
-    let p = c .before .plain-to in
-    let a = c .before .before .before .args in
-    sym (await-end 0 0 0 (now (a .s)) (p .result) (a .to) (omega arith)) ∙ behind (now (a .s)) (a .from) (p .result) (a .to) (p .ensures .0) (p .ensures .1) (omega arith) (p .ensures .2)
+    let k = c .before .before .before .before in
+    let a = k .before .before .args in
+    let none = utf8-not (now (a .s)) (k .loop .i) (a .to) (omega arith) (omega arith) (c .enum-told .given .1) (c .before .before .pass .ensures) in
+    sym (k .loop .inv .2 ∙ none)
 
-returns-2 : tie.Need-returns-2
+loop-less : tie.Need-loop-less Inv-loop μ-loop
+loop-less c =
+    let k = c .before .before .before .before .before in
+    let a = k .before .before .args in
+    let told = c .before .next .given in
+    let on = utf8-on (now (a .s)) (k .loop .i) (a .to) (omega arith) (omega arith) (told .0 .0) (told .1) (c .before .before .before .pass .ensures) in
+    omega (arith, on .0, on .1)
+
+loop-again : tie.Need-loop-again Inv-loop μ-loop
+loop-again c =
+    let k = c .before .before .before .before .before in
+    let a = k .before .before .args in
+    let told = c .before .next .given in
+    let on = utf8-on (now (a .s)) (k .loop .i) (a .to) (omega arith) (omega arith) (told .0 .0) (told .1) (c .before .before .before .pass .ensures) in
+    (omega (arith, on .0), on .1, k .loop .inv .2 ∙ on .2)
+
+returns-2 : tie.Need-returns-2 Inv-loop μ-loop
 returns-2 c =
-    let p = c .before .before .plain-to in
-    let a = c .before .before .before .before .args in
-    c .are-characters .ensures ∙ behind (now (a .s)) (a .from) (p .result) (a .to) (p .ensures .0) (p .ensures .1) (omega arith) (p .ensures .2)
+    let k = c .before in
+    let a = k .before .before .args in
+    sym (k .loop .inv .2 ∙ utf8-end (now (a .s)) (k .loop .i) (a .to) (omega arith) (omega arith))
 
 pub is-utf8-spec : {M : Type 1} → statement M
-is-utf8-spec = tie.close (tie.spec (λ c κs. search needs) returns (λ c κs. search needs) returns-2)
+is-utf8-spec =
+    tie.close
+    (tie.spec Inv-loop μ-loop (λ c. (search needs, search needs, refl)) (λ c κs. (omega arith, omega arith)) (λ c. search needs) (λ c. search needs) returns loop-less loop-again returns-2)
