@@ -14,7 +14,7 @@ use Rattle.octets.specs.Writing.{word, Each, Octet}
 use Rattle.octets.proofs.Spans.{join, middle, word-octets, part-spans, part-is, spans-octets, each-append}
 use Rattle.octets.proofs.Inverse.{Inverse, Answer, Any, after, settle, chosen, reads-back, reads-forth}
 use Rattle.octets.proofs.Fields.{roomy, number-inverse}
-use Rattle.utf8.specs.Utf8.{awaiting, utf8}
+use Rattle.utf8.specs.Utf8.{spells, utf8}
 use Rattle.texts.specs.Texts.{holds, fault, ledIn, text, ledImage, GoodLed, GoodText}
 use Rattle.texts.specs.declared.Rule.{Rule}
 use Rattle.texts.specs.declared.Rule.the-variants.{Characters}
@@ -54,5 +54,5 @@ text-forth s o at next inside xs e = reads-forth text-whole s xs at next o insid
 
 -- No octets are a string.
 pub text-none : GoodText []
-unfolding utf8 awaiting
+unfolding utf8 spells
 text-none = (tt, lit< tt, refl)
