@@ -10,7 +10,7 @@ use lib.ListN.{length, take}
 use lib.Dec.{leb, ltb, eqb}
 use borrow.Author.Tests.{leb-true}
 use Rattle.octets.specs.Limits.{longest, mostRows, bookRoom, mostLayouts, mostAttributes, mostListed}
-use Rattle.octets.specs.Reading.{Read, ok, no, _then_, choose, isOk, part, reach, overrun, numberIn, number, count, exactly, run}
+use Rattle.octets.specs.Reading.{Read, ok, no, _then_, choose, isOk, reach, overrun, numberIn, number, count, exactly, run}
 use Rattle.octets.specs.declared.Room.{Room}
 use Rattle.octets.specs.declared.Room.the-variants.{Document, Stated}
 use Rattle.kinds.specs.declared.Basic.{Basic}
@@ -31,7 +31,7 @@ use Rattle.elements.specs.Walk.{Stop, ended, refused, Walk, onward, walk
 use Rattle.elements.specs.Steps.{lentBook, stepAt}
 use Rattle.elements.specs.Reading.{elementsOf, answerOf, elementsRead, reading, whole}
 use Rattle.octets.proofs.Ends.{number-room}
-use Rattle.texts.specs.Texts.{holds, fault, ledIn, text}
+use Rattle.texts.specs.Texts.{holds, fault, octetsIn, ledIn, text}
 use Rattle.texts.specs.declared.Rule.{Rule}
 use Rattle.texts.specs.declared.Rule.the-variants.{Free, Characters}
 
@@ -95,15 +95,19 @@ module _ (P : ℕ → Type 0) (s : List ℕ) (end : ℕ) (long : length s ≤ en
     unfolding numberIn
     stays-number w at b = stays-choose (leb (at + w) (reach room s)) _ _ (λ t. within (at + w) t) (stays-over _ room inside at b)
 
+    stays-octets : (at : ℕ) → at ≤ end → Stays P end (octetsIn room s at)
+    unfolding octetsIn
+    stays-octets at b =
+        stays-then (numberIn room 4 s at) _ (stays-number 4 at b) λ n next c.
+        stays-choose (leb (next + n) (reach room s)) _ _ (λ t. within (next + n) t) (stays-over _ room inside at b)
+
     stays-led : P 24 → (rule : Rule) (at : ℕ) → at ≤ end → Stays P end (ledIn rule room s at)
     unfolding ledIn
-    stays-led bad rule at b =
-        stays-then (numberIn room 4 s at) _ (stays-number 4 at b) λ n next c.
-        stays-choose (leb (next + n) (reach room s)) _ _ (λ t. by rule n next (within (next + n) t)) (stays-over _ room inside at b)
+    stays-led bad rule at b = stays-then (octetsIn room s at) _ (stays-octets at b) λ xs next c. by rule xs next c
       where
-        by : (rule : Rule) (n next : ℕ) → next + n ≤ end → Stays P end (choose (holds rule (part s next n)) (λ _. ok (part s next n) (next + n)) (λ _. no (fault rule) at))
-        by Free n next c = c
-        by Characters n next c = stays-choose (holds Characters (part s next n)) _ _ (λ _. c) (bad, b)
+        by : (rule : Rule) (xs : List ℕ) (next : ℕ) → next ≤ end → Stays P end (choose (holds rule xs) (λ _. ok xs next) (λ _. no (fault rule) at))
+        by Free xs next c = c
+        by Characters xs next c = stays-choose (holds Characters xs) _ _ (λ _. c) (bad, b)
 
     stays-value : P 14 → P 24 → (f : Form) (at : ℕ) → at ≤ end → Stays P end (valueIn room f s at)
     unfolding valueIn

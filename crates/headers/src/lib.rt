@@ -11,8 +11,6 @@ ghost use Rattle.headers.specs.Header.{idAt, headerFrom, headerAt};
 ghost use Rattle.headers.specs.Answers.{itemEnd, Locates};
 use octets::Counted;
 use octets::Ended;
-use octets::Room;
-use texts::Rule;
 
 // Where the fields of an accepted header stand: the start time, the counts of both lists, the document id, and what is behind the header.
 pub struct Places {
@@ -47,14 +45,14 @@ fn item_end(s: &[u8], at: usize, service: bool) -> Ended
     requires { ⌜ (at ≤ length (now s)) × (length (now s) ≤ longest) ⌝ }
     ensures { λ r. ⌜ (says r ≡ itemEnd service (now (s .entry)) at) × Within at r (length (now (s .entry))) ⌝ }
 {
-    let first = texts::led_end(s, at, Room::Document, Rule::Characters);
+    let first = texts::text_end(s, at);
     match first {
         Ended::Refused(n, p) => Ended::Refused(n, p),
         Ended::End(next) => {
             if service {
                 return Ended::End(next);
             }
-            texts::led_end(s, next, Room::Document, Rule::Characters)
+            texts::text_end(s, next)
         }
     }
 }
@@ -101,7 +99,7 @@ fn recorder_end(s: &[u8]) -> Ended
     let version = exactly_at(s, 0, 4, 3);
     match version {
         Ended::Refused(n, p) => Ended::Refused(n, p),
-        Ended::End(next) => texts::led_end(s, next, Room::Document, Rule::Characters),
+        Ended::End(next) => texts::text_end(s, next),
     }
 }
 
@@ -113,7 +111,7 @@ fn default_end(s: &[u8], at: usize) -> Ended
     if s.len() < at + 8 {
         return Ended::Refused(1, at);
     }
-    texts::led_end(s, at + 8, Room::Document, Rule::Characters)
+    texts::text_end(s, at + 8)
 }
 
 // The place behind the document id.

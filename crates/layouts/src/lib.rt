@@ -18,8 +18,6 @@ use kinds::Kind;
 use kinds::Kinded;
 use octets::Counted;
 use octets::Ended;
-use octets::Room;
-use texts::Rule;
 
 // Where a number was looked up: the place of its layout, or how many layouts there are, none of them its.
 pub enum Looked {
@@ -51,7 +49,7 @@ fn attribute_end(s: &[u8], at: usize) -> Ended
     requires { ⌜ (at ≤ length (now s)) × (length (now s) ≤ longest) ⌝ }
     ensures { λ r. ⌜ (says r ≡ ends (attributeAt (now (s .entry)) at)) × Within at r (length (now (s .entry))) ⌝ }
 {
-    let name = texts::led_end(s, at, Room::Document, Rule::Characters);
+    let name = texts::text_end(s, at);
     match name {
         Ended::Refused(n, p) => Ended::Refused(n, p),
         Ended::End(next) => kind_end(s, next),
@@ -88,7 +86,7 @@ pub fn layout_end(s: &[u8], at: usize) -> Ended
     if s.len() < at + 4 {
         return Ended::Refused(1, at);
     }
-    let name = texts::led_end(s, at + 4, Room::Document, Rule::Characters);
+    let name = texts::text_end(s, at + 4);
     match name {
         Ended::Refused(n, p) => Ended::Refused(n, p),
         Ended::End(counted) => {

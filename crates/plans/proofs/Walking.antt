@@ -8,7 +8,7 @@ use native.Mathlib.Omega.{arith}
 use lib.ListN.{length, getD}
 use lib.Dec.{leb}
 use borrow.Author.Tests.{leb-true, leb-false, eq-eqb, ne-eqb}
-use Rattle.octets.specs.Reading.{ok, ends, isOk, be, reach}
+use Rattle.octets.specs.Reading.{ok, ends, isOk, reach}
 use Rattle.octets.specs.Answers.{says, Within}
 use Rattle.octets.specs.declared.Room.{Room}
 use Rattle.octets.specs.declared.Room.the-variants.{Stated}
@@ -23,8 +23,8 @@ use Rattle.layouts.specs.Layout.{Attribute}
 use Rattle.rows.specs.Row.{fieldsIn}
 use Rattle.kinds.specs.Forms.{valueIn}
 use Rattle.octets.proofs.Ends.{ends-ok, ok-alike, number-in, number-over, overrun-ends, overrun-no}
-use Rattle.texts.specs.Texts.{ledIn}
-use Rattle.kinds.proofs.Forms.{fixed-ends, led-ends, truth-ok, truth-over, truth-bad, value-ends, value-refused}
+use Rattle.texts.specs.Texts.{holds, ledIn}
+use Rattle.kinds.proofs.Forms.{fixed-ends, led-ends, value-ends, value-refused}
 use Rattle.rows.proofs.Values.{fields-none, fields-on, fields-no}
 use Rattle.plans.specs.Plan.{mark, planOf, Begins}
 use Rattle.plans.specs.Answers.{passedOf, ruleAt, closing, Closes}
@@ -207,6 +207,14 @@ module _ (s steps : List ℕ) (end : ℕ) (xs : List Attribute) (at pos j : ℕ)
             rest : (w m : ℕ) → 0 < m → m < 4 → step ≡ (0 + w) * 4 + m → m ≡ step % 4
             rest w m z y e = omega arith
 
+-- The rule of octets that close a step: a string's, or none.
+module _ (kind : ℕ) (xs : List ℕ) where
+  pub string-rule : kind ≡ 3 → holds (ruleAt kind) xs ≡ holds rule.Characters xs
+  string-rule e = rw (eq-eqb kind 3 e) refl
+
+  pub free-rule : (kind ≡ 3 → ⊥) → holds (ruleAt kind) xs ≡ true
+  free-rule e = rw (ne-eqb kind 3 e) refl
+
 -- Octets that close a step, by their end in one room of that reach.
 pub closes-led : (s : List ℕ) (at end kind : ℕ) (x : Ended) → (kind ≡ 2 → ⊥) → says x ≡ ends (ledIn (ruleAt kind) (Stated end 0) s at) → Within at x end
     → Closes s at end kind (passedOf x)
@@ -216,16 +224,3 @@ closes-led s at end kind (Refused n p) k e w = λ room h.
     rw (ne-eqb kind 2 k)
     (value-refused s at (form.Led (ruleAt kind)) (Stated end 0) room (sym h)
     (sym (ends-ok (valueIn (Stated end 0) (form.Led (ruleAt kind)) s at)) ∙ (ap isOk (led-ends (Stated end 0) s at (ruleAt kind)) ∙ sym (ap isOk e))))
-
--- A boolean that closes a step.
-module _ (room : Room) (s : List ℕ) (at kind : ℕ) (is : kind ≡ 2) where
-  pub close-truth : at + 1 ≤ reach room s → be 1 s at ≤ 1 → ends (valueIn room (closing kind) s at) ≡ ok (at + 1) (at + 1)
-  close-truth h g = rw (eq-eqb kind 2 is) (truth-ok room s at h g)
-
-  pub close-none : reach room s < at + 1 → isOk (valueIn room (closing kind) s at) ≡ false
-  close-none h =
-      rw (eq-eqb kind 2 is)
-      (overrun-no (valueIn room form.Truth s at) room at (truth-over room s at h))
-
-  pub close-bad : at + 1 ≤ reach room s → 1 < be 1 s at → isOk (valueIn room (closing kind) s at) ≡ false
-  close-bad h g = rw (eq-eqb kind 2 is) (sym (ends-ok (valueIn room form.Truth s at)) ∙ ap isOk (truth-bad room s at h g))

@@ -34,7 +34,7 @@ passedOf (ended.Refused n p) = passed.Unsure
 
 -- The rule of octets that close a step, and the form of the value that closes it.
 abbrev pub ruleAt : ℕ → Rule
-ruleAt kind = choose (eqb kind 1) (λ _. rule.Free) (λ _. rule.Characters)
+ruleAt kind = choose (eqb kind 3) (λ _. rule.Characters) (λ _. rule.Free)
 
 abbrev pub closing : ℕ → Form
 closing kind = choose (eqb kind 2) (λ _. form.Truth) (λ _. form.Led (ruleAt kind))

@@ -12,7 +12,7 @@ ghost use Rattle.layouts.specs.Layout.{Attribute, attributeAt};
 ghost use Rattle.rows.specs.Answers.{Attributes};
 ghost use Rattle.kinds.specs.Forms.{Slim};
 ghost use Rattle.plans.specs.Plan.{closer, mark, planOf, mostSteps, Plan};
-ghost use Rattle.plans.specs.Answers.{Puts, passedOf, ruleAt, Closes, Follows, Lasts};
+ghost use Rattle.plans.specs.Answers.{Puts, Closes, Follows, Lasts};
 use kinds::Form;
 use octets::Ended;
 use octets::Room;
@@ -102,34 +102,11 @@ pub fn put_plan<'d, 'p>(
     Put::To(j + 1)
 }
 
-// An end where there is one: a plan asks for no refusal.
-fn passed_of(ended: Ended) -> Passed
-    ensures { λ r. ⌜ r ≡ passedOf ended ⌝ }
-{
-    match ended {
-        Ended::End(next) => Passed::To(next),
-        Ended::Refused(n, p) => Passed::Unsure,
-    }
-}
-
-// And back: the rule of octets that close a step.
-fn rule_at(kind: usize) -> Rule
-    ensures { λ r. ⌜ r ≡ ruleAt kind ⌝ }
-{
-    if kind == 1 {
-        return Rule::Free;
-    }
-    Rule::Characters
-}
-
-// The place behind the value that closes a step.
-fn close_end(doc: &[u8], at: usize, end: usize, kind: usize) -> Passed
+// The place behind the boolean that closes a step: a plan asks for no refusal.
+fn truth_close(doc: &[u8], at: usize, end: usize) -> Passed
     requires { ⌜ (end ≤ length (now doc)) × (length (now doc) ≤ longest) × (at ≤ 2097152) ⌝ }
-    ensures { λ r. ⌜ Closes (now (doc .entry)) at end kind r ⌝ }
+    ensures { λ r. ⌜ Closes (now (doc .entry)) at end 2 r ⌝ }
 {
-    if kind != 2 {
-        return passed_of(texts::led_end(doc, at, Room::Stated(end, 0), rule_at(kind)));
-    }
     if end < at + 1 {
         return Passed::Unsure;
     }
@@ -137,6 +114,28 @@ fn close_end(doc: &[u8], at: usize, end: usize, kind: usize) -> Passed
         return Passed::Unsure;
     }
     Passed::To(at + 1)
+}
+
+// The place behind the value that closes a step; of octets, those of a string are asked whether they are UTF-8.
+fn close_end(doc: &[u8], at: usize, end: usize, kind: usize) -> Passed
+    requires { ⌜ (end ≤ length (now doc)) × (length (now doc) ≤ longest) × (at ≤ 2097152) ⌝ }
+    ensures { λ r. ⌜ Closes (now (doc .entry)) at end kind r ⌝ }
+{
+    if kind == 2 {
+        return truth_close(doc, at, end);
+    }
+    let there = texts::octets_end(doc, at, Room::Stated(end, 0));
+    match there {
+        Ended::Refused(n, p) => Passed::Unsure,
+        Ended::End(next) => {
+            if kind == 3 {
+                if !utf8::is_utf8(doc, at + 4, next) {
+                    return Passed::Unsure;
+                }
+            }
+            Passed::To(next)
+        }
+    }
 }
 
 // The place behind the values of the attributes whose plan stands in the steps from an index on.

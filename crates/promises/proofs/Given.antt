@@ -9,7 +9,7 @@ use Rattle.octets.specs.Limits.{longest}
 use Rattle.octets.specs.Reading.{Read, no, be, part, numberIn, count, exactly, run}
 use Rattle.octets.specs.Writing.{word, images}
 use Rattle.utf8.specs.Utf8.{opens, spells, utf8}
-use Rattle.texts.specs.Texts.{ledIn, ledImage}
+use Rattle.texts.specs.Texts.{octetsIn, ledIn, ledImage}
 use Rattle.kinds.specs.Kinds.{among, basicOf, kindAt}
 use Rattle.layouts.specs.Layout.{attributeAt, layoutAt, attributeImage, layoutImage}
 use Rattle.layouts.specs.Book.{find, bookImage, layoutsAt, bookOf, learn}
@@ -59,7 +59,7 @@ headerInputs : List (List ℕ)
 headerInputs = [] ∷ long ∷ set specimen 3 3 ∷ set specimen 23 17 ∷ set specimen 31 15 ∷ set specimen 51 0 ∷ set (set specimen 7 1) 8 0xe9 ∷ []
 
 header-each : refusalsOf headerAt headerInputs ≡ headerNumbers
-unfolding headerInputs specimen be part numberIn opens spells utf8 ledIn count exactly run namespaceAt idAt headerFrom headerAt
+unfolding headerInputs specimen be part numberIn opens spells utf8 octetsIn ledIn count exactly run namespaceAt idAt headerFrom headerAt
 header-each = ap (λ (r : Read Header). 1 ∷ refusalOf r ∷ 3 ∷ 4 ∷ 5 ∷ 6 ∷ 24 ∷ []) header-long
 
 abbrev step : Inputs → Read Stepped
@@ -85,7 +85,7 @@ stepInputs =
     ∷ []
 
 step-each : refusalsOf step stepInputs ≡ stepNumbers
-unfolding stepInputs specimen layoutBook emptyBook be part numberIn opens spells utf8 ledIn count exactly run word ledImage images among basicOf kindAt attributeAt layoutAt attributeImage layoutImage find bookImage layoutsAt bookOf learn valueIn fieldsIn valuesAt rowAt finishAt elementAt lentBook stepAt
+unfolding stepInputs specimen layoutBook emptyBook be part numberIn opens spells utf8 octetsIn ledIn count exactly run word ledImage images among basicOf kindAt attributeAt layoutAt attributeImage layoutImage find bookImage layoutsAt bookOf learn valueIn fieldsIn valuesAt rowAt finishAt elementAt lentBook stepAt
 step-each = ap (λ (r : Read Stepped). refusalOf r ∷ 17 ∷ elementNumbers) step-long
 
 wholeInputs : List (List ℕ)
@@ -95,7 +95,7 @@ wholeInputs =
     ∷ set specimen 94 8 ∷ set specimen 98 6 ∷ set specimen 86 0x29 ∷ set specimen 128 3 ∷ (specimen ++ 0 ∷ []) ∷ set specimen 64 0xe9 ∷ []
 
 whole-each : refusalsOf whole wholeInputs ≡ wholeNumbers
-unfolding wholeInputs specimen be part numberIn opens spells utf8 ledIn count exactly run word ledImage images among basicOf kindAt attributeAt layoutAt attributeImage layoutImage find bookImage learn valueIn fieldsIn valuesAt rowAt namespaceAt idAt headerFrom headerAt finishAt elementAt walk through reading whole
+unfolding wholeInputs specimen be part numberIn opens spells utf8 octetsIn ledIn count exactly run word ledImage images among basicOf kindAt attributeAt layoutAt attributeImage layoutImage find bookImage learn valueIn fieldsIn valuesAt rowAt namespaceAt idAt headerFrom headerAt finishAt elementAt walk through reading whole
 whole-each = ap (λ (r : Read ℕ). 1 ∷ refusalOf r ∷ 3 ∷ 4 ∷ 5 ∷ 6 ∷ 7 ∷ 8 ∷ 9 ∷ 10 ∷ 11 ∷ 12 ∷ 13 ∷ 14 ∷ 15 ∷ 16 ∷ 24 ∷ []) whole-long
 
 pub refusals : Refusals

@@ -14,12 +14,12 @@ use Rattle.elements.specs.Walk.{walk, through}
 use Rattle.elements.specs.Reading.{readingFrom, reading, whole}
 use Rattle.octets.specs.Asked.{nth}
 use Rattle.utf8.specs.Utf8.{opens, spells, utf8}
-use Rattle.texts.specs.Texts.{ledIn, ledImage}
+use Rattle.texts.specs.Texts.{octetsIn, ledIn, ledImage}
 use Rattle.questions.specs.Questions.{kindAsked, bookAsked, rowAsked, fieldAsked}
 use Rattle.promises.specs.Specimen.{specimen, shorts, layoutBook, shortBook, emptyBook}
 use Rattle.promises_questions.specs.Cases.{cases, asks, expects}
 
 pub all-hold : asks cases ≡ expects cases
-unfolding specimen shorts layoutBook shortBook emptyBook be part numberIn opens spells utf8 ledIn count exactly run word ledImage images among basicOf signed kindAt attributeAt layoutAt attributeImage layoutImage find
+unfolding specimen shorts layoutBook shortBook emptyBook be part numberIn opens spells utf8 octetsIn ledIn count exactly run word ledImage images among basicOf signed kindAt attributeAt layoutAt attributeImage layoutImage find
     bookImage layoutsAt bookOf learn valueIn fieldsIn valuesAt rowAt namespaceAt idAt headerFrom headerAt finishAt elementAt lentBook walk through readingFrom reading whole kindAsked bookAsked nth rowAsked fieldAsked
 all-hold = refl

@@ -17,7 +17,7 @@ use Rattle.elements.specs.Element.{elementAt}
 use Rattle.elements.specs.Steps.{lentBook}
 use Rattle.octets.specs.Asked.{nth}
 use Rattle.utf8.specs.Utf8.{opens, spells, utf8}
-use Rattle.texts.specs.Texts.{ledIn, ledImage}
+use Rattle.texts.specs.Texts.{octetsIn, ledIn, ledImage}
 use Rattle.questions.specs.Questions.{kindAsked, bookAsked, rowAsked, fieldAsked, layoutAsked, attributeAsked}
 use Rattle.header_questions.specs.Questions.{namespaceAsked, serviceAsked}
 use Rattle.promises.specs.Specimen.{specimen, layoutBook, emptyBook}
@@ -71,7 +71,7 @@ abbrev field : Indexed → Read Field
 field i = fieldAsked (i .step .document) (i .step .place) (i .step .rows) (i .step .octets) (i .step .used) (i .index)
 
 field-each : refusalsOf field fieldInputs ≡ fieldNumbers
-unfolding fieldInputs specimen layoutBook emptyBook be part numberIn opens spells utf8 ledIn count run among basicOf kindAt attributeAt layoutAt find layoutsAt bookOf valueIn fieldsIn valuesAt rowAt elementAt lentBook kindAsked bookAsked nth rowAsked fieldAsked
+unfolding fieldInputs specimen layoutBook emptyBook be part numberIn opens spells utf8 octetsIn ledIn count run among basicOf kindAt attributeAt layoutAt find layoutsAt bookOf valueIn fieldsIn valuesAt rowAt elementAt lentBook kindAsked bookAsked nth rowAsked fieldAsked
 field-each = ap (λ (r : Read Field). 1 ∷ refusalOf r ∷ 7 ∷ 12 ∷ 13 ∷ 14 ∷ 17 ∷ 18 ∷ 19 ∷ 24 ∷ []) field-long
 
 layoutInputs : List Inputs
@@ -84,7 +84,7 @@ abbrev layout : Inputs → Read Layout
 layout i = layoutAsked (i .document) (i .place) (i .rows) (i .octets) (i .used)
 
 layout-each : refusalsOf layout layoutInputs ≡ layoutNumbers
-unfolding layoutInputs specimen layoutBook emptyBook be part numberIn opens spells utf8 ledIn count run word ledImage images among basicOf kindAt attributeAt layoutAt attributeImage layoutImage find bookImage layoutsAt bookOf learn elementAt lentBook kindAsked bookAsked layoutAsked
+unfolding layoutInputs specimen layoutBook emptyBook be part numberIn opens spells utf8 octetsIn ledIn count run word ledImage images among basicOf kindAt attributeAt layoutAt attributeImage layoutImage find bookImage layoutsAt bookOf learn elementAt lentBook kindAsked bookAsked layoutAsked
 layout-each = ap (λ (r : Read Layout). 1 ∷ refusalOf r ∷ 4 ∷ 7 ∷ 8 ∷ 9 ∷ 10 ∷ 11 ∷ 17 ∷ 19 ∷ 24 ∷ []) layout-long
 
 abbrev attribute : Indexed → Read Attribute
@@ -99,7 +99,7 @@ attributeInputs : List Indexed
 attributeInputs = record { step = bare specimen 52; index = 2 } ∷ firsts layoutInputs
 
 attribute-each : refusalsOf attribute attributeInputs ≡ attributeNumbers
-unfolding attributeInputs layoutInputs specimen layoutBook emptyBook be part numberIn opens spells utf8 ledIn count run word ledImage images among basicOf kindAt attributeAt layoutAt attributeImage layoutImage find bookImage layoutsAt bookOf learn elementAt lentBook kindAsked bookAsked nth layoutAsked attributeAsked
+unfolding attributeInputs layoutInputs specimen layoutBook emptyBook be part numberIn opens spells utf8 octetsIn ledIn count run word ledImage images among basicOf kindAt attributeAt layoutAt attributeImage layoutImage find bookImage layoutsAt bookOf learn elementAt lentBook kindAsked bookAsked nth layoutAsked attributeAsked
 attribute-each = ap (λ (r : Read Attribute). 18 ∷ 1 ∷ refusalOf r ∷ 4 ∷ 7 ∷ 8 ∷ 9 ∷ 10 ∷ 11 ∷ 17 ∷ 19 ∷ 24 ∷ []) attribute-long
 
 listedInputs : List Listed
@@ -109,11 +109,11 @@ listedInputs =
     ∷ record { document = set (set specimen 7 1) 8 0xe9; index = 0 } ∷ []
 
 namespace-each : refusalsOf (λ (i : Listed). namespaceAsked (i .document) (i .index)) listedInputs ≡ listedNumbers
-unfolding listedInputs specimen be part numberIn opens spells utf8 ledIn count exactly run namespaceAt idAt headerFrom headerAt nth namespaceAsked
+unfolding listedInputs specimen be part numberIn opens spells utf8 octetsIn ledIn count exactly run namespaceAt idAt headerFrom headerAt nth namespaceAsked
 namespace-each = ap (λ (r : Read Namespace). 18 ∷ 1 ∷ refusalOf r ∷ 3 ∷ 4 ∷ 5 ∷ 6 ∷ 24 ∷ []) namespace-long
 
 service-each : refusalsOf (λ (i : Listed). serviceAsked (i .document) (i .index)) listedInputs ≡ listedNumbers
-unfolding listedInputs specimen be part numberIn opens spells utf8 ledIn count exactly run namespaceAt idAt headerFrom headerAt nth serviceAsked
+unfolding listedInputs specimen be part numberIn opens spells utf8 octetsIn ledIn count exactly run namespaceAt idAt headerFrom headerAt nth serviceAsked
 service-each = ap (λ (r : Read (List ℕ)). 18 ∷ 1 ∷ refusalOf r ∷ 3 ∷ 4 ∷ 5 ∷ 6 ∷ 24 ∷ []) service-long
 
 pub numbers : Numbers

@@ -8,7 +8,7 @@ use lib.ListN.{replicate, set}
 use Rattle.octets.specs.Reading.{be, part, numberIn, count, run}
 use Rattle.octets.specs.Writing.{word, images, over}
 use Rattle.utf8.specs.Utf8.{opens, spells, utf8}
-use Rattle.texts.specs.Texts.{ledIn, ledImage}
+use Rattle.texts.specs.Texts.{octetsIn, ledIn, ledImage}
 use Rattle.texts.specs.declared.Rule.the-variants.{Characters}
 use Rattle.kinds.specs.declared.Basic.the-variants as b
 use Rattle.kinds.specs.declared.Value.the-variants as value
@@ -116,7 +116,7 @@ fields-each :
     × (refusals writer.typeName (textInputs wants.TypeName) ≡ textNumbers)
     × (refusals writer.attributeName (textInputs wants.AttributeName) ≡ textNumbers)
     × (refusals writer.finish (fieldInputs wants.Element 0) ≡ fieldNumbers)
-unfolding emptyBook numberIn opens spells utf8 ledIn be part word ledImage layoutsAt bookOf bookIn room bounded does layoutSoFar faultOf deedAnswer call
+unfolding emptyBook numberIn opens spells utf8 octetsIn ledIn be part word ledImage layoutsAt bookOf bookIn room bounded does layoutSoFar faultOf deedAnswer call
 fields-each = (refl, refl, refl, refl, refl, refl, refl, refl, refl, refl)
 
 counts-each :
@@ -127,7 +127,7 @@ unfolding idInputs emptyBook be part word layoutsAt bookOf bookIn room bounded d
 counts-each = (refl, refl, refl)
 
 layouts-each : (refusals writer.attributeCount attributesInputs ≡ attributesNumbers) × (refusals writer.attributeType typeInputs ≡ typeNumbers)
-unfolding attributesInputs typeInputs specimen layoutBook emptyBook be part numberIn opens spells utf8 ledIn count run word ledImage images over among basicOf kindAt attributeAt layoutAt attributeImage layoutImage find layoutsAt bookOf bookIn room bounded does layoutSoFar faultOf deedAnswer call
+unfolding attributesInputs typeInputs specimen layoutBook emptyBook be part numberIn opens spells utf8 octetsIn ledIn count run word ledImage images over among basicOf kindAt attributeAt layoutAt attributeImage layoutImage find layoutsAt bookOf bookIn room bounded does layoutSoFar faultOf deedAnswer call
 layouts-each = (refl, refl)
 
 rows-each :
@@ -137,7 +137,7 @@ rows-each :
     × (refusals (λ (a : Handed). writer.valueCall (a .value) (a .octets)) handedInputs ≡ octetsNumbers)
     × (refusals (λ (a : Unit {0}). writer.closeRow) closeInputs ≡ closeNumbers)
     × (refusals (λ (a : Unit {0}). writer.giveUp) (anyhow tt []) ≡ giveUpNumbers)
-unfolding rowInputs closeInputs specimen layoutBook emptyBook be part numberIn opens spells utf8 ledIn count run word ledImage images over among basicOf kindAt unsigned attributeAt layoutAt find layoutsAt bookOf bookIn room bounded rowLayout does layoutSoFar faultOf deedAnswer call
+unfolding rowInputs closeInputs specimen layoutBook emptyBook be part numberIn opens spells utf8 octetsIn ledIn count run word ledImage images over among basicOf kindAt unsigned attributeAt layoutAt find layoutsAt bookOf bookIn room bounded rowLayout does layoutSoFar faultOf deedAnswer call
 rows-each = (refl, refl, refl, refl, refl, refl)
 
 -- A field with nothing of its own to refuse, and a string.

@@ -7,7 +7,7 @@ use lib.ListN.{replicate}
 use Rattle.octets.specs.Reading.{be, part, numberIn, count, exactly, run}
 use Rattle.octets.specs.Writing.{word}
 use Rattle.utf8.specs.Utf8.{spells, utf8}
-use Rattle.texts.specs.Texts.{ledIn}
+use Rattle.texts.specs.Texts.{octetsIn, ledIn}
 use Rattle.kinds.specs.Kinds.{signed}
 use Rattle.headers.specs.Header.{namespaceAt, idAt, headerFrom, headerAt}
 use Rattle.elements.specs.Element.{finish}
@@ -21,7 +21,7 @@ abbrev started : List ℕ → List ℕ
 started time = word 4 4 ++ word 4 0 ++ time ++ replicate 12 0 ++ word 4 16 ++ replicate 16 0 ++ replicate 4 0xff
 
 pub start-earlier : headTells (headerAt (started (replicate 8 0xff))) ≡ headed.Is (record { start = negsuc 0; namespaces = 0; services = 0; next = 52 })
-unfolding word be part numberIn spells utf8 ledIn count exactly run namespaceAt idAt headerFrom headerAt signed
+unfolding word be part numberIn spells utf8 octetsIn ledIn count exactly run namespaceAt idAt headerFrom headerAt signed
 start-earlier = refl
 
 pub end-earlier : (n : ℕ) → metOf (finish n (be 8 (replicate 8 0xff) 0)) ≡ met.End n (negsuc 0)

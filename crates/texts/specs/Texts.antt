@@ -23,13 +23,15 @@ abbrev pub fault : Rule → ℕ
 fault Free = 0
 fault Characters = 24
 
--- A four-octet length and that many octets, perhaps none; where they do not fit or break their rule, the place is the length's.
-unfoldable pub ledIn : Rule → Room → List ℕ → ℕ → Read (List ℕ)
-ledIn rule room s at =
+-- A four-octet length and that many octets, perhaps none; where they do not fit, the place is the length's.
+unfoldable pub octetsIn : Room → List ℕ → ℕ → Read (List ℕ)
+octetsIn room s at =
     numberIn room 4 s at then λ n next.
-    choose (leb (next + n) (reach room s))
-    (λ _. choose (holds rule (part s next n)) (λ _. ok (part s next n) (next + n)) (λ _. no (fault rule) at))
-    (λ _. overrun room at)
+    choose (leb (next + n) (reach room s)) (λ _. ok (part s next n) (next + n)) (λ _. overrun room at)
+
+-- The same by a rule, which is asked of them when they are known to be there; where they break it, the place is the length's too.
+unfoldable pub ledIn : Rule → Room → List ℕ → ℕ → Read (List ℕ)
+ledIn rule room s at = octetsIn room s at then λ xs next. choose (holds rule xs) (λ _. ok xs next) (λ _. no (fault rule) at)
 
 -- A string that only the document's end bounds.
 abbrev pub text : List ℕ → ℕ → Read (List ℕ)

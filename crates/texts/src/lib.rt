@@ -10,8 +10,8 @@ ghost use Rattle.octets.specs.Limits.{longest};
 ghost use Rattle.octets.specs.Reading.{ok, reach, be, part, ends, isOk};
 ghost use Rattle.octets.specs.declared.Room.the-variants.{Document};
 ghost use Rattle.octets.specs.Answers.{says, Within};
-ghost use Rattle.texts.specs.Texts.{holds, fault, ledIn, text};
-ghost use Rattle.texts.specs.Answers.{Stands};
+ghost use Rattle.texts.specs.Texts.{holds, fault, octetsIn, ledIn, text};
+ghost use Rattle.texts.specs.Answers.{Behind, Stands};
 use octets::Ended;
 use octets::Room;
 
@@ -50,10 +50,10 @@ fn led_behind(s: &[u8], at: usize) -> usize
     at + 4 + (octets::u32_at(s, at) as usize)
 }
 
-// The place behind octets and their length.
-pub fn led_end(s: &[u8], at: usize, room: Room, rule: Rule) -> Ended
+// The place behind octets and their length, whatever they are.
+pub fn octets_end(s: &[u8], at: usize, room: Room) -> Ended
     requires { ⌜ (at ≤ 4294967296) × (reach room (now s) ≤ length (now s)) × (length (now s) ≤ longest) ⌝ }
-    ensures { λ r. ⌜ (says r ≡ ends (ledIn rule room (now (s .entry)) at)) × Within at r (reach room (now (s .entry))) ⌝ }
+    ensures { λ r. ⌜ (says r ≡ ends (octetsIn room (now (s .entry)) at)) × Behind at r (reach room (now (s .entry))) ⌝ }
 {
     let end = octets::reach(room, s);
     if end < at + 4 {
@@ -63,10 +63,32 @@ pub fn led_end(s: &[u8], at: usize, room: Room, rule: Rule) -> Ended
     if end < next {
         return octets::overrun(room, at);
     }
-    if !rule_holds(rule, s, at + 4, next) {
-        return Ended::Refused(fault_of(rule), at);
-    }
     Ended::End(next)
+}
+
+// The place behind octets and their length, by their rule.
+pub fn led_end(s: &[u8], at: usize, room: Room, rule: Rule) -> Ended
+    requires { ⌜ (at ≤ 4294967296) × (reach room (now s) ≤ length (now s)) × (length (now s) ≤ longest) ⌝ }
+    ensures { λ r. ⌜ (says r ≡ ends (ledIn rule room (now (s .entry)) at)) × Within at r (reach room (now (s .entry))) ⌝ }
+{
+    let there = octets_end(s, at, room);
+    match there {
+        Ended::Refused(n, p) => Ended::Refused(n, p),
+        Ended::End(next) => {
+            if rule_holds(rule, s, at + 4, next) {
+                return Ended::End(next);
+            }
+            Ended::Refused(fault_of(rule), at)
+        }
+    }
+}
+
+// The place behind a string of a document's header or of a layout.
+pub fn text_end(s: &[u8], at: usize) -> Ended
+    requires { ⌜ (at ≤ length (now s)) × (length (now s) ≤ longest) ⌝ }
+    ensures { λ r. ⌜ (says r ≡ ends (text (now (s .entry)) at)) × Within at r (length (now (s .entry))) ⌝ }
+{
+    led_end(s, at, Room::Document, Rule::Characters)
 }
 
 // The place behind a string that is known to be accepted.

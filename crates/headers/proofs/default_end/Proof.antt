@@ -15,7 +15,7 @@ returns c = let a = c .before .before .args in (rw (number-no (now (a .s)) (a .a
 returns-2 : tie.Need-returns-2
 returns-2 c =
     let a = c .before .before .before .args in
-    let t = c .led-end in
+    let t = c .text-end in
     (rw (number-ok (now (a .s)) (a .at) 8 (omega arith)) (t .ensures .0), behind (a .at) (a .at + 8) (t .result) (length (now (a .s))) (omega arith) (t .ensures .1))
 
 pub default-end-spec : {M : Type 1} → statement M

@@ -27,7 +27,7 @@ S c = now (Start c .args .s)
 
 first : (c : Read-one) → let p = c .before .first2 .given .0 .0 in (ends (text (S c) (Start c .args .at)) ≡ ok p p) × Within (Start c .args .at) (End p) (length (S c))
 first c =
-    let t = rw (c .before .first2 .given .1) at (c .before .before .before .led-end .ensures) in
+    let t = rw (c .before .first2 .given .1) at (c .before .before .before .text-end .ensures) in
     (sym (t .0), t .1)
 
 returns : tie.Need-returns
@@ -35,21 +35,21 @@ returns c =
     let f = first (c .before) in
     (rw (c .if1 .taken) (sym (f .0)), f .1)
 
-led-end-requires-2 : tie.Need-led-end-requires-2
-led-end-requires-2 c κs = let f = first (c .before) in let p = Start (c .before) .pre in omega (arith, f .1)
+text-end-requires-2 : tie.Need-text-end-requires-2
+text-end-requires-2 c κs = let f = first (c .before) in let p = Start (c .before) .pre in omega (arith, f .1)
 
 returns-2 : tie.Need-returns-2
 returns-2 c =
     let v = c .before .before .before in
     let a = v .before .before .args in
-    (sym (item-stop (now (a .s)) (a .at) (a .service) _ _ (sym (v .led-end .ensures .0) ∙ ap says (c .before .first .given .1))), tt)
+    (sym (item-stop (now (a .s)) (a .at) (a .service) _ _ (sym (v .text-end .ensures .0) ∙ ap says (c .before .first .given .1))), tt)
 
 returns-3 : tie.Need-returns-3
 returns-3 c =
     let r = c .before .before in
     let a = Start r .args in
     let f = first r in
-    let t = c .led-end2 in (
+    let t = c .text-end2 in (
       rw (c .before .if1 .left) (t .ensures .0 ∙ sym (namespace-on (S r) (a .at) _ (f .0))),
       behind (a .at) _ (t .result) (length (S r)) (f .1 .0) (t .ensures .1),
     )
@@ -57,4 +57,4 @@ returns-3 c =
 pub item-end-spec : {M : Type 1} → statement M
 item-end-spec =
     tie.close
-    (tie.spec (λ c κs. search needs) (λ c. search needs) (λ c. search needs) returns led-end-requires-2 returns-2 returns-3)
+    (tie.spec (λ c κs. search needs) (λ c. search needs) (λ c. search needs) returns text-end-requires-2 returns-2 returns-3)

@@ -11,8 +11,8 @@ use Rattle.texts.specs.Texts.{text}
 use Rattle.headers.proofs.recorder_end.Statement.{statement}
 use Rattle.headers.proofs.recorder_end.Tie as tie
 
-led-end-requires : tie.Need-led-end-requires
-led-end-requires c κs =
+text-end-requires : tie.Need-text-end-requires
+text-end-requires c κs =
     let w = rw (c .before .version2 .given .1) at (c .before .before .before .exactly-at .ensures .1) in
     omega arith
 
@@ -26,7 +26,7 @@ returns-2 c =
     let a = c .before .before .before .before .before .before .args in
     let v = c .before .before .before .before .exactly-at in
     let e = c .before .before .version2 .given .1 in
-    let t = c .led-end in (
+    let t = c .text-end in (
       t .ensures .0 ∙ sym (on (exactly 4 3 (now (a .s)) 0) _ (λ m. ends (text (now (a .s)) m)) _ (λ _ m. refl) (sym (v .ensures .0) ∙ ap says e)),
       behind 0 _ (t .result) (length (now (a .s))) (rw e at (v .ensures .1) .0) (t .ensures .1),
     )
@@ -34,4 +34,4 @@ returns-2 c =
 pub recorder-end-spec : {M : Type 1} → statement M
 recorder-end-spec =
     tie.close
-    (tie.spec (λ c κs. search needs) (λ c. search needs) (λ c. search needs) led-end-requires returns returns-2)
+    (tie.spec (λ c κs. search needs) (λ c. search needs) (λ c. search needs) text-end-requires returns returns-2)

@@ -15,7 +15,7 @@ returns c = (sym (layout-no (now (c .before .before .args .s)) (c .before .befor
 
 count-at-requires : tie.Need-count-at-requires
 count-at-requires c κs =
-    let w = rw (c .before .name2 .given .1) at (c .before .before .before .led-end .ensures .1) in
+    let w = rw (c .before .name2 .given .1) at (c .before .before .before .text-end .ensures .1) in
     omega arith
 
 attributes-end-requires : tie.Need-attributes-end-requires
@@ -26,14 +26,14 @@ attributes-end-requires c κs =
 returns-2 : tie.Need-returns-2
 returns-2 c =
     let a = c .before .before .before .before .before .before .args in
-    let h = sym (c .before .before .before .led-end .ensures .0) ∙ ap says (c .before .name .given .1) in
+    let h = sym (c .before .before .before .text-end .ensures .0) ∙ ap says (c .before .name .given .1) in
     (sym (layout-unnamed (now (a .s)) (a .at) _ _ (omega arith) h), tt)
 
 returns-3 : tie.Need-returns-3
 returns-3 c =
     let m = c .before .before .before .before .before in
     let a = m .before .before .before .before .before .args in
-    let h = sym (m .before .before .led-end .ensures .0) ∙ ap says (m .name2 .given .1) in
+    let h = sym (m .before .before .text-end .ensures .0) ∙ ap says (m .name2 .given .1) in
     let k = sym (c .before .before .before .count-at .ensures .0) ∙ ap counts (c .before .count .given .1) in
     (sym (layout-uncounted (now (a .s)) (a .at) _ _ _ (omega arith) h k), tt)
 
@@ -42,9 +42,9 @@ returns-4 c =
     let f = c .before .before in
     let m = f .before .before .before .before in
     let a = m .before .before .before .before .before .args in
-    let w = rw (m .name2 .given .1) at (m .before .before .led-end .ensures .1) in
+    let w = rw (m .name2 .given .1) at (m .before .before .text-end .ensures .1) in
     let v = rw (f .count2 .given .1) at (f .before .before .count-at .ensures .1) in
-    let h = sym (m .before .before .led-end .ensures .0) ∙ ap says (m .name2 .given .1) in
+    let h = sym (m .before .before .text-end .ensures .0) ∙ ap says (m .name2 .given .1) in
     let k = sym (f .before .before .count-at .ensures .0) ∙ ap counts (f .count2 .given .1) in (
       c .attributes-end .ensures .0 ∙ sym (layout-on (now (a .s)) (a .at) _ _ _ (omega arith) h k),
       behind (a .at) _ (c .attributes-end .result) (length (now (a .s))) (omega arith) (c .attributes-end .ensures .1),
