@@ -6,7 +6,7 @@ use mathlib.Core.List.{List, [], _∷_, _++_, append-assoc, append-nil}
 use native.Mathlib.Omega.{arith}
 use native.Mathlib.Nat.{zero-add}
 use lib.ListN.{length, length-append}
-use lib.Dec.{leb, eqb, lit<}
+use lib.Dec.{leb, eqb}
 use borrow.Author.Tests.{eqb-true, leb-true}
 use Rattle.octets.specs.Limits.{longest, mostListed}
 use Rattle.octets.specs.Writing.{word, images, Each, Octet}

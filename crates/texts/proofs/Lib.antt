@@ -1,3 +1,4 @@
 pub mod Ends
 pub mod Fields
+pub mod Computed
 pub mod Contracts

@@ -46,20 +46,15 @@ fn last_ascii_to(s: &[u8], at: usize, to: usize) -> usize
     to - 8 + unmarked(m % (1 << (8 * (to - at))))
 }
 
-// A place up to which octets are ASCII, eight at a time.
+// The place up to which octets are ASCII, of the next eight or, where fewer are left, of the last ones.
 fn ascii_to(s: &[u8], at: usize, to: usize) -> usize
     requires { ⌜ (at ≤ to) × (to ≤ length (now s)) ⌝ }
     ensures { λ r. ⌜ (at ≤ r) × (r ≤ to) × Ascii (now (s .entry)) at r ⌝ }
 {
-    let mut i = at;
-    while 8 <= to - i {
-        let m = marks_at(s, i);
-        if m != 0 {
-            return i + unmarked(m);
-        }
-        i += 8;
+    if 8 <= to - at {
+        return at + unmarked(marks_at(s, at));
     }
-    last_ascii_to(s, i, to)
+    last_ascii_to(s, at, to)
 }
 
 // Whether an octet of a range stands at a place before the end, whatever is wanted behind it.
@@ -192,6 +187,9 @@ pub fn is_utf8(s: &[u8], from: usize, to: usize) -> bool
     requires { ⌜ (from ≤ to) × (to ≤ length (now s)) ⌝ }
     ensures { λ r. ⌜ r ≡ utf8 (part (now (s .entry)) from (to - from)) ⌝ }
 {
+    if from == to {
+        return true;
+    }
     let mut i = ascii_front(s, from, to);
     while i < to {
         let Passed::To(next) = pass(s, i, to) else {

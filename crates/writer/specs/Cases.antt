@@ -204,4 +204,25 @@ scripts =
     (value b.UnsignedInt (bits 1) ∷ closeRow ∷ [])
     (21 ∷ 14 ∷ 0 ∷ 14 ∷ [])
     (over (state 14 wants.Element 0 0 1) (0 ∷ 0 ∷ 0 ∷ 2 ∷ 0 ∷ 0 ∷ 0 ∷ 7 ∷ 0 ∷ 0 ∷ 0 ∷ 2 ∷ 5 ∷ 5 ∷ 5 ∷ 5 ∷ 5 ∷ 5 ∷ 5 ∷ 5 ∷ 5 ∷ []) seven 31)
+    -- A string in an old code is 24, before 23 whatever its length, and can be given anew.
+    ∷ script (over (state 0 wants.Recorder 0 0 0) (replicate 9 5) empty 0)
+    (recorder (0xe9 ∷ []) ∷ recorder (0xe9 ∷ replicate 20 65) ∷ recorder (0xc3 ∷ 0xa9 ∷ []) ∷ recorder (65 ∷ []) ∷ [])
+    (24 ∷ 0 ∷ 24 ∷ 0 ∷ 23 ∷ 0 ∷ 0 ∷ 9 ∷ [])
+    (over (state 9 wants.StartTime 0 0 0) (0 ∷ 0 ∷ 0 ∷ 4 ∷ 0 ∷ 0 ∷ 0 ∷ 1 ∷ 65 ∷ []) empty 0)
+    -- Names of a layout, which stays open.
+    ∷ script (over (state 8 wants.TypeName 0 0 0) (replicate 40 5) empty 0)
+    (typeName (0xed ∷ 0xa0 ∷ 0x80 ∷ []) ∷ typeName [] ∷ attributeCount 1 ∷ attributeName (0xc0 ∷ 0x80 ∷ []) ∷ attributeName (0xf0 ∷ 0x9f ∷ 0x98 ∷ 0x80 ∷ []) ∷ giveUp ∷ [])
+    (24 ∷ 8 ∷ 0 ∷ 12 ∷ 0 ∷ 16 ∷ 24 ∷ 16 ∷ 0 ∷ 24 ∷ 0 ∷ 0 ∷ [])
+    (over (state 0 wants.Element 0 0 0) (replicate 24 0 ++ replicate 16 5) empty 0)
+    -- A value: 21 comes before 24, hexBinary is free, and a derived string is a string.
+    ∷ script (over (state 0 wants.Element 0 0 0) (replicate 40 5) eight 30)
+    (openRow 8 true ∷ value b.Boolean (bits 1) ∷ value b.HexBinary (held (0xff ∷ [])) ∷ value b.String (held (0xff ∷ [])) ∷ value b.String (held (0xc3 ∷ 0xa9 ∷ [])) ∷ closeRow ∷ [])
+    (0 ∷ 12 ∷ 0 ∷ 13 ∷ 21 ∷ 13 ∷ 24 ∷ 13 ∷ 0 ∷ 19 ∷ 0 ∷ 19 ∷ [])
+    (over (state 19 wants.Element 0 0 1) (0 ∷ 0 ∷ 0 ∷ 2 ∷ 0 ∷ 0 ∷ 0 ∷ 8 ∷ 0 ∷ 0 ∷ 0 ∷ 7 ∷ 1 ∷ 0 ∷ 0 ∷ 0 ∷ 2 ∷ 0xc3 ∷ 0xa9 ∷ replicate 21 5) eight 30)
+    -- Octets of an open layout that stand already are taken as they are; the book is then none.
+    ∷ script (over (state 13 wants.AttributeCount 0 0 0) (0 ∷ 0 ∷ 0 ∷ 1 ∷ 0 ∷ 0 ∷ 0 ∷ 9 ∷ 0 ∷ 0 ∷ 0 ∷ 1 ∷ 0xe9 ∷ replicate 20 5) empty 0)
+    (attributeCount 0 ∷ finish 0 ∷ [])
+    (0 ∷ 17 ∷ 17 ∷ 17 ∷ [])
+    (over (state 17 wants.Element 0 0 0) (0 ∷ 0 ∷ 0 ∷ 1 ∷ 0 ∷ 0 ∷ 0 ∷ 9 ∷ 0 ∷ 0 ∷ 0 ∷ 1 ∷ 0xe9 ∷ 0 ∷ 0 ∷ 0 ∷ 0 ∷ replicate 16 5)
+    (0 ∷ 0 ∷ 0 ∷ 9 ∷ 0 ∷ 0 ∷ 0 ∷ 1 ∷ 0xe9 ∷ 0 ∷ 0 ∷ 0 ∷ 0 ∷ replicate 32755 9) 13)
     ∷ []

@@ -3,7 +3,7 @@ use borrow.Author.Needs.{needs}
 use native.Mathlib.Omega.{arith}
 use denote.Ref.{now}
 use Prim.Native.Nat.{_+_, _-_, _≤_}
-use mathlib.Core.Path.{_≡_, sym, _∙_}
+use mathlib.Core.Path.{sym, _∙_}
 use Rattle.utf8.specs.Answers.{Ascii}
 use Rattle.utf8.proofs.Ascii.{unmarked-ascii, ascii-join}
 use Rattle.utf8.proofs.ascii_front.Statement.{statement}

@@ -16,24 +16,27 @@ Inv-loop s from to i₀ i = (from ≤ i) × (i ≤ to) × (utf8 (part s from (to
 abbrev μ-loop : tie.MeasureT-loop
 μ-loop s from to i₀ i = to - i
 
+returns : tie.Need-returns Inv-loop μ-loop
+returns c = let a = c .before .before .args in sym (utf8-end (now (a .s)) (a .from) (a .to) (omega arith) (omega arith))
+
 loop-holds : tie.Need-loop-holds Inv-loop μ-loop
 unfolding utf8
 loop-holds c =
     let f = c .ascii-front in
-    let a = c .before .before .args in
+    let a = c .before .before .before .args in
     ascii-passes (now (a .s)) (a .from) (f .result) (a .to) (f .ensures .0) (f .ensures .1) (omega arith) (f .ensures .2)
 
-returns : tie.Need-returns Inv-loop μ-loop
-returns c =
+returns-2 : tie.Need-returns-2 Inv-loop μ-loop
+returns-2 c =
     let k = c .before .before .before .before in
-    let a = k .before .before .before .args in
+    let a = k .before .before .before .before .args in
     let none = utf8-not (now (a .s)) (k .loop .i) (a .to) (omega arith) (omega arith) (c .enum-told .given .1) (c .before .before .pass .ensures) in
     sym (k .loop .inv .2 ∙ none)
 
 loop-less : tie.Need-loop-less Inv-loop μ-loop
 loop-less c =
     let k = c .before .before .before .before .before in
-    let a = k .before .before .before .args in
+    let a = k .before .before .before .before .args in
     let told = c .before .next .given in
     let on = utf8-on (now (a .s)) (k .loop .i) (a .to) (omega arith) (omega arith) (told .0 .0) (told .1) (c .before .before .before .pass .ensures) in
     omega (arith, on .0, on .1)
@@ -41,18 +44,18 @@ loop-less c =
 loop-again : tie.Need-loop-again Inv-loop μ-loop
 loop-again c =
     let k = c .before .before .before .before .before in
-    let a = k .before .before .before .args in
+    let a = k .before .before .before .before .args in
     let told = c .before .next .given in
     let on = utf8-on (now (a .s)) (k .loop .i) (a .to) (omega arith) (omega arith) (told .0 .0) (told .1) (c .before .before .before .pass .ensures) in
     (omega (arith, on .0), on .1, k .loop .inv .2 ∙ on .2)
 
-returns-2 : tie.Need-returns-2 Inv-loop μ-loop
-returns-2 c =
+returns-3 : tie.Need-returns-3 Inv-loop μ-loop
+returns-3 c =
     let k = c .before in
-    let a = k .before .before .before .args in
+    let a = k .before .before .before .before .args in
     sym (k .loop .inv .2 ∙ utf8-end (now (a .s)) (k .loop .i) (a .to) (omega arith) (omega arith))
 
 pub is-utf8-spec : {M : Type 1} → statement M
 is-utf8-spec =
     tie.close
-    (tie.spec Inv-loop μ-loop (λ c κs. search needs) loop-holds (λ c κs. (omega arith, omega arith)) (λ c. search needs) (λ c. search needs) returns loop-less loop-again returns-2)
+    (tie.spec Inv-loop μ-loop returns (λ c κs. search needs) loop-holds (λ c κs. (omega arith, omega arith)) (λ c. search needs) (λ c. search needs) returns-2 loop-less loop-again returns-3)

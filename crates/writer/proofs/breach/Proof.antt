@@ -1,6 +1,5 @@
 -- `writer::breach` meets its contract: the rule is asked of all the octets. Assumes nothing.
 use borrow.Author.Needs.{needs}
-use borrow.Author.Tests.{not-false}
 use mathlib.Core.Path.{_≡_, sym, ap, _∙_}
 use mathlib.Core.Bool.{Bool, true, false}
 use mathlib.Core.List.{List}
@@ -10,7 +9,6 @@ use denote.Ref.{now}
 use Rattle.octets.specs.Reading.{part}
 use Rattle.octets.proofs.Copies.{rest}
 use Rattle.texts.specs.Texts as texts
-use Rattle.texts.specs.declared.Rule.{Rule}
 use Rattle.writing_parts.specs.declared.Fault.the-variants.{Refused}
 use Rattle.writing_parts.specs.Faults.{unless}
 use Rattle.writer.proofs.breach.Statement.{statement}
