@@ -77,10 +77,10 @@ extern "C" {
  * full books, layouts and rows of 64 values and full runs, and held by the gate. They include the C library's memset,
  * the one function that the archive calls. If the library is bound at its first call, without -z now, that call uses
  * some 3,400 octets more, which the loader takes; what a signal handler uses comes on top as well. */
-#define IPDR_HEADER_STACK 160
-#define IPDR_STEP_STACK 576
-#define IPDR_RUN_STACK 3856
-#define IPDR_WHOLE_STACK 3856
+#define IPDR_HEADER_STACK 384
+#define IPDR_STEP_STACK 720
+#define IPDR_RUN_STACK 4064
+#define IPDR_WHOLE_STACK 4064
 
 /* Refusal numbers, each with the place that comes with it. The first fault in reading order is the one given. */
 enum ipdr_refusal {

@@ -6,6 +6,7 @@ use Rattle.octets.proofs.Contracts.{says-once}
 use Rattle.octets.proofs.Inverse.{ok-place}
 use Rattle.texts.proofs.rule_holds as rule-holds
 use Rattle.texts.proofs.fault_of as fault-of
+use Rattle.texts.proofs.octets_end as octets-end
 use Rattle.texts.proofs.led_end as led-end
 use Rattle.texts.proofs.text_end as text-end
 use Rattle.texts.proofs.text_skip as text-skip
@@ -14,6 +15,7 @@ use Rattle.texts.proofs.led_part as led-part
 pub record Contracts : Type 0 where
   pub of-rule-holds : Once rule-holds.Kinds.ps rule-holds.Kinds.r rule-holds.Reads.Pre rule-holds.Reads.Post
   pub of-fault-of : Once fault-of.Kinds.ps fault-of.Kinds.r fault-of.Reads.Pre fault-of.Reads.Post
+  pub of-octets-end : Once octets-end.Kinds.ps octets-end.Kinds.r octets-end.Reads.Pre octets-end.Reads.Post
   pub of-led-end : Once led-end.Kinds.ps led-end.Kinds.r led-end.Reads.Pre led-end.Reads.Post
   pub of-text-end : Once text-end.Kinds.ps text-end.Kinds.r text-end.Reads.Pre text-end.Reads.Post
   pub of-text-skip : Once text-skip.Kinds.ps text-skip.Kinds.r text-skip.Reads.Pre text-skip.Reads.Post
@@ -24,6 +26,7 @@ contracts =
     record {
       of-rule-holds = λ κs a p x y u v e f. (e ∙ sym f, refl);
       of-fault-of = λ κs a p x y u v e f. (e ∙ sym f, refl);
+      of-octets-end = λ κs a p x y u v e f. (says-once x y (e .0 ∙ sym (f .0)), refl);
       of-led-end = λ κs a p x y u v e f. (says-once x y (e .0 ∙ sym (f .0)), refl);
       of-text-end = λ κs a p x y u v e f. (says-once x y (e .0 ∙ sym (f .0)), refl);
       of-text-skip = λ κs a p x y u v e f. (ok-place (e .0) (f .0), refl);

@@ -161,7 +161,7 @@ fn pass(s: &[u8], at: usize, to: usize) -> Passed
     pass_rest(x, s, at + 1, to)
 }
 
-// All octets where they are ASCII, else whole eights of them: most strings are done with it, and the others lose little.
+// All octets where it is seen at once that they are ASCII, else whole eights of them: most strings are done with it, and the others lose little.
 fn ascii_front(s: &[u8], at: usize, to: usize) -> usize
     requires { ⌜ (at ≤ to) × (to ≤ length (now s)) ⌝ }
     ensures { λ r. ⌜ (at ≤ r) × (r ≤ to) × Ascii (now (s .entry)) at r ⌝ }

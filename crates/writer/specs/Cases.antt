@@ -28,7 +28,7 @@ state place turn count start rows = record { place = place; turn = turn; count =
 abbrev over : State → List ℕ → List ℕ → ℕ → Written
 over s buffer book used = record { state = s; buffer = buffer; book = book; used = used }
 
--- A book with nothing in it; with the specimen's layout, which is layout 7; with layout 8, of a boolean and a derived string; with 16 octets left.
+-- A book with nothing in it; with the specimen's layout, which is layout 7; with layout 8, of a boolean and a derived string; with layout 9, of octets; with 16 octets left.
 abbrev empty : List ℕ
 empty = replicate bookRoom 9
 
@@ -41,6 +41,9 @@ seven = sevenImage ++ replicate 32737 9
 
 abbrev eight : List ℕ
 eight = 0 ∷ 0 ∷ 0 ∷ 8 ∷ 0 ∷ 0 ∷ 0 ∷ 0 ∷ 0 ∷ 0 ∷ 0 ∷ 2 ∷ 0 ∷ 0 ∷ 0 ∷ 1 ∷ 98 ∷ 0 ∷ 0 ∷ 0 ∷ 41 ∷ 0 ∷ 0 ∷ 0 ∷ 1 ∷ 115 ∷ 0 ∷ 0 ∷ 1 ∷ 40 ∷ replicate 32738 9
+
+abbrev nine : List ℕ
+nine = 0 ∷ 0 ∷ 0 ∷ 9 ∷ 0 ∷ 0 ∷ 0 ∷ 0 ∷ 0 ∷ 0 ∷ 0 ∷ 1 ∷ 0 ∷ 0 ∷ 0 ∷ 0 ∷ 0 ∷ 0 ∷ 0 ∷ 39 ∷ replicate 32748 9
 
 abbrev full : List ℕ
 full = 0 ∷ 0 ∷ 0 ∷ 1 ∷ 0 ∷ 0 ∷ 127 ∷ 228 ∷ replicate 32744 0 ++ (replicate 16 9)
@@ -214,11 +217,16 @@ scripts =
     (typeName (0xed ∷ 0xa0 ∷ 0x80 ∷ []) ∷ typeName [] ∷ attributeCount 1 ∷ attributeName (0xc0 ∷ 0x80 ∷ []) ∷ attributeName (0xf0 ∷ 0x9f ∷ 0x98 ∷ 0x80 ∷ []) ∷ giveUp ∷ [])
     (24 ∷ 8 ∷ 0 ∷ 12 ∷ 0 ∷ 16 ∷ 24 ∷ 16 ∷ 0 ∷ 24 ∷ 0 ∷ 0 ∷ [])
     (over (state 0 wants.Element 0 0 0) (replicate 24 0 ++ replicate 16 5) empty 0)
-    -- A value: 21 comes before 24, hexBinary is free, and a derived string is a string.
+    -- A value: 21 comes before 24, and a derived string is a string.
     ∷ script (over (state 0 wants.Element 0 0 0) (replicate 40 5) eight 30)
-    (openRow 8 true ∷ value b.Boolean (bits 1) ∷ value b.HexBinary (held (0xff ∷ [])) ∷ value b.String (held (0xff ∷ [])) ∷ value b.String (held (0xc3 ∷ 0xa9 ∷ [])) ∷ closeRow ∷ [])
-    (0 ∷ 12 ∷ 0 ∷ 13 ∷ 21 ∷ 13 ∷ 24 ∷ 13 ∷ 0 ∷ 19 ∷ 0 ∷ 19 ∷ [])
+    (openRow 8 true ∷ value b.String (held (0xff ∷ [])) ∷ value b.Boolean (bits 1) ∷ value b.String (held (0xff ∷ [])) ∷ value b.String (held (0xc3 ∷ 0xa9 ∷ [])) ∷ closeRow ∷ [])
+    (0 ∷ 12 ∷ 21 ∷ 12 ∷ 0 ∷ 13 ∷ 24 ∷ 13 ∷ 0 ∷ 19 ∷ 0 ∷ 19 ∷ [])
     (over (state 19 wants.Element 0 0 1) (0 ∷ 0 ∷ 0 ∷ 2 ∷ 0 ∷ 0 ∷ 0 ∷ 8 ∷ 0 ∷ 0 ∷ 0 ∷ 7 ∷ 1 ∷ 0 ∷ 0 ∷ 0 ∷ 2 ∷ 0xc3 ∷ 0xa9 ∷ replicate 21 5) eight 30)
+    -- hexBinary is free.
+    ∷ script (over (state 0 wants.Element 0 0 0) (replicate 20 5) nine 20)
+    (openRow 9 false ∷ value b.HexBinary (held (0xff ∷ [])) ∷ closeRow ∷ [])
+    (0 ∷ 12 ∷ 0 ∷ 17 ∷ 0 ∷ 17 ∷ [])
+    (over (state 17 wants.Element 0 0 1) (0 ∷ 0 ∷ 0 ∷ 2 ∷ 0 ∷ 0 ∷ 0 ∷ 9 ∷ 255 ∷ 255 ∷ 255 ∷ 255 ∷ 0 ∷ 0 ∷ 0 ∷ 1 ∷ 0xff ∷ 5 ∷ 5 ∷ 5 ∷ []) nine 20)
     -- Octets of an open layout that stand already are taken as they are; the book is then none.
     ∷ script (over (state 13 wants.AttributeCount 0 0 0) (0 ∷ 0 ∷ 0 ∷ 1 ∷ 0 ∷ 0 ∷ 0 ∷ 9 ∷ 0 ∷ 0 ∷ 0 ∷ 1 ∷ 0xe9 ∷ replicate 20 5) empty 0)
     (attributeCount 0 ∷ finish 0 ∷ [])

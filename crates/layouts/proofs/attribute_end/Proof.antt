@@ -1,4 +1,4 @@
--- `layouts::attribute_end` meets its contract: each arm by what `led_end` answered. Assumes nothing.
+-- `layouts::attribute_end` meets its contract: each arm by what `text_end` answered. Assumes nothing.
 use borrow.Author.Needs.{needs}
 use native.Mathlib.Omega.{arith}
 use mathlib.Core.Path.{refl, sym, _∙_, ap}
