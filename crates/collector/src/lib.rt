@@ -1,6 +1,8 @@
 // Reading for C callers: the header check, one step, a run of steps and the whole check, on numbers and octet slices. Each takes every input.
 // How answers are packed for C stands in specs/Calls.antt; what they are is defined where reading and runs say.
 
+#![tactic(auto)]
+
 ghost use Rattle.std.specs.Prelude.{◌≡◌, ◌<◌};
 ghost use Rattle.headers.specs.Header.{header_at};
 ghost use Rattle.elements.specs.Steps.{step_at, octets_left};

@@ -1,12 +1,14 @@
 // Times as text: milliseconds since 1970 as a date with three decimals, or "@" and the number outside the years 1970 to 9999.
 
+#![tactic(auto)]
+
 ghost use Rattle.std.specs.Prelude.{◌≡◌, ◌∷◌, ◌≤◌};
 ghost use Rattle.printing.specs.Text.{Prints, filled};
 ghost use Rattle.dates.specs.Calendar.{leap, year_days, month_days, day_of_year, date_after};
 ghost use Rattle.dates.specs.Times.{day_text, clock_text, moment_text, time_text};
 
 // A date: years from 1970 on, months and days from 0 on.
-#[derive(Drop)]
+#[derive(Clone, Copy)]
 pub struct Date {
     pub years: u64,
     pub months: u64,

@@ -1,5 +1,7 @@
 // One element over a book that is known to be good, and what stands before it. The definitions: specs/Element.antt (an element), Steps.antt (a step over a lent book), Walk.antt (turn after turn), Reading.antt (whole readings), Document.antt (what a document means).
 
+#![tactic(auto)]
+
 ghost use Rattle.std.specs.Prelude.{◌≡◌, true, ℕ, ◌+◌, ◌≤◌, ◌<◌, length};
 ghost use Rattle.octets.specs.Limits.{longest, most_rows, book_room};
 ghost use Rattle.octets.specs.Reading.{ok, is_ok, be};
@@ -16,7 +18,7 @@ use octets::{Ended, Refusal};
 use rows::Rowed;
 
 // What an element says: a layout's number and count of attributes; a row's number, whether its length is stated, and its count of fields; the end's count and time.
-#[derive(Drop)]
+#[derive(Clone, Copy)]
 pub enum Met {
     Layout(u32, u32),
     Row(u32, bool, u32),
@@ -24,7 +26,7 @@ pub enum Met {
 }
 
 // An element with the next place, the rows passed and the octets of the book that are used then.
-#[derive(Drop)]
+#[derive(Clone, Copy)]
 pub struct Step {
     pub met: Met,
     pub next: usize,
@@ -32,7 +34,7 @@ pub struct Step {
     pub used: usize,
 }
 
-#[derive(Drop)]
+#[derive(Clone, Copy)]
 pub enum Stepping {
     Done(Step),
     Refused(u32, usize),

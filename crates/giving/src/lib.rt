@@ -1,6 +1,8 @@
 // What every call of the writer goes through: the bounds and the turn of a state, and the octets of a call given.
 // What a call does is defined in writer Writer; the calls themselves are in writing.
 
+#![tactic(auto)]
+
 ghost use Rattle.std.specs.Prelude.{◌≡◌, true, List, ◌++◌, ℕ, ◌-◌, ◌≤◌, length};
 ghost use Rattle.octets.specs.Writing.{word};
 ghost use Rattle.texts.specs.Texts.{led_image};

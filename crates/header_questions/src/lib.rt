@@ -1,6 +1,8 @@
 // Questions about the header: its refusal and its strings. Each takes every document, hands back parts and no copies, and changes nothing.
 // What a header is stands in headers Header, what is asked of it in specs/Questions.antt; the code that finds the header's places is headers' `header_at`.
 
+#![tactic(auto)]
+
 ghost use Rattle.std.specs.Prelude.{◌≡◌, List, ℕ, ◌+◌, ◌≤◌, length};
 ghost use Rattle.octets.specs.Limits.{longest};
 ghost use Rattle.octets.specs.Answers.{says};

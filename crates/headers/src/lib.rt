@@ -1,5 +1,7 @@
 // The header: the places of its fields, or its refusal. What a header is stands in specs/Header.antt, what is answered of its places in specs/Answers.antt; callers use `header_at`.
 
+#![tactic(auto)]
+
 ghost use Rattle.std.specs.Prelude.{◌≡◌, ◌+◌, ◌≤◌, length};
 ghost use Rattle.octets.specs.Limits.{longest, most_listed};
 ghost use Rattle.octets.specs.Reading.{ends, ◌then◌, number, count, exactly, run};
@@ -11,7 +13,7 @@ ghost use Rattle.headers.specs.Answers.{item_end, Locates};
 use octets::{Counted, Ended};
 
 // Where the fields of an accepted header stand: the start time, the counts of both lists, the document id, and what is behind the header.
-#[derive(Drop)]
+#[derive(Clone, Copy)]
 pub struct Places {
     pub start: usize,
     pub namespaces: usize,
@@ -20,7 +22,7 @@ pub struct Places {
     pub end: usize,
 }
 
-#[derive(Drop)]
+#[derive(Clone, Copy)]
 pub enum Placing {
     At(Places),
     Refused(u32, usize),

@@ -1,6 +1,8 @@
 // The thirteen basic types and their values: what a type number stands for, and where a value of a form ends.
 // The table of types stands in specs/Kinds.antt, a value by its form with its image in Forms.antt, a value as it is handed out in Values.antt.
 
+#![tactic(auto)]
+
 ghost use Rattle.std.specs.Prelude.{◌≡◌, true, ℕ, ◌+◌, ◌≤◌, length};
 ghost use Rattle.kinds.specs.Kinds.{code_of, form_by, form_of, signed, unsigned, kind_of, kind_at};
 ghost use Rattle.kinds.specs.Forms.{Slim, value_in};
@@ -14,7 +16,7 @@ use octets::{Ended, Room};
 use texts::Rule;
 
 // A basic type.
-#[derive(Drop)]
+#[derive(Clone, Copy)]
 pub enum Basic {
     Int,
     UnsignedInt,
@@ -32,7 +34,7 @@ pub enum Basic {
 }
 
 // A type: a basic one, and the octet that marks a derived one.
-#[derive(Drop)]
+#[derive(Clone, Copy)]
 pub struct Kind {
     pub derived: u8,
     pub basic: Basic,
@@ -67,7 +69,7 @@ impl Kind {
 }
 
 // How a value stands: in so many octets, as 0 or 1 in one octet, as octets behind a length, by their rule.
-#[derive(Drop)]
+#[derive(Clone, Copy)]
 pub enum Form {
     Fixed(usize),
     Truth,
@@ -75,7 +77,7 @@ pub enum Form {
 }
 
 // A value by its basic type: float and double as bits; octets are not held here, they stand in a document.
-#[derive(Drop)]
+#[derive(Clone, Copy)]
 pub enum Value {
     Int(i32),
     UnsignedInt(u32),
@@ -93,14 +95,14 @@ pub enum Value {
 }
 
 // What a type number stands for, or its refusal.
-#[derive(Drop)]
+#[derive(Clone, Copy)]
 pub enum Typed {
     Is(Kind),
     Refused(u32),
 }
 
 // The type at a place, or a refusal by number and place.
-#[derive(Drop)]
+#[derive(Clone, Copy)]
 pub enum Kinded {
     Is(Kind),
     Refused(u32, usize),

@@ -1,6 +1,8 @@
 // Layouts and the book: a layout's end and parts at a place, a lent book checked and searched, and what it makes of a layout.
 // A layout is defined in specs/Layout.antt; the book, and the rule of 10 and 11 for reading and writing, in Book.antt.
 
+#![tactic(auto)]
+
 ghost use Rattle.std.specs.Prelude.{◌≡◌, true, List, [], ◌∷◌, ◌++◌, ℕ, ◌+◌, ◌≤◌, length, take, drop};
 ghost use Rattle.octets.specs.Limits.{longest, book_room, most_layouts};
 ghost use Rattle.octets.specs.Reading.{ok, ends, is_ok, run, same};
@@ -15,14 +17,14 @@ use kinds::{Kind, Kinded};
 use octets::{Counted, Ended};
 
 // Where a number was looked up: the place of its layout, or how many layouts there are, none of them its.
-#[derive(Drop)]
+#[derive(Clone, Copy)]
 pub enum Looked {
     There(usize),
     Missing(usize),
 }
 
 // How a layout stands to a book: known already, new with the octets that the book uses then, or refused by number.
-#[derive(Drop)]
+#[derive(Clone, Copy)]
 pub enum Learning {
     Known,
     New(usize),

@@ -1,5 +1,7 @@
 // The lines of a listing, each put behind what waits in a lent buffer. What a line is stands in specs/Lines.antt.
 
+#![tactic(auto)]
+
 ghost use Rattle.std.specs.Prelude.{ℕ, ◌≡◌, ◌∷◌, length};
 ghost use Rattle.octets.specs.Reading.{ok};
 ghost use Rattle.rows.specs.Row.{Field, Row};

@@ -1,5 +1,7 @@
 // The listing: a document on standard input, a line for its header and for each element.
 
+#![tactic(auto)]
+
 ghost use Rattle.std.specs.Prelude.{◌≤◌, [], length};
 ghost use Rattle.octets.specs.Limits.{longest};
 ghost use Rattle.elements.specs.Walk.{spot_at, through};

@@ -1,6 +1,8 @@
 // Numbers and octets: read at a place, compared where they stand, put into the rest of a lent buffer. Octets behind a length are in texts.
 // What octets mean stands in specs/Reading.antt, their image in Writing.antt, the limits in Limits.antt; what is asked of a reading in Asked.antt, and of a contract in Contracts.antt.
 
+#![tactic(auto)]
+
 ghost use Rattle.std.specs.Prelude.{◌≡◌, ◌++◌, ◌+◌, ◌≤◌, ◌<◌, length, drop};
 ghost use Rattle.octets.specs.Limits.{longest};
 ghost use Rattle.octets.specs.Reading.{reach, overrun, be, same, ends, number_in, count};
@@ -27,28 +29,28 @@ pub const MOST_LISTED: u32 = 16;
 pub const OPEN: [u8; 4] = *b"\xff\xff\xff\xff";
 
 // The place behind what was read, or a refusal by number and place.
-#[derive(Drop)]
+#[derive(Clone, Copy)]
 pub enum Ended {
     End(usize),
     Refused(u32, usize),
 }
 
 // A count with the place behind it, or a refusal by number and place.
-#[derive(Drop)]
+#[derive(Clone, Copy)]
 pub enum Counted {
     Count(u32, usize),
     Refused(u32, usize),
 }
 
 // How far a field may reach: to the document's end, or to the end of a row whose length is stated, with the place of that length.
-#[derive(Drop)]
+#[derive(Clone, Copy)]
 pub enum Room {
     Document,
     Stated(usize, usize),
 }
 
 // Whether what is asked is refused, by number and place.
-#[derive(Drop)]
+#[derive(Clone, Copy)]
 pub enum Refusal {
     None,
     Refused(u32, usize),

@@ -2,6 +2,8 @@
 // A step is four times the octets of numbers that stand side by side; more by one where free octets behind a length close it, by two where a boolean, by three where a string does. The last step of a plan is a multiple of four.
 // A plan is defined in specs/Plan.antt; what it must agree with is rows Row, and where plans are kept is walks.
 
+#![tactic(auto)]
+
 ghost use Rattle.std.specs.Prelude.{◌≡◌, List, ℕ, ◌+◌, ◌≤◌, ◌<◌, length, take};
 ghost use Rattle.octets.specs.Limits.{longest, most_attributes};
 ghost use Rattle.octets.specs.Reading.{ok, run};
@@ -19,14 +21,14 @@ use texts::Rule;
 pub const MOST_STEPS: usize = 1216;
 
 // The place behind values, or that the exact readers are to be asked.
-#[derive(Drop)]
+#[derive(Clone, Copy)]
 pub enum Passed {
     To(usize),
     Unsure,
 }
 
 // The index behind a plan, or that the steps do not hold it.
-#[derive(Drop)]
+#[derive(Clone, Copy)]
 pub enum Put {
     To(usize),
     Full,

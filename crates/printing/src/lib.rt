@@ -1,6 +1,8 @@
 // Text for programs: put behind what waits in a lent buffer, which is written out when it is full.
 // What it is to print stands in specs/Text.antt, the text of a value in Values.antt.
 
+#![tactic(auto)]
+
 ghost use Rattle.std.specs.Prelude.{◌≡◌, [], ◌∷◌, ◌++◌, ◌≤◌, ◌<◌, length, drop};
 ghost use Rattle.octets.specs.Writing.{word};
 ghost use Rattle.printing.specs.Text.{spelt, Prints, digit, pair, is_plain, shown, showing, decimal, filled, signed, truth, refusal};
@@ -9,7 +11,7 @@ ghost use Rattle.printing.specs.Values.{value_text};
 use kinds::Value;
 
 // How octets are shown: as they are, as hex digits, or as a string with escapes.
-#[derive(Drop)]
+#[derive(Clone, Copy)]
 pub enum Show {
     Plain,
     Hex,

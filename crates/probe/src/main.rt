@@ -1,12 +1,14 @@
 // The probe: commands on standard input, a line for the answer of each entry point.
 
+#![tactic(auto)]
+
 use printing::Show;
 use probe_input::{Args, Fed, Feed, Given};
 use probe_reads::Asked;
 use probe_writes::{Pen, Penned};
 
 // A command's letter, its arguments and what is to be taken behind it.
-#[derive(Drop)]
+#[derive(Clone, Copy)]
 pub enum Command {
     Is(u8, Args, usize, Feed),
     End,

@@ -1,5 +1,7 @@
 // What both halves of the probe stand on: a command's arguments, read from standard input through a lent buffer, and words of a line.
 
+#![tactic(auto)]
+
 ghost use Rattle.std.specs.Prelude.{◌≡◌, ◌*◌, ◌%◌, ◌^◌, take};
 ghost use Rattle.std.proofs.lemmas.List.Edits.{sets};
 ghost use Rattle.printing.specs.Text.{Prints};
@@ -8,32 +10,32 @@ ghost use Rattle.probe_input.specs.Words.{checksum, part_text, sum_text};
 use printing::Show;
 
 // Which octets of the buffer are still to be taken.
-#[derive(Drop)]
+#[derive(Clone, Copy)]
 pub struct Feed {
     pub at: usize,
     pub filled: usize,
 }
 
-#[derive(Drop)]
+#[derive(Clone, Copy)]
 pub enum Fed {
     Is(u8, Feed),
     End,
 }
 
-#[derive(Drop)]
+#[derive(Clone, Copy)]
 pub enum Filling {
     Done(Feed),
     Cut,
 }
 
-#[derive(Drop)]
+#[derive(Clone, Copy)]
 pub enum Drawn {
     Is(u64, Feed),
     Cut,
 }
 
 // A command's numbers; 0 where it has fewer.
-#[derive(Drop)]
+#[derive(Clone, Copy)]
 pub struct Args {
     pub one: u64,
     pub two: u64,
@@ -43,14 +45,14 @@ pub struct Args {
 }
 
 // A command's numbers and how many octets it has, or that its arguments are cut or too long.
-#[derive(Drop)]
+#[derive(Clone, Copy)]
 pub enum Given {
     Is(Args, u64, Feed),
     Bad,
 }
 
 // How many octets a command takes, if any.
-#[derive(Drop)]
+#[derive(Clone, Copy)]
 pub enum Most {
     Octets(u64),
     None,

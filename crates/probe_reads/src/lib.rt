@@ -1,5 +1,7 @@
 // The reading half of the probe: each command calls an entry point of the reader and prints what it answered.
 
+#![tactic(auto)]
+
 ghost use Rattle.printing.specs.Text.{Prints};
 ghost use Rattle.probe_reads.specs.Words.{head_text};
 
@@ -12,7 +14,7 @@ use questions::Fielded;
 use reading::{Checked, Headed};
 
 // The octets that wait to be written, or that the arguments are bad.
-#[derive(Drop)]
+#[derive(Clone, Copy)]
 pub enum Asked {
     To(usize),
     Bad,

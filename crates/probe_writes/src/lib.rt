@@ -1,12 +1,14 @@
 // The writing half of the probe: each command calls an entry point of the writer and prints what it answered.
 
+#![tactic(auto)]
+
 use kinds::Basic;
 use printing::Show;
 use probe_input::Args;
 use writer::{Answer, State, Wanted};
 
 // The writer's state, the sizes of the buffer and the book that are lent to it, and the used count.
-#[derive(Drop)]
+#[derive(Clone, Copy)]
 pub struct Pen {
     pub state: State,
     pub size: usize,
@@ -14,14 +16,14 @@ pub struct Pen {
     pub used: usize,
 }
 
-#[derive(Drop)]
+#[derive(Clone, Copy)]
 pub enum Penned {
     On(Pen, usize),
     Bad,
 }
 
 // The arguments that a call takes; a layout's number may complete it, and so change the book.
-#[derive(Drop)]
+#[derive(Clone, Copy)]
 pub enum Sort {
     Text,
     Number,

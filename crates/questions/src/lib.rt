@@ -1,6 +1,8 @@
 // Questions about a row or a layout at a place: its fields, its names and types. Each takes every input, hands back parts and no copies, and changes nothing.
 // What is asked stands in specs/Questions.antt, by elements Steps; what is answered in specs/Answers.antt; what the functions between find in specs/Places.antt.
 
+#![tactic(auto)]
+
 ghost use Rattle.std.specs.Prelude.{◌≡◌, ◌≤◌, length};
 ghost use Rattle.octets.specs.Limits.{longest};
 ghost use Rattle.octets.specs.Asked.{refusal_of, part_of, StandsAt};
@@ -19,7 +21,7 @@ use octets::{Ended, Refusal};
 use row_fields::FieldSpot;
 
 // A field's type and value, or a refusal by number and place.
-#[derive(Drop)]
+#[derive(Clone, Copy)]
 pub enum Fielded {
     Is(Kind, Value),
     Refused(u32, usize),

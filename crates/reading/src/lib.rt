@@ -1,6 +1,8 @@
 // Reading for Rattle callers: the header check, one step, and the whole check. Each takes every input.
 // The definitions: headers Header (the header), elements Steps (a step) and Reading (the whole check); the code below them: headers, elements and walks.
 
+#![tactic(auto)]
+
 ghost use Rattle.std.specs.Prelude.{◌≡◌};
 ghost use Rattle.headers.specs.Header.{header_at};
 ghost use Rattle.elements.specs.Steps.{step_at, octets_left};
@@ -14,7 +16,7 @@ use octets::Refusal;
 use walks::RowCount;
 
 // The header's numbers: the start time, how many other namespaces and service definitions there are, and the place behind the header.
-#[derive(Drop)]
+#[derive(Clone, Copy)]
 pub struct Head {
     pub start: i64,
     pub namespaces: u32,
@@ -22,14 +24,14 @@ pub struct Head {
     pub next: usize,
 }
 
-#[derive(Drop)]
+#[derive(Clone, Copy)]
 pub enum Headed {
     Is(Head),
     Refused(u32, usize),
 }
 
 // The count of a document's rows, or the refusal of a first-octet reading.
-#[derive(Drop)]
+#[derive(Clone, Copy)]
 pub enum Checked {
     Rows(usize),
     Refused(u32, usize),

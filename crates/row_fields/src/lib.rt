@@ -1,6 +1,8 @@
 // A field of a row, over octets that are known to be a book: where its attribute and its value stand, and what value it is. Crate questions asks for it.
 // What is found stands in specs/Places.antt, by rows Row.
 
+#![tactic(auto)]
+
 ghost use Rattle.std.specs.Prelude.{◌≡◌, List, ℕ, ◌≤◌, length};
 ghost use Rattle.octets.specs.Limits.{longest, book_room};
 ghost use Rattle.octets.specs.Reading.{ok};
@@ -19,7 +21,7 @@ use octets::{Ended, Room};
 use rows::Rowed;
 
 // A row over the octets of a book: the place of its layout there, how many fields it has, and where its values begin and end.
-#[derive(Drop)]
+#[derive(Clone, Copy)]
 enum Lined {
     At(usize, u32, usize, usize),
     Refused(u32, usize),
@@ -67,7 +69,7 @@ fn value_place<'d, 'b>(
 }
 
 // Where a field stands: its attribute in the octets of the book, its value in the document.
-#[derive(Drop)]
+#[derive(Clone, Copy)]
 pub enum FieldSpot {
     At(usize, usize),
     Refused(u32, usize),

@@ -1,6 +1,8 @@
 // A row's values over a layout: the end of a row, or its refusal.
 // A row is defined in specs/Row.antt, over a value by its form (kinds Forms); rows that are passed fast are in plans and walks.
 
+#![tactic(auto)]
+
 ghost use Rattle.std.specs.Prelude.{◌≡◌, List, ℕ, ◌+◌, ◌≤◌, length};
 ghost use Rattle.std.proofs.Math.Option.{some};
 ghost use Rattle.octets.specs.Limits.{longest};
@@ -94,7 +96,7 @@ pub fn values_end<'d, 'b>(
 }
 
 // A row: whether its length is stated, how many fields it has, and the place behind it; or a refusal by number and place.
-#[derive(Drop)]
+#[derive(Clone, Copy)]
 pub enum Rowed {
     Row(bool, u32, usize),
     Refused(u32, usize),

@@ -1,6 +1,8 @@
 // A run of steps in one call: the layouts and rows from a place on, each told in one number, over a lent book that is checked once.
 // What a run is stands in specs/Runs.antt, over elements Walk; the code of its turns and stretches of rows in walks.
 
+#![tactic(auto)]
+
 ghost use Rattle.std.specs.Prelude.{◌≡◌, ◌≤◌, ◌<◌, length};
 ghost use Rattle.layouts.specs.Book.{IsBook};
 ghost use Rattle.elements.specs.Walk.{lent_at};
@@ -13,7 +15,7 @@ use octets::Refusal;
 use walks::Moved;
 
 // How many items a run has passed, and where it stands then.
-#[derive(Drop)]
+#[derive(Clone, Copy)]
 pub struct Went {
     pub count: usize,
     pub next: usize,
@@ -21,7 +23,7 @@ pub struct Went {
     pub used: usize,
 }
 
-#[derive(Drop)]
+#[derive(Clone, Copy)]
 pub enum Running {
     Went(Went),
     Refused(u32, usize),

@@ -1,6 +1,8 @@
 // Octets behind a length: where they end, by the rule that a string obeys and other octets do not, and the octets themselves.
 // Their reading, their image and the rules stand in specs/Texts.antt.
 
+#![tactic(auto)]
+
 ghost use Rattle.std.specs.Prelude.{◌≡◌, true, List, ℕ, ◌+◌, ◌-◌, ◌≤◌, length};
 ghost use Rattle.octets.specs.Limits.{longest};
 ghost use Rattle.octets.specs.Reading.{ok, reach, be, part, ends, is_ok};
@@ -12,7 +14,7 @@ ghost use Rattle.texts.specs.Answers.{Behind, Stands};
 use octets::{Ended, Room};
 
 // What octets behind a length have to be: anything, or the characters of a string, in UTF-8.
-#[derive(Drop)]
+#[derive(Clone, Copy)]
 pub enum Rule {
     Free,
     Characters,

@@ -1,6 +1,8 @@
 // Well-formed UTF-8: whether octets are characters one behind another, each of a form that RFC 3629 lists.
 // The forms stand in specs/Utf8.antt, the RFC's own sentence in Grammar.antt, what the functions here answer in Answers.antt, strings that were tried in Cases.antt.
 
+#![tactic(auto)]
+
 ghost use Rattle.std.specs.Prelude.{◌≡◌, List, [], ◌∷◌, ◌+◌, ◌-◌, ◌≤◌, ◌<◌, length, get_or};
 ghost use Rattle.std.proofs.Math.Option.{some};
 ghost use Rattle.octets.specs.Reading.{part};
@@ -8,7 +10,7 @@ ghost use Rattle.utf8.specs.Utf8.{Range, ◌‥◌, tail, forms, opens, utf8};
 ghost use Rattle.utf8.specs.Answers.{marks, Zeros, Ascii, Steps, Passes};
 
 // The place behind what was passed, or that no character stands there.
-#[derive(Drop)]
+#[derive(Clone, Copy)]
 enum Passed {
     To(usize),
     None,

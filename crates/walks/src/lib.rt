@@ -1,6 +1,8 @@
 // Walking through elements: what is kept of a book's layouts while rows are read, and how a walk goes on, by a stretch of rows or by one element.
 // The definition of going through elements is Walk, in crate elements; of what is kept, Kept, here. Of the i-th layout of the book its number is in numbers[i], with 2^32 added where it has no plan; its place in places[i]; and where its plan stands in steps[i]. Plans stand behind the first 64 steps, one behind another.
 
+#![tactic(auto)]
+
 ghost use Rattle.std.specs.Prelude.{◌≡◌, [], List, ℕ, ◌≤◌, ◌<◌, ◌+◌, ◌*◌, length, set, true};
 ghost use Rattle.octets.specs.Limits.{longest, most_rows, most_layouts};
 ghost use Rattle.layouts.specs.Book.{Book, position};
@@ -19,14 +21,14 @@ use layouts::Looked;
 use plans::{Passed, Put};
 
 // How many layouts are kept, and the index behind the last plan.
-#[derive(Drop)]
+#[derive(Clone, Copy)]
 pub struct Tally {
     pub known: usize,
     pub filled: usize,
 }
 
 // The index of a layout that has a plan, if the number asked for is that of one.
-#[derive(Drop)]
+#[derive(Clone, Copy)]
 pub enum PlanAt {
     Index(usize),
     None,
@@ -161,21 +163,21 @@ pub fn looked_at(places: &[u32; octets::MOST_LAYOUTS], known: usize, i: usize) -
 }
 
 // The place behind a row and its layout's position, or that the exact reader is to be asked.
-#[derive(Drop)]
+#[derive(Clone, Copy)]
 pub enum Quick {
     Row(usize, usize),
     Unsure,
 }
 
 // The place behind rows one behind another, and how many they are.
-#[derive(Drop)]
+#[derive(Clone, Copy)]
 pub struct Stretch {
     pub next: usize,
     pub count: usize,
 }
 
 // An item: what it says, its layout's position, and where the walk stands behind it, by the place, the rows passed and the octets of the book that are used.
-#[derive(Drop)]
+#[derive(Clone, Copy)]
 pub struct Gone {
     pub met: Met,
     pub position: usize,
@@ -185,7 +187,7 @@ pub struct Gone {
 }
 
 // How a walk went on: over rows, by the place behind them and how many; by an item; to the end, by its count, its time and the place behind it; or to a refusal.
-#[derive(Drop)]
+#[derive(Clone, Copy)]
 pub enum Moved {
     Rows(usize, usize),
     Item(Gone),
@@ -194,7 +196,7 @@ pub enum Moved {
 }
 
 // A count of rows with the place behind the end, or a refusal by number and place.
-#[derive(Drop)]
+#[derive(Clone, Copy)]
 pub enum RowCount {
     Rows(usize, usize),
     Refused(u32, usize),

@@ -1,5 +1,7 @@
 // The writer's state between two calls, what a call answers, and what may be against it by its arguments alone; what each call does is defined in specs Writer.
 
+#![tactic(auto)]
+
 ghost use Rattle.std.specs.Prelude.{◌≡◌, List, ℕ, ◌≤◌, leb, eqb};
 ghost use Rattle.kinds.specs.Kinds.{form_by, kind_of};
 ghost use Rattle.kinds.specs.Forms.{bits, held};
@@ -14,7 +16,7 @@ use texts::Rule;
 use writing_parts::{Fault, Next};
 
 // What the next call has to give.
-#[derive(Drop)]
+#[derive(Clone, Copy)]
 pub enum Wanted {
     Recorder,
     StartTime,
@@ -35,7 +37,7 @@ pub enum Wanted {
 }
 
 // What is known between two calls. The count is of those still to come in the list being given; in an open row, of the values given.
-#[derive(Drop)]
+#[derive(Clone, Copy)]
 pub struct State {
     pub place: usize,
     pub turn: Wanted,
@@ -45,14 +47,14 @@ pub struct State {
 }
 
 // The new state and used count, or a refusal by number and place.
-#[derive(Drop)]
+#[derive(Clone, Copy)]
 pub enum Answer {
     Done(State, usize),
     Refused(u32, usize),
 }
 
 // What a turn asks of a state: the least and the most of its count, and the first octets of the element that is open.
-#[derive(Drop)]
+#[derive(Clone, Copy)]
 pub struct Asks {
     pub least: u32,
     pub most: u32,

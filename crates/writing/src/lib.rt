@@ -1,6 +1,8 @@
 // The writer: a document given one field at a time, in image order, into a lent buffer.
 // What each call does is defined in writer Writer; the code that they share is in giving, writer and writing_parts.
 
+#![tactic(auto)]
+
 ghost use Rattle.std.specs.Prelude.{◌≡◌};
 ghost use Rattle.kinds.specs.Kinds.{unsigned};
 ghost use Rattle.kinds.specs.Forms.{bits, held};

@@ -1,6 +1,8 @@
 // The parts of a writer's call: numbers as octets, octets laid over the rest of a lent buffer, a row's next field, a layout completed.
 // They know nothing of the writer's state: that is writer's. What their answers say stands in specs/Answers.antt.
 
+#![tactic(auto)]
+
 ghost use Rattle.std.specs.Prelude.{◌≡◌, ◌++◌, ℕ, ◌+◌, ◌-◌, ◌^◌, ◌≤◌, min, length, drop, replicate, leb, ltb};
 ghost use Rattle.octets.specs.Limits.{longest};
 ghost use Rattle.octets.specs.Reading.{ok, be};
@@ -16,14 +18,14 @@ use kinds::Basic;
 use layouts::{Learning, Looked};
 
 // Octets put, with the place behind them; or that they do not fit in the room.
-#[derive(Drop)]
+#[derive(Clone, Copy)]
 pub enum Put {
     To(usize),
     Full,
 }
 
 // A layout completed, with the place behind it and the used count; or that its last octets do not fit in the room; or its refusal.
-#[derive(Drop)]
+#[derive(Clone, Copy)]
 pub enum Completed {
     Done(usize, usize),
     Full,
@@ -31,14 +33,14 @@ pub enum Completed {
 }
 
 // Nothing against a call so far, or a refusal's number.
-#[derive(Drop)]
+#[derive(Clone, Copy)]
 pub enum Fault {
     None,
     Refused(u32),
 }
 
 // The next field of a row: its layout is not in the book, no field is left, or its basic type.
-#[derive(Drop)]
+#[derive(Clone, Copy)]
 pub enum Next {
     Unknown,
     Missing,
