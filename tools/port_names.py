@@ -15,8 +15,8 @@ STRING = re.compile(r'("(?:[^"\\]|\\.)*")')
 USE = re.compile(r"^\s*(?:ghost )?use\s+([^\s{;]+?)(?:\.\{([^}]*)\}|\s+as\s+\S+)?;?\s*$", re.M)
 DECLARED = re.compile(r"^\s*(?:(?:pub|abbrev|unfoldable|private|infixl?r? \d+)\s+)*([^\s(){}:λ]+)(?:\s+[^\s(){}:λ]+)*\s+:\s", re.M)
 JOINED = re.compile(r"^[a-z][^-]*(?:-[^-]+)+$")
-# These name a function's module.
-ALIASES = {"form-of", "kind-of"}
+# These name a function's module, or a field.
+ALIASES = {"form-of", "kind-of", "type-name"}
 HUMPED = re.compile(r"^[a-z][a-z0-9_]*[A-Z]")
 
 
@@ -66,7 +66,7 @@ def main(look):
         code = "\n".join(l for l in read(p).split("\n") if not l.lstrip().startswith("--") and not USE.match(l))
         all_words |= set(words(code))
         own |= {w for w in words(code) if odd(w)}
-    own -= library
+    own -= library | {"not-nil"}
     fall = {}
     for w in own:
         fall.setdefault(snake(w), set()).add(w)

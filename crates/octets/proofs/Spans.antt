@@ -151,9 +151,9 @@ word_octets (suc w) n = each_append (word w (n / 256)) (n % 256 ∷ []) (word_oc
 pub word_is : {s : List ℕ} {lim at next : ℕ} (w n : ℕ) → n < 256 ^ w → Spans s lim at next (word w n) → be w s at ≡ n
 unfolding word be
 word_is zero n h p = omega arith
-word_is {s} {at = at} (suc w) n h p =
+word_is {s = s} {lim = lim} {at = at} {next = next} (suc w) n h p =
     let (p₁, p₂) = middle (word w (n / 256)) (n % 256 ∷ []) p in
-    let high : be w s at ≡ n / 256 = word_is w (n / 256) ((div-lt_iff_lt-mul (lit< tt)).1 (rw pow-suc at h)) p₁ in
+    let high : be w s at ≡ n / 256 = word_is {next = at + length (word w (n / 256))} w (n / 256) ((div-lt_iff_lt-mul (lit< tt)).1 (rw pow-suc at h)) p₁ in
     let low : get_or s (at + w) 0 ≡ n % 256 = ap (λ (i : ℕ). get_or s (at + i) 0) (sym (length_word w (n / 256))) ∙ one_is p₂ in
     omega arith
 

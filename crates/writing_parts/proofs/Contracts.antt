@@ -102,5 +102,5 @@ contracts =
       of_meet = λ κs a p x y u v e f. (e ∙ sym f, refl);
       of_refusal_of = λ κs a p x y u v e f. (e ∙ sym f, refl);
       of_enter = λ κs a p x y u v e f. (e.0 ∙ sym f.0, (e.1 ∙ sym f.1) also refl);
-      of_complete = λ κs a p x y u v e f. let q = completes_once _ _ _ _ _ _ _ _ _ _ x y e f in (q.0, q.1 also q.2 also refl);
+      of_complete = λ κs a p x y u v e f. let q = completes_once a.0.now _ _ a.1.0.now _ _ a.1.1.0 a.1.1.1.0 a.1.1.1.1.0 a.1.1.1.1.1.0.now x y e f in (q.0, q.1 also q.2 also refl);
     }
