@@ -128,7 +128,7 @@ each_find P n (m ∷ b) l e f = go (each_find P n b l e.1) (first n m b)
 
 -- In a book of different numbers each layout is found by its number.
 pub find_member : (b : Book) (l : Layout) → Distinct b → Memᴰ l b → find l.number b ≡ some l
-find_member [] l d m = absurd (Memᴰ.not_nil m)
+find_member [] l d m = absurd (Memᴰ.not-nil m)
 find_member (k ∷ r) l d m = go (find_member r l d.1) (Memᴰ.cases_cons m) (first l.number k r)
   where
     go : (Memᴰ l r → find l.number r ≡ some l) → (l ≡ k) ⊎ Memᴰ l r → First l.number k r → find l.number (k ∷ r) ≡ some l

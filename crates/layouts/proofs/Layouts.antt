@@ -33,8 +33,8 @@ module _ (s : List ℕ) where
       seq (λ l. l.type_name) (text_whole s) λ name _.
       seq (λ l. length l.attributes) (count_inverse s most_attributes (lit< tt)) λ k _.
       seq_on (λ l. l.attributes) (several attribute_inverse k) (λ l f. f.1) λ attributes n _.
-      done (record { number = number; type_name_lem = name; attributes = attributes }) (search)
-      (λ l f. λ i. record { number = f.0.0.0.1 i; type_name_lem = f.0.0.1 i; attributes = f.1 i }))
+      done (record { number = number; type_name = name; attributes = attributes }) (search)
+      (λ l f. λ i. record { number = f.0.0.0.1 i; type_name = f.0.0.1 i; attributes = f.1 i }))
       (λ l. simp (append_assoc, append-nil)) (λ l g. search) (λ l g. search)
 
 -- BACK: an image is read as what it is the image of, whatever stands before and behind it.

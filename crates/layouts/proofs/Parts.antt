@@ -32,7 +32,7 @@ pub record Described (s : List ℕ) (at : ℕ) (a : Attribute) (next mid : ℕ) 
 pub record Fields (s : List ℕ) (at : ℕ) (l : Layout) (end mid : ℕ) : Type 0 where
   pub head : at + 4 ≤ length s
   pub number : be 4 s at ≡ l.number
-  pub type_name_lem : text s (at + 4) ≡ ok l.type_name mid
+  pub type_name : text s (at + 4) ≡ ok l.type_name mid
   pub inside : mid + 4 ≤ length s
   pub few : be 4 s mid ≤ most_attributes
   pub count : be 4 s mid ≡ length l.attributes
@@ -63,7 +63,7 @@ module _ (s : List ℕ) (at : ℕ) where
       after (text s named) _ e₂ λ name mid e₃ e₄.
       after (count most_attributes s mid) _ e₄ λ k first e₅ e₆.
       after (run (attribute_at s) k first) _ e₆ λ attributes last e₇ e₈.
-      let same : ◌≡◌ {A = Layout} (record { number = n; type_name_lem = name; attributes = attributes }) l = cc in
+      let same : ◌≡◌ {A = Layout} (record { number = n; type_name = name; attributes = attributes }) l = cc in
       let place : last ≡ end = cc in
       let head = number_room s at 4 (ap is_ok e₁) in
       let f₁ = number_ok s at 4 head in
@@ -76,7 +76,7 @@ module _ (s : List ℕ) (at : ℕ) where
         record {
           head = head;
           number = ok_value f₁ e₁ ∙ ap (λ (x : Layout). x.number) same;
-          type_name_lem = ap (text s) (sym p₁) ∙ (e₃ ∙ ap (λ (x : Layout). ok x.type_name mid) same);
+          type_name = ap (text s) (sym p₁) ∙ (e₃ ∙ ap (λ (x : Layout). ok x.type_name mid) same);
           inside = room;
           few = few;
           count = sym q₅ ∙ (sym (run_length (attribute_at s) k first last attributes e₇) ∙ ap (λ (x : Layout). length x.attributes) same);

@@ -37,7 +37,7 @@ module _ (s : List ℕ) (at : ℕ) where
       (λ name m. go (count most_attributes s m) name) e)
     where
       go : (r : Read ℕ) (name : List ℕ) → ends {A = Layout} (r then λ k first. run (attribute_at s) k first then λ attributes end.
-          ok (record { number = be 4 s at; type_name_lem = name; attributes = attributes }) end) ≡ ends (r then λ k first. run (attribute_at s) k first)
+          ok (record { number = be 4 s at; type_name = name; attributes = attributes }) end) ≡ ends (r then λ k first. run (attribute_at s) k first)
       go (ok k first) name = made (run (attribute_at s) k first) _
       go (no n p) name = refl
 

@@ -13,7 +13,7 @@ pub record Attribute : Type 0 where
 
 pub record Layout : Type 0 where
   pub number : ℕ
-  pub type_name_lem : List ℕ
+  pub type_name : List ℕ
   pub attributes : List Attribute
 
 -- An attribute: a name string and a four-octet type.
@@ -27,7 +27,7 @@ layout_at s at =
     text s named then λ name counted.
     count most_attributes s counted then λ k first.
     run (attribute_at s) k first then λ attributes end.
-    ok (record { number = n; type_name_lem = name; attributes = attributes }) end
+    ok (record { number = n; type_name = name; attributes = attributes }) end
 
 unfoldable pub attribute_image : Attribute → List ℕ
 attribute_image a = led_image a.name ++ word 4 (number_of a.kind)
@@ -44,6 +44,6 @@ pub record GoodAttribute (a : Attribute) : Type 0 where
 -- A layout inside the limits: numbers that fit their octets, strings of octets, at most 64 attributes.
 pub record GoodLayout (l : Layout) : Type 0 where
   pub number : l.number < 2 ^ 32
-  pub type_name_lem : GoodText l.type_name
+  pub type_name : GoodText l.type_name
   pub few : length l.attributes ≤ most_attributes
   pub attributes : Each GoodAttribute l.attributes

@@ -15,7 +15,7 @@ abbrev d : Attribute
 d = record { name = spelt "d"; kind = record { derived = 0; basic = Byte } }
 
 abbrev seven : Layout
-seven = record { number = 7; type_name_lem = spelt "A"; attributes = u ∷ d ∷ [] }
+seven = record { number = 7; type_name = spelt "A"; attributes = u ∷ d ∷ [] }
 
 abbrev start_lines : List ℕ
 start_lines = spelt "document 4 1970-01-01T00:01:26.400Z\n" ++ (spelt "layout 52 7 =A 2\n" ++ spelt "row 87 7 10 -2\n")

@@ -56,7 +56,7 @@ pub record Gains (b ls c : Book) : Type 0 where
   pub alike : Alike c (b ++ ls)
 
 nothing_gained : (b : Book) → GoodBook b → Gains b [] b
-nothing_gained b good = record { good = good; keeps = λ n m f. f; has = λ m i. absurd (Memᴰ.not_nil i); alike = rw (append-nil b) (λ n. refl) }
+nothing_gained b good = record { good = good; keeps = λ n m f. f; has = λ m i. absurd (Memᴰ.not-nil i); alike = rw (append-nil b) (λ n. refl) }
 
 module _ (s : List ℕ) (o : Each Octet s) where
   pub element_gains : (at rows : ℕ) (b : Book) (st : Stepped) (next : ℕ) → GoodBook b → element_at s at rows b ≡ ok st next → Gains b (layout_of st.element) st.book

@@ -65,7 +65,7 @@ module _ (s : List ℕ) (x : Lent) (next : ℕ) where
   layout_answered l a b =
       let items : Items (attribute_over s x) x.at l.attributes next = λ n. attribute_asked_lem s x.at x.rows x.octets x.used n l next b in
       record {
-        type_name_lem = ap (part_of (λ (y : Layout). y.type_name)) b;
+        type_name = ap (part_of (λ (y : Layout). y.type_name)) b;
         attribute = items;
         name = λ n y rest d. ap (part_of (λ (z : Attribute). z.name)) (item_there x.at l.attributes next items n y rest d);
         kind = λ n y rest d. ap kind_tells (item_there x.at l.attributes next items n y rest d);

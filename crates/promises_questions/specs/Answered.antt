@@ -51,7 +51,7 @@ pub record RowAnswered (s : List ℕ) (x : Lent) (r : Row) (next : ℕ) : Type 0
 
 -- A layout: its type name, and every attribute of it by name and type; 18 at the layout behind the last. It is no row.
 pub record LayoutAnswered (s : List ℕ) (x : Lent) (l : Layout) (next : ℕ) : Type 0 where
-  pub type_name_lem : part_of (λ y. y.type_name) (layout_over s x) ≡ l.type_name
+  pub type_name : part_of (λ y. y.type_name) (layout_over s x) ≡ l.type_name
   pub attribute : Items (attribute_over s x) x.at l.attributes next
   pub name : AtEach l.attributes λ n a. part_of (λ y. y.name) (attribute_over s x n) ≡ a.name
   pub kind : AtEach l.attributes λ n a. kind_tells (attribute_over s x n) ≡ kinded.Is a.kind

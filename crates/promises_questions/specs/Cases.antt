@@ -54,7 +54,7 @@ abbrev d : Basic → Attribute
 d b = record { name = 0x64 ∷ []; kind = record { derived = 0; basic = b } }
 
 abbrev layout_with : ℕ → Basic → Placed
-layout_with at b = record { place = at; element = item (layout (record { number = 7; type_name_lem = 0x41 ∷ []; attributes = u ∷ d b ∷ [] })) }
+layout_with at b = record { place = at; element = item (layout (record { number = 7; type_name = 0x41 ∷ []; attributes = u ∷ d b ∷ [] })) }
 
 abbrev row_with : ℕ → Bool → Basic → ℕ → ℕ → Placed
 row_with at is_stated b x y =

@@ -136,10 +136,10 @@ module _ {buffer lent : List ℕ} {told : Account} (now : Stand buffer lent told
       put_keeps now (opens told (open_layout n)) wants.Element wants.TypeName fine (octets_of (open_layout n)) 0 (length now.done) p λ i _ _.
       record {
         opened = opening now.at now.done told (open_layout n) wants.TypeName i;
-        l = record { number = n; type_name_lem = []; attributes = [] };
+        l = record { number = n; type_name = []; attributes = [] };
         n = 0;
         name = [];
-        good = record { number = small; type_name_lem = text_none; few = omega arith; attributes = tt };
+        good = record { number = small; type_name = text_none; few = omega arith; attributes = tt };
         text = text_none;
         counts = tt;
         said = refl;
@@ -151,10 +151,10 @@ module _ {buffer lent : List ℕ} {told : Account} (now : Stand buffer lent told
       put_keeps now (adds told (type_name xs)) wants.TypeName wants.AttributeCount (breach Characters xs) (led_image xs) 0 now.at.start p λ i _ small.
       record {
         opened = longer (type_name xs) wants.AttributeCount 0 i.opened;
-        l = record { number = i.l.number; type_name_lem = xs; attributes = [] };
+        l = record { number = i.l.number; type_name = xs; attributes = [] };
         n = 0;
         name = [];
-        good = record { number = i.good.number; type_name_lem = is_text xs o p.faultless small; few = omega arith; attributes = tt };
+        good = record { number = i.good.number; type_name = is_text xs o p.faultless small; few = omega arith; attributes = tt };
         text = text_none;
         counts = tt;
         said = one_more (type_name xs) i.said;
@@ -167,10 +167,10 @@ module _ {buffer lent : List ℕ} {told : Account} (now : Stand buffer lent told
       (λ i _ _.
       record {
         opened = longer (attribute_count n) wants.AttributeName n i.opened;
-        l = record { number = i.l.number; type_name_lem = i.l.type_name; attributes = [] };
+        l = record { number = i.l.number; type_name = i.l.type_name; attributes = [] };
         n = n;
         name = [];
-        good = record { number = i.good.number; type_name_lem = i.good.type_name; few = omega arith; attributes = tt };
+        good = record { number = i.good.number; type_name = i.good.type_name; few = omega arith; attributes = tt };
         text = text_none;
         counts = (zero-add n, leb-true n most_attributes (holds (leb n most_attributes) 4 p.faultless));
         said = one_more (attribute_count n) i.said;
@@ -178,8 +178,8 @@ module _ {buffer lent : List ℕ} {told : Account} (now : Stand buffer lent told
       (λ i _ none.
       record {
         opened = i.opened;
-        l = record { number = i.l.number; type_name_lem = i.l.type_name; attributes = [] };
-        good = record { number = i.good.number; type_name_lem = i.good.type_name; few = omega arith; attributes = tt };
+        l = record { number = i.l.number; type_name = i.l.type_name; attributes = [] };
+        good = record { number = i.good.number; type_name = i.good.type_name; few = omega arith; attributes = tt };
         said = one_more (attribute_count n) i.said ∙ ap (λ (m : ℕ). open_layout i.l.number ∷ type_name i.l.type_name ∷ attribute_count m ∷ []) none;
       })
 
@@ -208,10 +208,10 @@ module _ {buffer lent : List ℕ} {told : Account} (now : Stand buffer lent told
       let given : List Attribute = l.attributes ++ a ∷ [] in
       let long : length given ≡ length l.attributes + 1 = length-append l.attributes (a ∷ []) in
       let sum = i.counts in (
-        record { number = l.number; type_name_lem = l.type_name; attributes = given },
+        record { number = l.number; type_name = l.type_name; attributes = given },
         record {
           number = i.good.number;
-          type_name_lem = i.good.type_name;
+          type_name = i.good.type_name;
           few = omega arith;
           attributes = each_join GoodAttribute l.attributes (a ∷ []) i.good.attributes (record { name = i.text; derived = small }, tt);
         },

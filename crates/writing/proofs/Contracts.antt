@@ -22,7 +22,7 @@ use Rattle.writing.proofs.service_count as service_count_lem
 use Rattle.writing.proofs.service as service
 use Rattle.writing.proofs.document_id as document_id_lem
 use Rattle.writing.proofs.open_layout as open_layout_lem
-use Rattle.writing.proofs.type_name as type_name_lem
+use Rattle.writing.proofs.type_name as type_name
 use Rattle.writing.proofs.attribute_count as attribute_count_lem
 use Rattle.writing.proofs.attribute_name as attribute_name_lem
 use Rattle.writing.proofs.attribute_type as attribute_type_lem
@@ -46,7 +46,7 @@ pub record Contracts : Type 0 where
   pub of_service : SettledLent service.Kinds.ps service.Kinds.r (λ κs s. s) (λ κs. Refuses) service.Reads.Pre service.Reads.Post
   pub of_document_id : SettledLent document_id_lem.Kinds.ps document_id_lem.Kinds.r (λ κs s. s) (λ κs. Refuses) document_id_lem.Reads.Pre document_id_lem.Reads.Post
   pub of_open_layout : SettledLent open_layout_lem.Kinds.ps open_layout_lem.Kinds.r (λ κs s. s) (λ κs. Refuses) open_layout_lem.Reads.Pre open_layout_lem.Reads.Post
-  pub of_type_name : SettledLent type_name_lem.Kinds.ps type_name_lem.Kinds.r (λ κs s. s) (λ κs. Refuses) type_name_lem.Reads.Pre type_name_lem.Reads.Post
+  pub of_type_name : SettledLent type_name.Kinds.ps type_name.Kinds.r (λ κs s. s) (λ κs. Refuses) type_name.Reads.Pre type_name.Reads.Post
   pub of_attribute_count : SettledLent attribute_count_lem.Kinds.ps attribute_count_lem.Kinds.r (λ κs s. s) (λ κs. Refuses) attribute_count_lem.Reads.Pre attribute_count_lem.Reads.Post
   pub of_attribute_name : SettledLent attribute_name_lem.Kinds.ps attribute_name_lem.Kinds.r (λ κs s. s) (λ κs. Refuses) attribute_name_lem.Reads.Pre attribute_name_lem.Reads.Post
   pub of_attribute_type : SettledLent attribute_type_lem.Kinds.ps attribute_type_lem.Kinds.r (λ κs s. s) (λ κs. Refuses) attribute_type_lem.Reads.Pre attribute_type_lem.Reads.Post

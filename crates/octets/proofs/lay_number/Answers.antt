@@ -7,18 +7,12 @@ use lib.ListN.{length, take, drop}
 use Rattle.octets.specs.Writing.{word}
 use Rattle.octets.proofs.Spans.{length_word}
 use Rattle.octets.proofs.Copies.{laid}
-use Rattle.octets.proofs.lay_number.Statement.{statement}
-use Rattle.octets.proofs.lay_number.Tie as tie
+use Rattle.octets.proofs.lay_number.Goals as goal
 
-returns : tie.Need-returns
+pub returns : goal.returns
 returns c =
-    let a = c.before.before.before.before.before.args in
+    let a = c.args in
     let s = a.buf.now in
-    let put = c.before.before.put_number in
+    let put = c.put_number in
     let long = ap (λ (n : ℕ). word a.w a.v ++ drop n (take (length s - a.at) (drop a.at s))) (sym (length_word a.w a.v)) in
-    (refl, laid s put.new.0 (word a.w a.v) a.at (put.ensures ∙ long))
-
-pub lay-number-spec : {M : Type 1} → statement M
-lay-number-spec =
-    tie.close
-    (tie.spec (λ c. search rules) (λ c. search rules) (λ c. search rules) (λ c κs. search rules) (λ c. search rules) (λ c. search rules) returns)
+    (refl, laid s put.new.rest (word a.w a.v) a.at (put.ensures ∙ long))

@@ -1,0 +1,16 @@
+-- `octets::copy_in` meets its contract. The invariant: what was passed stands over the old content. Assumes nothing.
+use borrow.Author.Rules.{rules}
+use native.Mathlib.Omega.{arith}
+use Prim.Native.Nat.{ℕ, ◌-◌, ◌≤◌}
+use mathlib.Core.Path.{◌≡◌, refl, ◌∙◌, ap}
+use mathlib.Core.List.{List, ◌++◌}
+use lib.ListN.{length, take, drop, set, get_or, length-set}
+use lib.Seq.{take-length}
+use Rattle.octets.proofs.Copies.{copied}
+use Rattle.octets.proofs.copy_in.Given as goal
+
+abbrev pub invariant-loop-i : goal.invariant-loop-i
+invariant-loop-i l = (l.i ≤ length l.xs) × (length l.rest ≡ length l.initial.rest) × (l.rest ≡ take l.i l.xs ++ drop l.i l.initial.rest)
+
+abbrev pub decreases-loop-i : goal.decreases-loop-i
+decreases-loop-i l = length l.xs - l.i

@@ -1,0 +1,17 @@
+-- `octets::put_number` meets its contract. The invariant: what is to stand in the end is the word of what is left, then the rest from there on.
+-- The measure is the octets to come. Assumes nothing.
+use borrow.Author.Rules.{rules}
+use native.Mathlib.Omega.{arith}
+use Prim.Native.Nat.{ℕ, ◌≤◌}
+use mathlib.Core.Path.{◌≡◌, refl, sym, ap, ◌∙◌}
+use mathlib.Core.List.{◌++◌}
+use lib.ListN.{length, drop, length-set}
+use Rattle.octets.specs.Writing.{word}
+use Rattle.octets.proofs.Copies.{word_back}
+use Rattle.octets.proofs.put_number.Given as goal
+
+abbrev pub invariant-loop-i : goal.invariant-loop-i
+invariant-loop-i l = (l.i ≤ l.w) × (length l.rest ≡ length l.initial.rest) × (word l.w l.v ++ drop l.w l.initial.rest ≡ word l.i l.left ++ drop l.i l.rest)
+
+abbrev pub decreases-loop-i : goal.decreases-loop-i
+decreases-loop-i l = l.i
