@@ -1,0 +1,8 @@
+-- `dates::clock` meets its contract. Assumes nothing.
+use borrow.Author.Rules.{rules}
+use Rattle.printing.proofs.Puts.{then}
+use Rattle.dates.proofs.clock.Goals as goal
+
+pub returns : goal.returns
+returns c =
+    then c.behind-hour.ensures (then c.behind-minute.ensures c.behind.ensures)

@@ -1,0 +1,38 @@
+-- `dates::date_after` meets its contract. The invariant: the day left, from the year reached on, is the day given.
+-- The measure is the years to come before 9999. Assumes nothing.
+use borrow.Author.Rules.{rules}
+use native.Mathlib.Omega.{arith}
+use mathlib.Core.Path.{◌≡◌, refl, sym, ap, ◌∙◌, subst}
+use Prim.Native.Nat.{ℕ, ◌+◌, ◌-◌, ◌≤◌, ◌<◌}
+use Rattle.dates.specs.Calendar.{year_days, span_of, day_of_year, year_of, date_after}
+use Rattle.dates.proofs.Spans.{here, on, last}
+use Rattle.dates.proofs.date_after.Goals as goal
+
+abbrev size : ℕ → ℕ
+size k = year_days (1970 + k)
+
+pub returns-then-left-here : goal.returns-then-left-here
+unfolding date_after
+returns-then-left-here c =
+    let l = c.loop-years in
+    c.day_of_year.ensures
+    ∙ ap (λ (s : ℕ × ℕ). day_of_year s.0 s.1)
+    (sym (here size (8029 - l.years) l.years l.left (subst (λ (k : ℕ). l.left < k) c.year_days-here.ensures c.if-left-here.true)) ∙ l.invariant.1)
+
+pub loop-years-preserved : goal.loop-years-preserved
+loop-years-preserved c =
+    let l = c.loop-years in
+    let here : c.year_days-here.result ≡ size l.years = c.year_days-here.ensures in (
+      omega arith,
+      ap (λ (n : ℕ). span_of size (8029 - (l.years + 1)) (l.years + 1) (l.left - n)) here
+          ∙ (sym (on size 8029 l.years l.left c.loop-years-test.true (subst (λ (n : ℕ). n ≤ l.left) here c.if-left-here.false)) ∙ l.invariant.1),
+    )
+
+pub returns : goal.returns
+unfolding date_after
+returns c =
+    let l = c.loop-years in
+    c.day_of_year-2.ensures ∙ ap (λ (s : ℕ × ℕ). day_of_year s.0 s.1) (sym (last size 8029 l.years l.left (omega arith)) ∙ l.invariant.1)
+
+pub loop-years-init : goal.loop-years-init
+loop-years-init c = (omega arith, refl)

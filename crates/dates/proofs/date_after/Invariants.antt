@@ -1,0 +1,15 @@
+-- `dates::date_after` meets its contract. The invariant: the day left, from the year reached on, is the day given.
+-- The measure is the years to come before 9999. Assumes nothing.
+use borrow.Author.Rules.{rules}
+use native.Mathlib.Omega.{arith}
+use mathlib.Core.Path.{◌≡◌, refl, sym, ap, ◌∙◌, subst}
+use Prim.Native.Nat.{ℕ, ◌+◌, ◌-◌, ◌≤◌, ◌<◌}
+use Rattle.dates.specs.Calendar.{year_days, span_of, day_of_year, year_of, date_after}
+use Rattle.dates.proofs.Spans.{here, on, last}
+use Rattle.dates.proofs.date_after.Given as goal
+
+abbrev pub invariant-loop-years : goal.invariant-loop-years
+invariant-loop-years l = (l.years ≤ 8029) × (span_of size (8029 - l.years) l.years l.left ≡ year_of l.days)
+
+abbrev pub decreases-loop-years : goal.decreases-loop-years
+decreases-loop-years l = 8029 - l.years

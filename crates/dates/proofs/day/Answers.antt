@@ -1,0 +1,8 @@
+-- `dates::day` meets its contract. Assumes nothing.
+use borrow.Author.Rules.{rules}
+use Rattle.printing.proofs.Puts.{then}
+use Rattle.dates.proofs.day.Goals as goal
+
+pub returns : goal.returns
+returns c =
+    then c.filled-year.ensures (then c.behind-month.ensures c.behind.ensures)

@@ -1,0 +1,67 @@
+-- `layouts::same_runs` meets its contract: the layout's octets, cut where the first run ends, are the two runs. Assumes nothing.
+use borrow.Author.Rules.{rules}
+use borrow.Author.Tests.{not-true, not-false}
+use native.Mathlib.Omega.{arith}
+use Prim.Native.Nat.{ℕ, ◌+◌, ◌≤◌}
+use mathlib.Core.Path.{◌≡◌, refl, sym, ap, ◌∙◌}
+use lib.ListN.{length}
+use Rattle.octets.specs.Reading.{ok, is_ok}
+use Rattle.octets.proofs.Spans.{each_octet}
+use Rattle.layouts.specs.Layout.{Layout, layout_at}
+use Rattle.octets.proofs.Ends.{one_end}
+use Rattle.layouts.proofs.Judging.{stands_inside, too_short, two_runs}
+use Rattle.layouts.proofs.same_runs.Goals as goal
+use Rattle.layouts.proofs.same_runs.Lts
+use Rattle.layouts.proofs.same_runs.Reads
+use Rattle.layouts.proofs.same_runs.Tie
+
+-- The layout ends where the skip says.
+reads : (f : Lts.After-layout_skip Tie.the-claims Reads.Pre Reads.Post) (m : Layout) (end : ℕ) → layout_at f.args.s.now f.args.at ≡ ok m end
+    → layout_at f.args.s.now f.args.at ≡ ok m f.layout_skip-end.result
+reads f m end e = e ∙ ap (ok m) (sym (one_end _ e f.layout_skip-end.ensures))
+
+inside : (f : Lts.After-layout_skip Tie.the-claims Reads.Pre Reads.Post) → (f.args.at ≤ f.layout_skip-end.result) × (f.layout_skip-end.result ≤ length f.args.s.now)
+inside f =
+    let a = f.args in
+    let r = f.requires.1 in
+    stands_inside a.s.now a.at f.layout_skip-end.result r.layout (each_octet a.s.now f.shared_slice_known-1.given) (reads f r.layout r.next r.reads)
+    a.front.now a.last.now
+
+pub returns-then-end-at : goal.returns-then-end-at
+returns-then-end-at c = λ m end e.
+    let a = c.args in
+    sym (too_short a.s.now a.at c.layout_skip-end.result m (each_octet a.s.now c.type_inv.s) (reads c.before.before m end e) a.front.now a.last.now c.if-end-at.true)
+
+pub returns-then-not-octets_same : goal.returns-then-not-octets_same
+returns-then-not-octets_same c = λ m end e.
+    let a = c.args in
+    sym (two_runs a.s.now a.at c.layout_skip-end.result m (each_octet a.s.now c.type_inv.s) (reads c.before.before.before.before.before m end e) a.front.now a.last.now c.if-end-at.false
+    (a.at + length a.front.now) refl ∙ rw (sym c.octets_same.ensures ∙ not-true _ c.if-not-octets_same.true) refl)
+
+pub returns : goal.returns
+returns c = λ m end e.
+    let a = c.args in
+    c.octets_same-2.ensures
+    ∙ sym (two_runs a.s.now a.at c.layout_skip-end.result m (each_octet a.s.now c.type_inv.s) (reads c.before.before.before.before.before.before.before m end e) a.front.now a.last.now c.if-end-at.false
+    (a.at + length a.front.now) refl ∙ rw (sym c.octets_same.ensures ∙ not-false _ c.if-not-octets_same.false) refl)
+
+pub layout_skip-end-requires : goal.layout_skip-end-requires
+layout_skip-end-requires c = let p = c.requires in (p.0, ap is_ok p.1.reads)
+
+pub overflow_sub-end : goal.overflow_sub-end
+overflow_sub-end c = (inside c.before).0
+
+pub overflow_add-mid : goal.overflow_add-mid
+overflow_add-mid c = let i = inside c.before.before in omega arith
+
+pub slice_bounds-octets_same-end : goal.slice_bounds-octets_same-end
+slice_bounds-octets_same-end c = let i = inside c.before.before in omega arith
+
+pub slice_bounds-octets_same-count-2 : goal.slice_bounds-octets_same-count-2
+slice_bounds-octets_same-count-2 c = let i = inside c.before.before.before.before.before in omega arith
+
+pub slice_bounds-octets_same-start-2 : goal.slice_bounds-octets_same-start-2
+slice_bounds-octets_same-start-2 c = let i = inside c.before.before.before.before.before in omega arith
+
+pub slice_bounds-octets_same-end-2 : goal.slice_bounds-octets_same-end-2
+slice_bounds-octets_same-end-2 c = let i = inside c.before.before.before.before.before in omega arith

@@ -1,0 +1,16 @@
+-- `printing::decimal` meets its contract. Assumes nothing.
+use borrow.Author.Rules.{rules}
+use native.Mathlib.Omega.{arith}
+use mathlib.Core.Path.{◌≡◌, ◌∙◌}
+use Prim.Native.Nat.{◌-◌}
+use lib.ListN.{length, take, drop, length-drop}
+use lib.Seq.{take_all}
+use Rattle.printing.proofs.Puts.{says, plain}
+use Rattle.printing.proofs.decimal.Goals as goal
+
+pub returns : goal.returns
+returns c =
+    let t = c.spell.new.0 in
+    let r = c.spell.result in
+    let long : length t ≡ 20 = c.spell.auto.0 in
+    says (plain (take (20 - r) (drop r t)) ∙ (take_all (20 - r) (drop r t) (omega (arith, length-drop r t, long)) ∙ c.spell.ensures.1)) c.show_all.ensures

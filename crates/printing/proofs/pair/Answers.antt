@@ -1,0 +1,16 @@
+-- `printing::pair` meets its contract. Assumes nothing.
+use borrow.Author.Rules.{rules}
+use mathlib.Core.Path.{ap, ◌∙◌}
+use mathlib.Core.List.{[], ◌∷◌}
+use Prim.Native.Nat.{ℕ, ◌/◌}
+use Rattle.printing.specs.Text.{digit}
+use Rattle.printing.proofs.Puts.{then, says}
+use Rattle.printing.proofs.pair.Goals as goal
+
+pub returns : goal.returns
+returns c =
+    let a = c.args in
+    says
+    (ap (λ (d : ℕ). d ∷ c.digit-2.result ∷ []) c.digit.ensures
+    ∙ ap (λ (d : ℕ). digit a.ten (a.x / 16) ∷ d ∷ []) c.digit-2.ensures)
+    (then c.octet-to.ensures c.octet.ensures)

@@ -1,0 +1,27 @@
+-- `questions::type_name` meets its contract: the type name of the layout where it stands in the document. Assumes nothing.
+use borrow.Author.Rules.{rules}
+use mathlib.Core.Path.{sym, ap, ◌∙◌}
+use Rattle.octets.specs.Reading.{is_ok}
+use Rattle.octets.specs.Asked.{part_of, Standing}
+use Rattle.layouts.specs.Layout.{Layout, layout_at}
+use Rattle.questions.specs.Questions.{layout_asked}
+use Rattle.questions.proofs.type_name.Goals as goal
+use Rattle.questions.proofs.type_name.Lts
+use Rattle.questions.proofs.type_name.Reads
+use Rattle.questions.proofs.type_name.Tie
+
+pub returns-in_default : goal.returns-in_default
+returns-in_default c = sym (ap (part_of (λ (l : Layout). l.type_name)) (rw c.before.enum_told.given.1 at c.before.before.before.layout-at.ensures))
+
+-- Where the layout stands.
+found : (k : Lts.After-known_told Tie.the-claims Reads.Pre Reads.Post) → let a = k.args in
+    Standing a.doc.now (layout_at a.doc.now) (layout_asked a.doc.now a.at a.rows a.book.now a.used) k.layout-1.given.0.0
+found k = rw k.layout-1.given.1 at k.layout_at-layout.ensures
+
+pub returns : goal.returns
+returns c =
+    let l = found c.before.before in
+    c.type_name.ensures l.item l.last l.reads ∙ sym (ap (part_of (λ (l : Layout). l.type_name)) l.is)
+
+pub type_name-requires : goal.type_name-requires
+type_name-requires c = ((found c.before).short, ap is_ok (found c.before).reads)

@@ -1,0 +1,19 @@
+-- `walks::index` meets its contract. The invariant: of every such book the layouts met are kept, and those left stand from here on.
+-- The measure is what is left of the octets. Assumes nothing.
+use borrow.Author.Rules.{rules}
+use native.Mathlib.Omega.{arith}
+use Prim.Native.Nat.{ℕ, ◌-◌, ◌<◌}
+use mathlib.Core.Path.{sym, subst}
+use mathlib.Core.List.{List}
+use lib.ListN.{length}
+use Rattle.layouts.specs.Book.{Book}
+use Rattle.walks.specs.Kept.{Image}
+use Rattle.walks.specs.declared.Tally.{Tally}
+use Rattle.walks.proofs.Indexing.{Met, Here, met_none, met_here, met_all}
+use Rattle.walks.proofs.index.Given as goal
+
+abbrev pub invariant-loop-pos : goal.invariant-loop-pos
+invariant-loop-pos l = (book : Book) → Image l.s book → Met l.s l.numbers l.places l.steps l.pos l.tally book
+
+abbrev pub decreases-loop-pos : goal.decreases-loop-pos
+decreases-loop-pos l = length l.s - l.pos

@@ -1,0 +1,246 @@
+-- `walks::rows_from` meets its contract. The invariant: a way from the start, with its book kept by the document itself; the count is that of the spot that it reached.
+-- The measure is what is left of the document. Assumes nothing.
+use borrow.Author.Rules.{rules}
+use native.Mathlib.Omega.{arith}
+use Prim.Native.Nat.{ℕ, ◌+◌, ◌-◌, ◌≤◌, ◌<◌}
+use mathlib.Core.Path.{◌≡◌, sym, ap, ◌∙◌, subst}
+use mathlib.Core.List.{List, [], ◌∷◌, ◌++◌}
+use mathlib.Core.Option.{some}
+use lib.ListN.{length, replicate, length-replicate}
+use Rattle.octets.specs.Limits.{longest, most_rows}
+use Rattle.octets.specs.Reading.{is_ok}
+use Rattle.octets.specs.Writing.{Each, Octet}
+use Rattle.octets.proofs.Spans.{each_octet}
+use Rattle.layouts.specs.Book.{Book}
+use Rattle.layouts.proofs.Books.{image_nil}
+use Rattle.elements.specs.Reading.{rows_read}
+use Rattle.elements.specs.Walk.{Stop, Seen, goes, stops, standing, behind, Spot, spot_at, turn_at, through}
+use Rattle.elements.proofs.Through.{through_stops, through_path}
+use Rattle.walks.specs.Kept.{nothing}
+use Rattle.walks.specs.Rows.{Strides}
+use Rattle.walks.specs.Answers.{gone_of, GoesOn}
+use Rattle.walks.specs.declared.Tally.{Tally}
+use Rattle.walks.specs.declared.Gone.{Gone}
+use Rattle.walks.specs.declared.Moved.{Moved}
+use Rattle.walks.proofs.Marks.{tally_bounds}
+use Rattle.walks.proofs.Keeping.{kept_none}
+use Rattle.walks.proofs.Moves.{Newly, item_moves}
+use Rattle.walks.proofs.Ways.{OnWay, way_start, way_bears, way_few, way_rows, way_old, way_newly, way_new, moved_item, moved_end, moved_refused}
+use Rattle.walks.proofs.rows_from.Goals as goal
+use Rattle.walks.proofs.rows_from.Lts
+use Rattle.walks.proofs.rows_from.Reads
+use Rattle.walks.proofs.rows_from.Tie
+
+-- A way k.before.before.before.before the start, whatever it passed.
+abbrev Going : List ℕ → ℕ → List ℕ → List ℕ → List ℕ → Tally → ℕ → ℕ → ℕ → Type 0
+Going s at numbers places steps t pos rows used = (passed : List Seen) × OnWay s (spot_at at 0 []) passed s numbers places steps t pos rows used
+
+pub loop-next-init : goal.loop-next-init
+loop-next-init c =
+    let a = c.args in
+    let none : List ℕ = replicate 64 0 in
+    let start : List ℕ = replicate 1216 0 in (
+      (
+        [],
+        subst (λ (t : Tally). OnWay a.doc.now (spot_at a.at 0 []) [] a.doc.now none none start t a.at 0 0) (sym c.nothing-tally.ensures)
+            (subst (λ (n : ℕ). OnWay a.doc.now (spot_at a.at 0 []) [] a.doc.now none none start nothing a.at 0 n) (ap length image_nil)
+            (way_start a.doc.now a.doc.now none none start nothing a.at 0 [] c.requires.0
+            (kept_none a.doc.now none none start (length-replicate {A = ℕ} 64 0) (length-replicate {A = ℕ} 64 0) (length-replicate {A = ℕ} 1216 0)))),
+      ),
+      length-replicate {A = ℕ} 1 0,
+    )
+
+-- The turn m.before.before.before.before.before names.
+abbrev Turn : Type 0
+Turn = Lts.At-loop Tie.the-claims Reads.Pre Reads.Post goal.the-invariant-loop-next goal.the-decreases-loop-next
+
+pub go_on-moved-requires : goal.go_on-moved-requires
+go_on-moved-requires c =
+    let a = c.args in
+    let l = c.loop-next in
+    let w = l.invariant.0.1 in
+    let o = each_octet a.doc.now c.type_inv.doc in
+    let short = c.requires.1 in (
+      w.inside,
+      short,
+      omega (arith, way_few a.doc.now o short (spot_at a.at 0 []) _ a.doc.now _ _ _ _ _ _ _ w, w.inside, short),
+      short,
+      record { book = w.book; bears = way_bears a.doc.now o short (spot_at a.at 0 []) _ a.doc.now _ _ _ _ _ _ _ w },
+    )
+
+-- How the walk went on, m.before.before.before.before.before names.
+abbrev Answered : Type 0
+Answered = Lts.After-go_on Tie.the-claims Reads.Pre Reads.Post goal.the-invariant-loop-next goal.the-decreases-loop-next
+
+module _ (v : Answered) where
+  abbrev doc : List ℕ
+  doc = v.args.doc.now
+
+  abbrev first : Spot
+  first = spot_at v.args.at 0 []
+
+  abbrev numbers : List ℕ
+  numbers = v.loop-next.numbers
+
+  abbrev places : List ℕ
+  places = v.loop-next.places
+
+  abbrev steps : List ℕ
+  steps = v.loop-next.steps
+
+  abbrev tally : Tally
+  tally = v.loop-next.tally
+
+  abbrev pos : ℕ
+  pos = v.loop-next.pos
+
+  abbrev rows : ℕ
+  rows = v.loop-next.rows
+
+  abbrev used : ℕ
+  used = v.loop-next.used
+
+  abbrev passed : List Seen
+  passed = v.loop-next.invariant.0.0
+
+  short : length doc ≤ longest
+  short = v.requires.1
+
+  octets : Each Octet doc
+  octets = each_octet doc v.shared_slice_known-1.given
+
+  way : OnWay doc first passed doc numbers places steps tally pos rows used
+  way = v.loop-next.invariant.0.1
+
+  abbrev book : Book
+  book = way.book
+
+  abbrev here : Spot
+  here = spot_at pos rows book
+
+  abbrev words : List ℕ
+  words = v.go_on-moved.new.words
+
+  -- There is room for as many words as there was.
+  words_long : length words ≡ 1
+  words_long = v.go_on-moved.auto.words ∙ v.loop-next.invariant.1
+
+  went : (x : Moved) → v.go_on-moved.result ≡ x → GoesOn doc here numbers tally.known numbers most_rows v.loop-next.words words x
+  went x e =
+      subst (GoesOn doc here numbers tally.known numbers most_rows v.loop-next.words words) e
+      (v.go_on-moved.ensures book (way_bears doc octets short first passed doc numbers places steps tally pos rows used way))
+
+  -- What a stop here is answered with.
+  stopped : (e : Stop) → turn_at doc here ≡ stops e → rows_read (through doc first) ≡ rows_read (standing here (some e))
+  stopped e h = ap rows_read (through_path doc octets short passed first here way.path ∙ ap (behind passed) (through_stops doc octets short here e h))
+
+-- Over rows.
+abbrev Strode : Type 0
+Strode = Lts.Past-After-known_told Tie.the-claims Reads.Pre Reads.Post goal.the-invariant-loop-next goal.the-decreases-loop-next
+
+module _ (k : Strode) where
+
+  abbrev next : ℕ
+  next = k.in-Rows.next
+
+  abbrev count : ℕ
+  count = k.in-Rows.count
+
+  over : (0 < count) × Strides (doc k.before.before) (here k.before.before) (numbers k.before.before) (tally k.before.before).known (numbers k.before.before) most_rows k.loop-next.words (words k.before.before) next count
+  over = went k.before.before _ k.in-Rows.is
+
+  on : (more : List Seen) × OnWay (doc k.before.before) (first k.before.before) (passed k.before.before ++ more) (doc k.before.before) (numbers k.before.before) (places k.before.before) (steps k.before.before) (tally k.before.before) next (rows k.before.before + count) (used k.before.before) × (pos k.before.before + count ≤ next)
+  on = way_rows (doc k.before.before) (octets k.before.before) (short k.before.before) (first k.before.before) (passed k.before.before) (doc k.before.before) (numbers k.before.before) (places k.before.before) (steps k.before.before) (tally k.before.before) (pos k.before.before) (rows k.before.before) (used k.before.before) (way k.before.before) over.1
+
+  few_rows : rows k.before.before + count ≤ most_rows
+  few_rows = omega (arith, way_few (doc k.before.before) (octets k.before.before) (short k.before.before) (first k.before.before) _ (doc k.before.before) _ _ _ _ _ _ _ on.1, on.1.inside, short k.before.before)
+
+pub loop-next-preserved-in-Rows : goal.loop-next-preserved-in-Rows
+loop-next-preserved-in-Rows c = ((passed c.before.before.before ++ (on c.before).0, (on c.before).1), words_long c.before.before.before)
+
+pub returns-in-Refused : goal.returns-in-Refused
+returns-in-Refused c =
+    sym (stopped c.before.before.before _ (moved_refused (turn_at (doc c.before.before.before) (here c.before.before.before)) _ _ (sym (went c.before.before.before _ c.in-Refused.is).is)))
+
+pub returns-in-End : goal.returns-in-End
+returns-in-End c =
+    sym (stopped c.before.before.before _ (moved_end (turn_at (doc c.before.before.before) (here c.before.before.before)) _ _ _ (sym (went c.before.before.before _ c.in-End.is).is)).1)
+
+-- An item, m.before.before.before.before.before names.
+abbrev Item : Type 0
+Item = Lts.After-struct_known Tie.the-claims Reads.Pre Reads.Post goal.the-invariant-loop-next goal.the-decreases-loop-next
+
+module _ (m : Item) where
+
+  abbrev gone : Gone
+  gone = m.in-Item.gone
+
+  met : (p : Seen) × (y : Spot) × (turn_at (doc m.before.before.before) (here m.before.before.before) ≡ goes p y) × (gone_of p y ≡ gone)
+  met = moved_item (turn_at (doc m.before.before.before) (here m.before.before.before)) gone (sym (went m.before.before.before _ m.in-Item.is).is)
+
+  further : (pos m.before.before.before + 4 ≤ gone.next) × (gone.next ≤ length (doc m.before.before.before))
+  further =
+      subst (λ (g : Gone). (pos m.before.before.before + 4 ≤ g.next) × (g.next ≤ length (doc m.before.before.before))) met.3
+      (item_moves (doc m.before.before.before) (octets m.before.before.before) (short m.before.before.before) (pos m.before.before.before) (rows m.before.before.before) (book m.before.before.before) met.0 met.1 met.2)
+
+  -- The way behind it, whatever is kept then.
+  abbrev Behind : List ℕ → List ℕ → List ℕ → Tally → Gone → Type 0
+  Behind numbers₁ places₁ steps₁ tally₁ g = OnWay (doc m.before.before.before) (first m.before.before.before) (passed m.before.before.before ++ met.0 ∷ []) (doc m.before.before.before) numbers₁ places₁ steps₁ tally₁ g.next g.rows g.used
+
+pub overflow_add-here : goal.overflow_add-here
+overflow_add-here c = omega (arith, further c.before.before, short c.before.before.before.before.before)
+
+-- One whose layout is new.
+abbrev Grew : Type 0
+Grew = Lts.Then1 Tie.the-claims Reads.Pre Reads.Post goal.the-invariant-loop-next goal.the-decreases-loop-next
+
+newly : (g : Grew) → Newly (doc g.before.before.before.before) (pos g.before.before.before.before) (met g.before).0.next (book g.before.before.before.before) (met g.before).1.book
+newly g =
+    way_newly (doc g.before.before.before.before) (octets g.before.before.before.before) (short g.before.before.before.before) (first g.before.before.before.before) (passed g.before.before.before.before) (doc g.before.before.before.before) (numbers g.before.before.before.before) (places g.before.before.before.before) (steps g.before.before.before.before) (tally g.before.before.before.before) (pos g.before.before.before.before) (rows g.before.before.before.before) (used g.before.before.before.before) (way g.before.before.before.before) (met g.before).0 (met g.before).1 (met g.before).2
+    (subst (λ (x : Gone). used g.before.before.before.before < x.used) (sym (met g.before).3) g.if-used-gone.true)
+
+pub keep-tally-requires : goal.keep-tally-requires
+keep-tally-requires c =
+    let k = (way c.before.before.before.before.before.before.before.before).kept in
+    let (known, start, end) = tally_bounds (tally c.before.before.before.before.before.before.before.before) (book c.before.before.before.before.before.before.before.before) k.tally in
+    (short c.before.before.before.before.before.before.before.before, ap is_ok (newly c.before.before.before.before).reads, k.planned.long, omega (arith, (newly c.before.before.before.before).few), start, end, omega (arith, further c.before.before.before.before.before, short c.before.before.before.before.before.before.before.before))
+
+pub loop-next-preserved-then-used-gone : goal.loop-next-preserved-then-used-gone
+loop-next-preserved-then-used-gone c =
+    let k = c.keep-tally in
+    let n = newly c.before.before.before.before.before in (
+      (
+        passed c.before.before.before.before.before.before.before.before.before ++ (met c.before.before.before.before.before.before).0 ∷ [],
+        subst (Behind c.before.before.before.before.before.before k.new.numbers k.new.places k.new.steps k.result) (met c.before.before.before.before.before.before).3
+            (way_new (doc c.before.before.before.before.before.before.before.before.before) (octets c.before.before.before.before.before.before.before.before.before) (short c.before.before.before.before.before.before.before.before.before) (first c.before.before.before.before.before.before.before.before.before) (passed c.before.before.before.before.before.before.before.before.before) (doc c.before.before.before.before.before.before.before.before.before) (numbers c.before.before.before.before.before.before.before.before.before) (places c.before.before.before.before.before.before.before.before.before) (steps c.before.before.before.before.before.before.before.before.before) (tally c.before.before.before.before.before.before.before.before.before) (pos c.before.before.before.before.before.before.before.before.before) (rows c.before.before.before.before.before.before.before.before.before) (used c.before.before.before.before.before.before.before.before.before) (way c.before.before.before.before.before.before.before.before.before) (met c.before.before.before.before.before.before).0 (met c.before.before.before.before.before.before).1 (met c.before.before.before.before.before.before).2
+            n (pos c.before.before.before.before.before.before.before.before.before + 4) (met c.before.before.before.before.before.before).0.next n.reads (k.ensures n.layout (met c.before.before.before.before.before.before).0.next n.reads)),
+      ),
+      words_long c.before.before.before.before.before.before.before.before.before,
+    )
+
+pub loop-next-preserved : goal.loop-next-preserved
+loop-next-preserved c =
+    (
+      (
+        passed c.before.before.before.before.before ++ (met c.before.before).0 ∷ [],
+        subst (Behind c.before.before (numbers c.before.before.before.before.before) (places c.before.before.before.before.before) (steps c.before.before.before.before.before) (tally c.before.before.before.before.before)) (met c.before.before).3
+            (way_old (doc c.before.before.before.before.before) (octets c.before.before.before.before.before) (short c.before.before.before.before.before) (first c.before.before.before.before.before) (passed c.before.before.before.before.before) (doc c.before.before.before.before.before) (numbers c.before.before.before.before.before) (places c.before.before.before.before.before) (steps c.before.before.before.before.before) (tally c.before.before.before.before.before) (pos c.before.before.before.before.before) (rows c.before.before.before.before.before) (used c.before.before.before.before.before) (way c.before.before.before.before.before) (met c.before.before).0 (met c.before.before).1 (met c.before.before).2
+            (subst (λ (x : Gone). x.used ≤ used c.before.before.before.before.before) (sym (met c.before.before).3) c.if-used-gone.false)),
+      ),
+      words_long c.before.before.before.before.before,
+    )
+
+pub slice_bounds-go_on-end : goal.slice_bounds-go_on-end
+slice_bounds-go_on-end c = sym c.loop-next.invariant.1
+
+pub overflow_add-rows : goal.overflow_add-rows
+overflow_add-rows c = omega (arith, few_rows c.before)
+
+pub loop-next-smaller-in-Rows : goal.loop-next-smaller-in-Rows
+loop-next-smaller-in-Rows c = omega (arith, (over c.before).0, (over c.before).1.inside, (on c.before).2)
+
+pub loop-next-smaller-then-used-gone : goal.loop-next-smaller-then-used-gone
+loop-next-smaller-then-used-gone c = omega (arith, further c.before.before.before.before.before.before)
+
+pub loop-next-smaller : goal.loop-next-smaller
+loop-next-smaller c = omega (arith, further c.before.before)
