@@ -95,3 +95,6 @@ overflow_add-j c = let h = room c.before.before.before.before.before in omega ar
 
 pub loop-at-smaller : goal.loop-at-smaller
 loop-at-smaller c = let h = room c.before.before.before.before.before.before.before in omega arith
+
+pub bounds-steps-j : goal.bounds-steps-j
+bounds-steps-j c = room c.before.before
