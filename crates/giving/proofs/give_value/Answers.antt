@@ -80,3 +80,9 @@ returns c = λ v m own image.
     let a = c.args in
     done a.s a.buf.now a.book.now a.used a.b c.in_turn-first.result c.in_turn-first.ensures c.in_default.is c.first_fault-fault.result c.row_next-next.ensures (c.first_fault-fault.ensures ∙ ap (λ (x : Fault). x or a.breach) c.value_fault-own.ensures) v m own
     a.head.now a.body.now image (c.give_on.ensures wants.Value a.book.now)
+
+pub overflow_add-count : goal.overflow_add-count
+overflow_add-count c = let w = behind c.before.before.before.before.before.before.before in omega arith
+
+pub give_on-requires : goal.give_on-requires
+give_on-requires c = λ _. (behind c.before.before.before.before.before.before.before).place

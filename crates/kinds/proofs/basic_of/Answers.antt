@@ -1,5 +1,4 @@
 -- `kinds::basic_of` meets its contract: a code of the table that is none of the first twelve is the last. Assumes nothing.
-use borrow.Author.Rules.{rules}
 use Prim.Native.Nat.{ℕ, ◌+◌, ◌≤◌}
 use mathlib.Core.Path.{◌≡◌}
 use native.Mathlib.Omega.{arith}

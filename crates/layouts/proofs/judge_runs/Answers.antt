@@ -1,5 +1,4 @@
 -- `layouts::judge_runs` meets its contract: each answer by what a book makes of octets and what the look-up found. Assumes nothing.
-use borrow.Author.Rules.{rules}
 use native.Mathlib.Omega.{arith}
 use native.Mathlib.Nat.{add_assoc}
 use Prim.Native.Nat.{ℕ, ◌+◌}

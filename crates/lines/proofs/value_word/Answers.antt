@@ -16,6 +16,7 @@ use Rattle.kinds.specs.contracts.Value.{the_type}
 use Rattle.printing.specs.Values.{value_by, value_text}
 use Rattle.printing.proofs.Puts.{says}
 use Rattle.lines.specs.Lines.{string_text, octets_text}
+use borrow.Enum.Refused.{opened}
 use Rattle.lines.proofs.value_word.Goals as goal
 
 -- What is one of an arm's keys is found among them.
@@ -59,4 +60,4 @@ pub returns-in_default : goal.returns-in_default
 returns-in_default c =
     let a = c.args in
     let xs = a.xs.now in
-    says (number (octets_text xs) (string_text xs) a.value c.in_default.in_default-own.keys3) c.value.ensures
+    says (number (octets_text xs) (string_text xs) a.value (opened c.in_default.in_default-own.keys3)) c.value.ensures

@@ -28,7 +28,7 @@ returns-in_default c = sym (ap (part_of (λ (f : Field). octets_of f.value)) (rw
 -- Where the field stands.
 found : (k : Lts.Past-After-known_told Tie.the-claims Reads.Pre Reads.Post) → let a = k.args in
     FieldAt a.doc.now a.book.now a.used (field_asked a.doc.now a.at a.rows a.book.now a.used a.n) (At k.in-At.attribute k.in-At.value)
-found k = rw k.in-At.is at k.field_at-spot.ensures.before
+found k = rw k.in-At.is at k.field_at-spot.ensures
 
 -- Whether its type has octets.
 module _ (t : Lts.After-is_held Tie.the-claims Reads.Pre Reads.Post) where

@@ -40,7 +40,7 @@ use Rattle.runs.specs.Runs.{item_word, words_of}
 use Rattle.runs.specs.Answers.{met_word}
 use Rattle.runs.proofs.Over.{left_by, over_goes, over_stops, over_many, over_rows, words_same}
 use Rattle.runs.proofs.Runs.{OnRun, laid_part, none_passed, run_start, run_path, run_item, run_stops, run_full, went_some, went_end, went_refused}
-use Rattle.runs.proofs.items.Invariants.{Going, In, few}
+use Rattle.runs.proofs.items.Invariants.{Going}
 use Rattle.runs.proofs.items.Goals as goal
 use Rattle.runs.proofs.items.Lts
 use Rattle.runs.proofs.items.Reads
@@ -185,20 +185,22 @@ returns-then-passed-gt-MOST_ROWS c =
 abbrev Reached : Type 0
 Reached = Lts.After-reach Tie.the-claims Reads.Pre Reads.Post goal.the-invariant-loop-n goal.the-decreases-loop-n
 
+few : (r : Reached) → passed r.before.before ≤ most_rows
+few r = omega (arith, r.if-passed-gt-MOST_ROWS.false)
+
 bears : (t : Round) → Bears (take (filled t) (octets t)) (filled t) (numbers t) (places t) (steps t) (tally t).known (book t)
 bears t = carried_bears (octets t) (filled t) (numbers t) (places t) (steps t) (tally t) (carried t)
 
 pub go_on-moved-requires : goal.go_on-moved-requires
 go_on-moved-requires c =
-    let t = In c.before.before.before.before.before.before in
-    ((going t).inside, short t, few c.before.before.before.before.before.before, omega (arith, shelf_long t, (held t).most), record { book = book t; bears = bears t })
+    ((going c.before.before.before.before.before.before.before).inside, short c.before.before.before.before.before.before.before, few c.before.before.before.before.before, omega (arith, shelf_long c.before.before.before.before.before.before.before, (held c.before.before.before.before.before.before.before).most), record { book = book c.before.before.before.before.before.before.before; bears = bears c.before.before.before.before.before.before.before })
 
 -- How the run went on.
 abbrev Answered : Type 0
 Answered = Lts.After-go_on Tie.the-claims Reads.Pre Reads.Post goal.the-invariant-loop-n goal.the-decreases-loop-n
 
 abbrev Of : Answered → Round
-Of v = In v.before.before.before.before.before.before.before
+Of v = v.before.before.before.before.before.before.before.before.before
 
 module _ (v : Answered) where
   -- The words k.before.before.before.before.before the index on, before and behind.
@@ -243,7 +245,7 @@ module _ (k : Strode) where
   over = went k.before.before.before _ k.in-Rows.is
 
   bounds : (0 < count) × (n (Of k.before.before.before) + count ≤ 4096) × (passed (Of k.before.before.before) + count ≤ most_rows + 1)
-  bounds = let e = k.reach-most.ensures in let r = room (Of k.before.before.before) in let f = few k.before.before.before.before.before.before.before.before.before.before in (over.0, omega (arith, over.1.few), omega (arith, over.1.few))
+  bounds = let e = k.reach-most.ensures in let r = room (Of k.before.before.before) in let f = few k.before.before.before.before.before.before.before.before.before in (over.0, omega (arith, over.1.few), omega (arith, over.1.few))
 
 pub loop-n-preserved-in-Rows : goal.loop-n-preserved-in-Rows
 loop-n-preserved-in-Rows c =
@@ -276,7 +278,7 @@ loop-n-preserved-in-Rows c =
 refuses : (v : Answered) (m p : ℕ) → GoesOn-by v (moved.Refused m p) → turn_over (doc (Of v)) (here (Of v)) ≡ stops (refused m p)
 refuses v m p e =
     let t = Of v in
-    over_stops (doc t) (short t) (octets t) (filled t) (carried t).is (pos t) (passed t) (few v.before.before.before.before.before.before.before) (refused m p) (moved_refused (turn_at (doc t) (spot_at (pos t) (passed t) (book t))) m p (sym e.is))
+    over_stops (doc t) (short t) (octets t) (filled t) (carried t).is (pos t) (passed t) (few v.before.before.before.before.before.before) (refused m p) (moved_refused (turn_at (doc t) (spot_at (pos t) (passed t) (book t))) m p (sym e.is))
 
 pub returns-then-n-eq0 : goal.returns-then-n-eq0
 returns-then-n-eq0 c =
@@ -297,7 +299,7 @@ returns-in-End c =
     let e = went c.before.before.before _ c.in-End.is in
     let (u, is, _) = moved_end (turn_at (doc t) (spot_at (pos t) (passed t) (book t))) _ _ _ (sym e.is) in
     went_end (doc t) (first t) (lent t) (run-still c.before.before.before e.kept) _ u _
-    (over_stops (doc t) (short t) (octets t) (filled t) (carried t).is (pos t) (passed t) (few c.before.before.before.before.before.before.before.before.before.before) _ is) (room t)
+    (over_stops (doc t) (short t) (octets t) (filled t) (carried t).is (pos t) (passed t) (few c.before.before.before.before.before.before.before.before.before) _ is) (room t)
 
 pub returns : goal.returns
 returns c =
@@ -338,7 +340,7 @@ module _ (k : Item) where
   near = subst (λ (g : Gone). g.next ≤ longest) met.3 (omega (arith, moves, short within))
 
   counted : y.rows ≤ most_rows + 1
-  counted = let t = within in omega (arith, turn_rows (doc t) (spot_at (pos t) (passed t) (book t)) p y met.2, few_rows (element.item p.which), few k.before.before.before.before.before.before.before.before.before.before)
+  counted = let t = within in omega (arith, turn_rows (doc t) (spot_at (pos t) (passed t) (book t)) p y met.2, few_rows (element.item p.which), few k.before.before.before.before.before.before.before.before.before)
 
 -- Its word, put behind the others.
 abbrev Worded : Type 0
@@ -448,8 +450,8 @@ loop-n-preserved-then-filled-gone c =
     (carried_new (octets t) (filled t) (numbers t) (places t) (steps t) (tally t) (carried t) (doc t) (doc-octets t) (short t) (pos t) (passed t) (p c.before.before.before.before.before.before.before.before.before.before.before) (y c.before.before.before.before.before.before.before.before.before.before.before) (met c.before.before.before.before.before.before.before.before.before.before.before).2 (more c.before.before.before.before.before.before.before.before) exit left h).0
 
 -- The part of the words lies within them.
-lies : (r : Reached) → n (In r) ≤ length (words (In r))
-lies r = omega (arith, words-full (In r), room (In r))
+lies : (r : Reached) → n r.before.before ≤ length (words r.before.before)
+lies r = omega (arith, words-full r.before.before, room r.before.before)
 
 -- Book and words come back as long as they were lent, k.before.before.before.before.before a refusal and k.before.before.before.before.before the end.
 module _ (v : Answered) where
@@ -472,13 +474,13 @@ pub reach-most-requires : goal.reach-most-requires
 reach-most-requires c = (omega (arith, room c.before), omega (arith, c.if-passed-gt-MOST_ROWS.false))
 
 pub slice_bounds-go_on-end : goal.slice_bounds-go_on-end
-slice_bounds-go_on-end c = let h = held (In c) in omega (arith, h.room, h.most)
+slice_bounds-go_on-end c = let h = held c.before.before in omega (arith, h.room, h.most)
 
 pub slice_bounds-go_on-end-in-loop-n : goal.slice_bounds-go_on-end-in-loop-n
-slice_bounds-go_on-end-in-loop-n c = sym (shelf_long (In c.before))
+slice_bounds-go_on-end-in-loop-n c = sym (shelf_long c.before.before)
 
 pub offset_bounds-words-n : goal.offset_bounds-words-n
-offset_bounds-words-n c = omega (arith, room (In c.before.before.before.before.before))
+offset_bounds-words-n c = omega (arith, room c.before.before.before.before.before.before)
 
 pub slice_bounds-go_on-count : goal.slice_bounds-go_on-count
 slice_bounds-go_on-count c = omega (arith, lies c.before.before.before.before)

@@ -51,12 +51,6 @@ pub record Going (doc : List ℕ) (at rows : ℕ) (entry : List ℕ) (used : ℕ
   pub book-long : length book ≡ length entry
   pub words_long : length words ≡ length lent
 
-abbrev pub In : Reached → Round
-In r = r.before.before
-
-few : (r : Reached) → passed (In r) ≤ most_rows
-few r = omega (arith, r.before.if1.left)
-
 abbrev pub invariant-loop-n : goal.invariant-loop-n
 invariant-loop-n l = Going l.doc l.at l.rows l.initial.book l.used l.initial.words l.book l.words l.numbers l.places l.steps l.tally l.pos l.passed l.filled l.n
 

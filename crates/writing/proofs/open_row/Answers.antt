@@ -20,8 +20,7 @@ use Rattle.writer.specs.Writer.{room, same_turn, in_book, put, does, open_row}
 use Rattle.writer.specs.Answers.{Left, left, early, rest_leaves, call_leaves}
 use Rattle.writer.proofs.Bounds.{bounds}
 use Rattle.writer.proofs.Tests.{stopped, passed, at_ready, same_put}
-use Rattle.writing.proofs.open_row.Statement.{statement}
-use Rattle.writing.proofs.open_row.Tie as tie
+use Rattle.writing.proofs.open_row.Goals as goal
 
 module _ (s : State) (b l : List ℕ) (used n : ℕ) (stated : Bool) (r : Fault) (is : r ≡ early s (length b) l used (same_turn s.turn wants.Element)) where
   first : (k : ℕ) → r ≡ faults.Refused k → left (Refused k s.place) b l ≡ call_leaves s b l used (open_row n stated)
@@ -42,44 +41,26 @@ module _ (s : State) (b l : List ℕ) (used n : ℕ) (stated : Bool) (r : Fault)
         g ∙ (ap (rest_leaves s b l used) (same_put s wants.Element s.place i (rw (j, k, append-nil (length_image stated 0)) refl) refl refl)
         ∙ sym (passed s b l used (does s b (book_in l used) (open_row n stated)) r is e))
 
-returns : tie.Need-returns
+pub returns-in-Refused : goal.returns-in-Refused
+returns-in-Refused c =
+    let a = c.args in
+    first a.s a.buf.now a.book.now a.used a.n a.stated c.in_turn-first.result c.in_turn-first.ensures
+    c.in-Refused.k c.in-Refused.is
+
+pub layout_fault-fault-requires : goal.layout_fault-fault-requires
+layout_fault-fault-requires c =
+    let a = c.args in
+    (asked a.s a.buf.now a.book.now a.used a.n a.stated c.in_turn-first.result c.in_turn-first.ensures
+    c.in_default.is (each_octet a.book.now c.type_inv.book)).0
+
+pub give_on-requires : goal.give_on-requires
+give_on-requires c = λ _.
+    let a = c.args in
+    (asked a.s a.buf.now a.book.now a.used a.n a.stated c.in_turn-first.result c.in_turn-first.ensures
+    c.in_default.is (each_octet a.book.now c.type_inv.book)).1
+
+pub returns : goal.returns
 returns c =
-    let f = c.before in
-    let r = f.before.before in
-    let a = r.before.before.before.args in
-    first a.s a.buf.now a.book.now a.used a.n a.stated r.in_turn.result r.in_turn.ensures
-    f.first.given.0.0 f.first.given.1
-
-layout-fault-requires : tie.Need-layout-fault-requires
-layout-fault-requires c κs =
-    let r = c.before.before in
-    let k = r.before in
-    let a = k.before.before.args in
-    (asked a.s a.buf.now a.book.now a.used a.n a.stated r.in_turn.result r.in_turn.ensures
-    c.enum_told.given.1 (each_octet a.book.now k.shared-slice-known.given)).0
-
-give-on-requires : tie.Need-give-on-requires
-give-on-requires c κs = λ _.
-    let e = c.before.before.before.before.before.before.before in
-    let r = e.before.before in
-    let k = r.before in
-    let a = k.before.before.args in
-    (asked a.s a.buf.now a.book.now a.used a.n a.stated r.in_turn.result r.in_turn.ensures
-    e.enum_told.given.1 (each_octet a.book.now k.shared-slice-known.given)).1
-
-returns-2 : tie.Need-returns-2
-returns-2 c =
-    let g = c.before.before in
-    let w = g.before.before.before.before.before in
-    let p = w.before in
-    let f = p.before in
-    let e = f.before in
-    let r = e.before.before in
-    let a = r.before.before.before.args in
-    done a.s a.buf.now a.book.now a.used a.n a.stated r.in_turn.result r.in_turn.ensures
-    e.enum_told.given.1 f.layout_fault.result f.layout_fault.ensures p.pair.ensures w.length_octets.ensures (g.give_on.ensures wants.Element a.book.now)
-
-pub open-row-spec : {M : Type 1} → statement M
-open-row-spec =
-    tie.close
-    (tie.spec (λ c κs. search rules) (λ c. search rules) returns (λ c. search rules) layout-fault-requires (λ c κs. search rules) (λ c κs. search rules) (λ c. search rules) (λ c. search rules) (λ c. search rules) give-on-requires (λ c. search rules) returns-2)
+    let a = c.args in
+    done a.s a.buf.now a.book.now a.used a.n a.stated c.in_turn-first.result c.in_turn-first.ensures
+    c.in_default.is c.layout_fault-fault.result c.layout_fault-fault.ensures c.pair-head.ensures c.length_octets-body.ensures (c.give_on.ensures wants.Element a.book.now)

@@ -14,8 +14,7 @@ use Rattle.kinds.specs.Values.{basic_of_value, bits_of_value}
 use Rattle.kinds.specs.Forms.{bits, held}
 use Rattle.writer.specs.Writer.{value, suits, in_form, value_call}
 use Rattle.writer.specs.Answers.{call_leaves}
-use Rattle.writing.proofs.value.Statement.{statement}
-use Rattle.writing.proofs.value.Tie as tie
+use Rattle.writing.proofs.value.Goals as goal
 
 of-octets : (f : Form) (n : ℕ) (xs : List ℕ) → suits f (held xs) ≡ true → held xs ≡ in_form f n xs
 of-octets (form.Fixed w) n xs e = let z : ◌≡◌ {A = ℕ} 0 1 = cc in absurd (omega arith)
@@ -37,32 +36,18 @@ module _ (v : goal.Value) (xs : List ℕ) (b : Basic) (is : b ≡ basic_of_value
   number-given : {n : ℕ} → n ≡ bits_of_value v → suits (form_by b) (held xs) ≡ false → value b (bits n) ≡ value_call v xs
   number-given {n} m e = ap (value b) (of_number (form_by b) n xs e) ∙ typed m
 
-returns : tie.Need-returns
+pub returns-then-suits_octets : goal.returns-then-suits_octets
+returns-then-suits_octets c =
+    let a = c.args in
+    let xs = a.xs.now in
+    c.value_octets.ensures
+    ∙ ap (call_leaves a.s a.buf.now a.book.now a.used)
+    (octets-given a.v xs c.basic_of_value-b.result c.basic_of_value-b.ensures (sym (c.suits_octets.ensures xs) ∙ c.if-suits_octets.true))
+
+pub returns : goal.returns
 returns c =
-    let o = c.before.before in
-    let i = o.before.before in
-    let u = i.before in
-    let b = u.before in
-    let a = b.before.before.before.before.args in
+    let a = c.args in
     let xs = a.xs.now in
-    o.value_octets.ensures
+    c.value_number.ensures
     ∙ ap (call_leaves a.s a.buf.now a.book.now a.used)
-    (octets-given a.v xs b.basic_of_value.result b.basic_of_value.ensures (sym (u.suits_octets.ensures xs) ∙ i.if1.true))
-
-returns-2 : tie.Need-returns-2
-returns-2 c =
-    let n = c.before.before in
-    let m = n.before in
-    let i = m.before.before in
-    let u = i.before in
-    let b = u.before in
-    let a = b.before.before.before.before.args in
-    let xs = a.xs.now in
-    n.value_number.ensures
-    ∙ ap (call_leaves a.s a.buf.now a.book.now a.used)
-    (number-given a.v xs b.basic_of_value.result b.basic_of_value.ensures m.bits_of_value.ensures (sym (u.suits_octets.ensures xs) ∙ i.if1.false))
-
-pub value_spec : {M : Type 1} → statement M
-value_spec =
-    tie.close
-    (tie.spec (λ c κs. search rules) (λ c κs. search rules) (λ c κs. search rules) (λ c. search rules) returns (λ c κs. search rules) (λ c κs. search rules) (λ c. search rules) returns-2)
+    (number-given a.v xs c.basic_of_value-b.result c.basic_of_value-b.ensures c.bits_of_value.ensures (sym (c.suits_octets.ensures xs) ∙ c.if-suits_octets.false))

@@ -26,8 +26,10 @@ use Rattle.writer.specs.Own.{close_fault}
 use Rattle.writer.proofs.Tests.{leaves_fault, leaves_put, stopped, passed, ready, length_size}
 use Rattle.writer.proofs.Values.{close_own}
 use Rattle.giving.proofs.Values.{InRow, in_row}
-use Rattle.writing.proofs.close_row.Statement.{statement}
-use Rattle.writing.proofs.close_row.Tie as tie
+use Rattle.writing.proofs.close_row.Goals as goal
+use Rattle.writing.proofs.close_row.Lts
+use Rattle.writing.proofs.close_row.Reads
+use Rattle.writing.proofs.close_row.Tie
 
 module _ (s : State) (b l : List ℕ) (used : ℕ) (r : Fault) (is : r ≡ early s (length b) l used (same_turn s.turn wants.Value)) where
   first : (k : ℕ) → r ≡ faults.Refused k → left (Refused k s.place) b l ≡ call_leaves s b l used close_row
@@ -59,54 +61,36 @@ module _ (s : State) (b l : List ℕ) (used : ℕ) (r : Fault) (is : r ≡ early
           ∙ leaves_put s b l used (does s b (book_in l used) close_row) (fault ∙ g) refl
           (le-leb (s.start + 8 + length (length_image stated (s.place - (s.start + 12)))) (room (length b)) (omega arith))))
 
-returns : tie.Need-returns
-returns c =
-    let f = c.before in
-    let r = f.before.before in
-    let a = r.before.before.before.args in
-    first a.s a.buf.now a.book.now a.used r.in_turn.result r.in_turn.ensures f.first.given.0.0 f.first.given.1
+pub returns-in-Refused : goal.returns-in-Refused
+returns-in-Refused c =
+    let a = c.args in
+    first a.s a.buf.now a.book.now a.used c.in_turn-first.result c.in_turn-first.ensures c.in-Refused.n c.in-Refused.is
 
 -- What holds where 17 and 20 are not given.
-behind : (e : tie.After-enum-told) → InRow e.before.before.before.before.before.args.s (length e.before.before.before.before.before.args.buf.now)
-    e.before.before.before.before.before.args.book.now e.before.before.before.before.before.args.used
+behind : (e : Lts.Past-After-enum_told Tie.the-claims Reads.Pre Reads.Post) → InRow e.args.s (length e.args.buf.now)
+    e.args.book.now e.args.used
 behind e =
-    let r = e.before.before in
-    let k = r.before in
-    let a = k.before.before.args in
-    inside a.s a.buf.now a.book.now a.used r.in_turn.result r.in_turn.ensures e.enum_told.given.1 (each_octet a.book.now k.shared-slice-known.given)
+    let a = e.args in
+    inside a.s a.buf.now a.book.now a.used e.in_turn-first.result e.in_turn-first.ensures e.in_default.is (each_octet a.book.now e.shared_slice_known-1.given)
 
-row-next-requires : tie.Need-row-next-requires
+pub row_next-next-requires : goal.row_next-next-requires
 unfolding room
-row-next-requires c κs = let w = behind c.before in (omega arith, w.book)
+row_next-next-requires c = let w = behind c.before in (omega arith, w.book)
 
-returns-2 : tie.Need-returns-2
-returns-2 c =
-    let g = c.before in
-    let f = g.before.before in
-    let n = f.before in
-    let e = n.before.before in
-    let r = e.before.before in
-    let a = r.before.before.before.args in
-    refused a.s a.buf.now a.book.now a.used r.in_turn.result r.in_turn.ensures e.enum_told.given.1 f.close_fault.result n.row_next.ensures f.close_fault.ensures g.fault.given.0.0 g.fault.given.1
+pub returns-in-Refused-fault : goal.returns-in-Refused-fault
+returns-in-Refused-fault c =
+    let a = c.args in
+    refused a.s a.buf.now a.book.now a.used c.in_turn-first.result c.in_turn-first.ensures c.in_default.is c.close_fault-fault.result c.row_next-next.ensures c.close_fault-fault.ensures c.in-Refused-fault.n c.in-Refused-fault.is
 
-lay-length-requires : tie.Need-lay-length-requires
+pub lay_length-requires : goal.lay_length-requires
 unfolding room
-lay-length-requires c κs = let w = behind c.before.before.before.before.before.before in (w.head, omega arith)
+lay_length-requires c = let w = behind c.before.before.before.before.before in (w.head, omega arith)
 
-returns-3 : tie.Need-returns-3
-returns-3 c =
-    let d = c.before.before in
-    let g = d.before.before in
-    let f = g.before.before in
-    let n = f.before in
-    let e = n.before.before in
-    let r = e.before.before in
-    let a = r.before.before.before.args in
-    let w = behind e in
-    done a.s a.buf.now a.book.now a.used r.in_turn.result r.in_turn.ensures e.enum_told.given.1 f.close_fault.result n.row_next.ensures f.close_fault.ensures g.enum-told2.given.1 w.head w.place d.lay_length.ensures
+pub returns : goal.returns
+returns c =
+    let a = c.args in
+    let w = behind c.before.before.before.before.before.before.before.before in
+    done a.s a.buf.now a.book.now a.used c.in_turn-first.result c.in_turn-first.ensures c.in_default.is c.close_fault-fault.result c.row_next-next.ensures c.close_fault-fault.ensures c.in_default-fault.is w.head w.place c.lay_length.ensures
 
-pub close-row-spec : {M : Type 1} → statement M
-close-row-spec =
-    tie.close
-    (tie.spec (λ c κs. search rules) (λ c. search rules) returns (λ c. search rules) row-next-requires (λ c κs. search rules)
-    (λ c. search rules) (λ c. search rules) returns-2 (λ c. search rules) lay-length-requires (λ c. let w = behind c.before.before.before.before.before.before.before.before.before in omega arith) (λ c. search rules) returns-3)
+pub overflow_add-result : goal.overflow_add-result
+overflow_add-result c = let w = behind c.before.before.before.before.before.before.before.before in omega arith

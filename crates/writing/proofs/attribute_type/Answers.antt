@@ -9,22 +9,13 @@ use Rattle.writer.specs.declared.State.{State}
 use Rattle.writer.specs.Writer.{does, attributes}
 use Rattle.writer.specs.Answers.{call_leaves}
 use Rattle.writer.proofs.Tests.{gave}
-use Rattle.writing.proofs.attribute_type.Statement.{statement}
-use Rattle.writing.proofs.attribute_type.Tie as tie
+use Rattle.writing.proofs.attribute_type.Goals as goal
 
 same : (s : State) (t : ℕ) {f g : Fault} {n m : ℕ} → f ≡ g → n ≡ m → attributes s wants.AttributeType f (word 4 t) n ≡ attributes s wants.AttributeType g (word 4 t) m
 same s t e h = rw (e, h) refl
 
-returns : tie.Need-returns
+pub returns : goal.returns
 unfolding call_leaves does
 returns c =
-    let g = c.before.before.before.before in
-    let l = g.before.before.before in
-    let t = l.before in
-    let a = t.before.before.before.args in
-    gave a.s a.buf.now a.book.now a.used g.give_attribute.ensures (same a.s a.t (t.type_fault.ensures a.s.place (a.s.place + 4)) l.less_one.ensures)
-
-pub attribute-type-spec : {M : Type 1} → statement M
-attribute-type-spec =
-    tie.close
-    (tie.spec (λ c κs. search rules) (λ c κs. search rules) (λ c κs. search rules) (λ c. search rules) (λ c. search rules) returns)
+    let a = c.args in
+    gave a.s a.buf.now a.book.now a.used c.give_attribute.ensures (same a.s a.t (c.type_fault-fault.ensures a.s.place (a.s.place + 4)) c.less_one-count.ensures)

@@ -6,18 +6,11 @@ use Rattle.writer.specs.declared.Wanted.TheVariants as wants
 use Rattle.writer.specs.Writer.{does}
 use Rattle.writer.specs.Answers.{call_leaves}
 use Rattle.writer.proofs.Tests.{same_put, gave}
-use Rattle.writing.proofs.open_layout.Statement.{statement}
-use Rattle.writing.proofs.open_layout.Tie as tie
+use Rattle.writing.proofs.open_layout.Goals as goal
 
-returns : tie.Need-returns
+pub returns : goal.returns
 unfolding call_leaves does
 returns c =
-    let g = c.before.before in
-    let a = g.before.before.before.before.before.args in
-    gave a.s a.buf.now a.book.now a.used g.give_pair.ensures
+    let a = c.args in
+    gave a.s a.buf.now a.book.now a.used c.give_pair.ensures
     (same_put a.s wants.Element a.s.place refl (append-nil _) refl refl)
-
-pub open-layout-spec : {M : Type 1} → statement M
-open-layout-spec =
-    tie.close
-    (tie.spec (λ c. search rules) (λ c κs. search rules) (λ c. search rules) returns)

@@ -17,8 +17,10 @@ use Rattle.writer.specs.Writer.{room, is_open, between, does, give_up}
 use Rattle.writer.specs.Answers.{left, early, call_leaves}
 use Rattle.writer.proofs.Bounds.{bounds}
 use Rattle.writer.proofs.Tests.{stopped, passed, ready, leaves_put}
-use Rattle.writing.proofs.give_up.Statement.{statement}
-use Rattle.writing.proofs.give_up.Tie as tie
+use Rattle.writing.proofs.give_up.Goals as goal
+use Rattle.writing.proofs.give_up.Lts
+use Rattle.writing.proofs.give_up.Reads
+use Rattle.writing.proofs.give_up.Tie
 
 module _ (s : State) (b l : List ℕ) (used : ℕ) (r : Fault) (is : r ≡ early s (length b) l used (is_open s.turn)) where
   first : (k : ℕ) → r ≡ faults.Refused k → left (Refused k s.place) b l ≡ call_leaves s b l used give_up
@@ -46,43 +48,28 @@ module _ (s : State) (b l : List ℕ) (used : ℕ) (r : Fault) (is : r ≡ early
         ∙ leaves_put s b l used (does s b (book_in l used) give_up) refl refl (le-leb (s.start + length (replicate (s.place - s.start) 0)) (room (length b)) (omega arith))))
 
 -- What was asked about 17 and 20: whether an element is open.
-first-is : (r : tie.After-ready) → r.ready.result ≡ early r.before.before.before.before.args.s (length r.before.before.before.before.args.buf.now) r.before.before.before.before.args.book.now
-    r.before.before.before.before.args.used (is_open r.before.before.before.before.args.s.turn)
+first-is : (r : Lts.After-ready Tie.the-claims Reads.Pre Reads.Post) → r.ready-first.result ≡ early r.args.s (length r.args.buf.now) r.args.book.now
+    r.args.used (is_open r.args.s.turn)
 first-is r =
-    let a = r.before.before.before.before.args in
-    r.ready.ensures ∙ ap (λ (mine : Bool). early a.s (length a.buf.now) a.book.now a.used mine) r.before.is_open.ensures
+    let a = r.args in
+    r.ready-first.ensures ∙ ap (λ (mine : Bool). early a.s (length a.buf.now) a.book.now a.used mine) r.is_open-mine.ensures
 
-returns : tie.Need-returns
+pub returns-in-Refused : goal.returns-in-Refused
+returns-in-Refused c =
+    let a = c.args in
+    first a.s a.buf.now a.book.now a.used c.ready-first.result (first-is c.before.before) c.in-Refused.n c.in-Refused.is
+
+pub overflow_sub-place : goal.overflow_sub-place
+overflow_sub-place c =
+    let a = c.args in
+    (within a.s a.buf.now a.book.now a.used c.ready-first.result (first-is c.before.before.before) c.in_default.is).0
+
+pub lay_zeros-requires : goal.lay_zeros-requires
+lay_zeros-requires c =
+    let a = c.args in
+    inside a.s a.buf.now a.book.now a.used c.ready-first.result (first-is c.before.before.before) c.in_default.is
+
+pub returns : goal.returns
 returns c =
-    let f = c.before in
-    let r = f.before.before in
-    let a = r.before.before.before.before.args in
-    first a.s a.buf.now a.book.now a.used r.ready.result (first-is r) f.first.given.0.0 f.first.given.1
-
-sub-lay-zeros : tie.Need-overflow-sub-lay-zeros
-sub-lay-zeros c =
-    let e = c.before in
-    let r = e.before.before in
-    let a = r.before.before.before.before.args in
-    (within a.s a.buf.now a.book.now a.used r.ready.result (first-is r) e.enum_told.given.1).0
-
-lay-zeros-requires : tie.Need-lay-zeros-requires
-lay-zeros-requires c κs =
-    let e = c.before in
-    let r = e.before.before in
-    let a = r.before.before.before.before.args in
-    inside a.s a.buf.now a.book.now a.used r.ready.result (first-is r) e.enum_told.given.1
-
-returns-2 : tie.Need-returns-2
-returns-2 c =
-    let z = c.before.before in
-    let e = z.before.before in
-    let r = e.before.before in
-    let a = r.before.before.before.before.args in
-    done a.s a.buf.now a.book.now a.used r.ready.result (first-is r) e.enum_told.given.1 z.lay_zeros.ensures
-
-pub give-up-spec : {M : Type 1} → statement M
-give-up-spec =
-    tie.close
-    (tie.spec (λ c κs. search rules) (λ c κs. search rules) (λ c. search rules) returns (λ c. search rules) sub-lay-zeros lay-zeros-requires
-    (λ c. search rules) returns-2)
+    let a = c.args in
+    done a.s a.buf.now a.book.now a.used c.ready-first.result (first-is c.before.before.before.before.before.before) c.in_default.is c.lay_zeros.ensures

@@ -13,8 +13,7 @@ use Rattle.kinds.specs.declared.Form.TheVariants as form
 use Rattle.kinds.specs.Kinds.{form_by}
 use Rattle.kinds.specs.Forms.{held, value_image}
 use Rattle.writer.specs.Writer.{suits}
-use Rattle.writing.proofs.value_octets.Statement.{statement}
-use Rattle.writing.proofs.value_octets.Tie as tie
+use Rattle.writing.proofs.value_octets.Goals as goal
 
 image : (f : Form) (xs : List ℕ) {h : List ℕ} → suits f (held xs) ≡ true → h ≡ word 4 (length xs) → h ++ xs ≡ value_image f (held xs)
 unfolding led_image
@@ -22,18 +21,9 @@ image (form.Fixed w) xs e h = let z : ◌≡◌ {A = ℕ} 0 1 = cc in absurd (om
 image form.Truth xs e h = let z : ◌≡◌ {A = ℕ} 0 1 = cc in absurd (omega arith)
 image (form.Led rule) xs e h = rw h refl
 
-returns : tie.Need-returns
+pub returns : goal.returns
 returns c =
-    let g = c.before.before in
-    let b = g.before.before.before in
-    let w = b.before in
-    let o = w.before in
-    let a = o.before.before.before.before.args in
+    let a = c.args in
     let xs = a.xs.now in
-    let is = o.suits_octets.ensures xs in
-    g.give-value.ensures (held xs) is b.value_breach.ensures (λ q. image (form_by a.b) xs (sym is ∙ q) w.word4.ensures)
-
-pub value-octets-spec : {M : Type 1} → statement M
-value-octets-spec =
-    tie.close
-    (tie.spec (λ c κs. search rules) (λ c κs. search rules) (λ c κs. search rules) (λ c. search rules) (λ c κs. search rules) (λ c. search rules) returns)
+    let is = c.suits_octets-fits.ensures xs in
+    c.give_value.ensures (held xs) is c.value_breach-breach.ensures (λ q. image (form_by a.b) xs (sym is ∙ q) c.word4-head.ensures)
