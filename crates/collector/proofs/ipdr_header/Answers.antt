@@ -45,5 +45,5 @@ pub returns-in-Is : goal.returns-in-Is
 returns-in-Is c =
     let h = c.in-Is.head in
     let e = told c.before.before.before.before.before.before.before _ c.in-Is.is in
-    let start = c.bits64-start.ensures ∙ ap (unsigned 8) (to_z-of_z {w = w64} (record { sfits = c.type_inv.head.0.1 })) in
+    let start = c.bits64-start.ensures ∙ ap (unsigned 8) (to_z-of_z {w = w64} (record { sfits = c.struct_told-1.given.0.1 })) in
     (e.0, ap (λ (n : ℕ). set (set (set (set (words c.before.before.before.before.before.before.before) 0 n) 1 h.namespaces) 2 h.services) 3 h.next) start ∙ e.1)

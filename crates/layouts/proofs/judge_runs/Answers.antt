@@ -17,7 +17,6 @@ use Rattle.layouts.proofs.judge_runs.Tie
 
 -- The arguments by names, where the octets of all three slices are known.
 module _ (k : Lts.After-shared_slice_known3 Tie.the-claims Reads.Pre Reads.Post) where
-
   abbrev Front : List ℕ
   Front = k.args.front.now
 

@@ -1,5 +1,4 @@
 -- `plans::mark_of` meets its contract: a number's width is at most eight, and octets have their rule's number. Assumes nothing.
-use borrow.Author.Rules.{rules}
 use native.Mathlib.Omega.{arith}
 use Prim.Native.Nat.{◌≤◌}
 use mathlib.Core.Path.{sym, ap, ◌∙◌, subst}

@@ -53,7 +53,7 @@ held_at k = let a = k.args in lent_book_lem a.book.now a.used (each_octet a.book
 pub index-tally-requires : goal.index-tally-requires
 index-tally-requires c =
     let a = c.args in
-    let l = held_at c.before.before.before.before in (
+    let l = held_at c.before.before.before.before.before in (
       omega (arith, length-take-le a.used a.book.now (omega (arith, l.room, l.most)), l.most),
       length-replicate {A = ℕ} 64 0,
       length-replicate {A = ℕ} 64 0,
@@ -70,7 +70,7 @@ loop-n-init c =
       carried = record {
         octets_are = each_octet a.book.now c.slice_known-1.given;
         is = c.requires.3;
-        kept = c.index-tally.ensures b (lent_image a.book.now a.used b (held_at c.before.before.before.before.before));
+        kept = c.index-tally.ensures b (lent_image a.book.now a.used b (held_at c.before.before.before.before.before.before));
       };
       inside = c.requires.0;
       few = omega (arith, c.requires.2);
@@ -178,8 +178,8 @@ some_passed t many = go (n t) refl
 
 pub returns-then-passed-gt-MOST_ROWS : goal.returns-then-passed-gt-MOST_ROWS
 returns-then-passed-gt-MOST_ROWS c =
-    went_some (doc c.before) (first c.before) (lent c.before) (going c.before).run (some_passed c.before c.if-passed-gt-MOST_ROWS.true) _
-    (run_stops (doc c.before) (first c.before) (lent c.before) (going c.before).run _ (over_many (doc c.before) (short c.before) (octets c.before) (filled c.before) (carried c.before).is (pos c.before) (passed c.before) c.if-passed-gt-MOST_ROWS.true) (room c.before))
+    went_some (doc c.before.before) (first c.before.before) (lent c.before.before) (going c.before.before).run (some_passed c.before.before c.if-passed-gt-MOST_ROWS.true) _
+    (run_stops (doc c.before.before) (first c.before.before) (lent c.before.before) (going c.before.before).run _ (over_many (doc c.before.before) (short c.before.before) (octets c.before.before) (filled c.before.before) (carried c.before.before).is (pos c.before.before) (passed c.before.before) c.if-passed-gt-MOST_ROWS.true) (room c.before.before))
 
 -- How many rows may follow.
 abbrev Reached : Type 0
@@ -193,7 +193,7 @@ bears t = carried_bears (octets t) (filled t) (numbers t) (places t) (steps t) (
 
 pub go_on-moved-requires : goal.go_on-moved-requires
 go_on-moved-requires c =
-    ((going c.before.before.before.before.before.before.before).inside, short c.before.before.before.before.before.before.before, few c.before.before.before.before.before, omega (arith, shelf_long c.before.before.before.before.before.before.before, (held c.before.before.before.before.before.before.before).most), record { book = book c.before.before.before.before.before.before.before; bears = bears c.before.before.before.before.before.before.before })
+    ((going c.before.before.before.before.before.before.before.before).inside, short c.before.before.before.before.before.before.before.before, few c.before.before.before.before.before.before, omega (arith, shelf_long c.before.before.before.before.before.before.before.before, (held c.before.before.before.before.before.before.before.before).most), record { book = book c.before.before.before.before.before.before.before.before; bears = bears c.before.before.before.before.before.before.before.before })
 
 -- How the run went on.
 abbrev Answered : Type 0
@@ -249,30 +249,30 @@ module _ (k : Strode) where
 
 pub loop-n-preserved-in-Rows : goal.loop-n-preserved-in-Rows
 loop-n-preserved-in-Rows c =
-    let t = Of c.before.before.before in
-    let h = (over c).1.passage in
+    let t = Of c.before.before.before.before in
+    let h = (over c.before).1.passage in
     let x : Spot = spot_at (pos t) (passed t) (book t) in
-    let y : Spot = spot_at (next c) (passed t + length h.seen) (book t) in
+    let y : Spot = spot_at (next c.before) (passed t + length h.seen) (book t) in
     let all : rows_of (placed_all h.seen) ≡ length h.seen = omega (arith, path_rows (doc t) h.seen x y h.path) in
-    let over = over_rows (doc t) (short t) (octets t) (filled t) (carried t).is (carried t).octets_are h.seen (pos t) (passed t) (next c) (λ _. omega (arith, h.is_count, bounds c)) all h.path in
+    let over = over_rows (doc t) (short t) (octets t) (filled t) (carried t).is (carried t).octets_are h.seen (pos t) (passed t) (next c.before) (λ _. omega (arith, h.is_count, bounds c.before)) all h.path in
     let said = words_same (numbers t) (book t) h.seen (path_way (doc t) (short t) (doc-octets t) h.seen x y (going t).inside h.path).good all h.planned in
     let long : n t ≤ length (words t) = omega (arith, words-full t, room t) in
-    let put : words₁ c.before.before.before ≡ laid (n t) (words_of h.seen) (words t) =
-    ap (put_mid (n t) (length (words t) - n t) (words t)) (h.put ∙ ap (λ (ws : List ℕ). laid 0 ws (rest c.before.before.before)) said) ∙ laid_part (n t) (words_of h.seen) (words t) long in
-    let run = run_path (doc t) (first t) (lent t) (going t).run h.seen (lent_at (next c) (passed t + length h.seen) (octets t) (filled t)) over (omega (arith, h.is_count, bounds c)) in
+    let put : words₁ c.before.before.before.before ≡ laid (n t) (words_of h.seen) (words t) =
+    ap (put_mid (n t) (length (words t) - n t) (words t)) (h.put ∙ ap (λ (ws : List ℕ). laid 0 ws (rest c.before.before.before.before)) said) ∙ laid_part (n t) (words_of h.seen) (words t) long in
+    let run = run_path (doc t) (first t) (lent t) (going t).run h.seen (lent_at (next c.before) (passed t + length h.seen) (octets t) (filled t)) over (omega (arith, h.is_count, bounds c.before)) in
     record {
       run =
-          subst (λ (ws : List ℕ). OnRun (doc t) (first t) (lent t) ws (n t + count c) (lent_at (next c) (passed t + count c) (octets t) (filled t))) (sym put)
-          (subst (λ (k : ℕ). OnRun (doc t) (first t) (lent t) (laid (n t) (words_of h.seen) (words t)) (n t + k) (lent_at (next c) (passed t + k) (octets t) (filled t))) h.is_count run);
+          subst (λ (ws : List ℕ). OnRun (doc t) (first t) (lent t) ws (n t + count c.before) (lent_at (next c.before) (passed t + count c.before) (octets t) (filled t))) (sym put)
+          (subst (λ (k : ℕ). OnRun (doc t) (first t) (lent t) (laid (n t) (words_of h.seen) (words t)) (n t + k) (lent_at (next c.before) (passed t + k) (octets t) (filled t))) h.is_count run);
       carried = carried t;
-      inside = over-inside c;
-      few = (bounds c).2;
+      inside = over-inside c.before;
+      few = (bounds c.before).2;
       book-long = (going t).book-long;
-      words_long = words-long₁ c.before.before.before;
+      words_long = words-long₁ c.before.before.before.before;
     }
   where
-    over-inside : (c : Strode) → next c ≤ length (doc (Of c.before.before.before))
-    over-inside c = (over c).1.inside
+    over-inside : (c : Strode) → next c.before ≤ length (doc (Of c.before.before.before.before))
+    over-inside c.before = (over c.before).1.inside
 
 -- A turn that stops.
 refuses : (v : Answered) (m p : ℕ) → GoesOn-by v (moved.Refused m p) → turn_over (doc (Of v)) (here (Of v)) ≡ stops (refused m p)
@@ -282,24 +282,24 @@ refuses v m p e =
 
 pub returns-then-n-eq0 : goal.returns-then-n-eq0
 returns-then-n-eq0 c =
-    let t = Of c.before.before.before.before in
-    let e = went c.before.before.before.before _ c.in-Refused.is in
-    went_refused (doc t) (first t) (lent t) (run-still c.before.before.before.before e.kept) _ _ (refuses c.before.before.before.before _ _ e) c.if-n-eq0.true
+    let t = Of c.before.before.before.before.before in
+    let e = went c.before.before.before.before.before _ c.in-Refused.is in
+    went_refused (doc t) (first t) (lent t) (run-still c.before.before.before.before.before e.kept) _ _ (refuses c.before.before.before.before.before _ _ e) c.if-n-eq0.true
 
 pub returns-in-Refused : goal.returns-in-Refused
 returns-in-Refused c =
-    let t = Of c.before.before.before.before in
-    let e = went c.before.before.before.before _ c.in-Refused.is in
-    let run = run-still c.before.before.before.before e.kept in
-    went_some (doc t) (first t) (lent t) run (omega (arith, c.if-n-eq0.false)) _ (run_stops (doc t) (first t) (lent t) run _ (refuses c.before.before.before.before _ _ e) (room t))
+    let t = Of c.before.before.before.before.before in
+    let e = went c.before.before.before.before.before _ c.in-Refused.is in
+    let run = run-still c.before.before.before.before.before e.kept in
+    went_some (doc t) (first t) (lent t) run (omega (arith, c.if-n-eq0.false)) _ (run_stops (doc t) (first t) (lent t) run _ (refuses c.before.before.before.before.before _ _ e) (room t))
 
 pub returns-in-End : goal.returns-in-End
 returns-in-End c =
-    let t = Of c.before.before.before in
-    let e = went c.before.before.before _ c.in-End.is in
+    let t = Of c.before.before.before.before in
+    let e = went c.before.before.before.before _ c.in-End.is in
     let (u, is, _) = moved_end (turn_at (doc t) (spot_at (pos t) (passed t) (book t))) _ _ _ (sym e.is) in
-    went_end (doc t) (first t) (lent t) (run-still c.before.before.before e.kept) _ u _
-    (over_stops (doc t) (short t) (octets t) (filled t) (carried t).is (pos t) (passed t) (few c.before.before.before.before.before.before.before.before.before) _ is) (room t)
+    went_end (doc t) (first t) (lent t) (run-still c.before.before.before.before e.kept) _ u _
+    (over_stops (doc t) (short t) (octets t) (filled t) (carried t).is (pos t) (passed t) (few c.before.before.before.before.before.before.before.before.before.before) _ is) (room t)
 
 pub returns : goal.returns
 returns c =
@@ -369,36 +369,35 @@ module _ (w : Worded) where
   on : (book₁ numbers₁ places₁ steps₁ : List ℕ) (tally₁ : Tally) → book₁ ≡ holding (y w.before).book (octets in-round) → length book₁ ≡ length (octets in-round)
       → Carried book₁ (length (book_image (y w.before).book)) numbers₁ places₁ steps₁ tally₁ → After book₁ numbers₁ places₁ steps₁ tally₁ (gone w.before)
   on book₁ numbers₁ places₁ steps₁ tally₁ left long c =
-      let k = in.before
       let t = in-round in
-      let over = over_goes (doc t) (short t) (octets t) (filled t) (carried t).is (pos t) (passed t) (few k.before.before.before.before.before.before.before.before.before.before.before.before) (p k) (y k) (met k).2 in
-      subst (After book₁ numbers₁ places₁ steps₁ tally₁) (met k).3
+      let over = over_goes (doc t) (short t) (octets t) (filled t) (carried t).is (pos t) (passed t) (few w.before.before.before.before.before.before.before.before.before.before) (p w.before) (y w.before) (met w.before).2 in
+      subst (After book₁ numbers₁ places₁ steps₁ tally₁) (met w.before).3
       (record {
         run =
-            subst (λ (xs : List ℕ). OnRun (doc t) (first t) (lent t) words₂ (n t + 1) (lent_at (p k).next (y k).rows xs (length (book_image (y k).book)))) (sym left)
-            (subst (λ (z : ℕ). OnRun (doc t) (first t) (lent t) (set (words₁ k.before.before.before.before.before) (n t) z) (n t + 1) (left_by (octets t) (p k) (y k))) (sym word_is)
-            (run_item (doc t) (first t) (lent t) (run-still k.before.before.before.before.before (turned k).kept) (p k) (left_by (octets t) (p k) (y k)) over (room t)));
+            subst (λ (xs : List ℕ). OnRun (doc t) (first t) (lent t) words₂ (n t + 1) (lent_at (p w.before).next (y w.before).rows xs (length (book_image (y w.before).book)))) (sym left)
+            (subst (λ (z : ℕ). OnRun (doc t) (first t) (lent t) (set (words₁ w.before.before.before.before) (n t) z) (n t + 1) (left_by (octets t) (p w.before) (y w.before))) (sym word_is)
+            (run_item (doc t) (first t) (lent t) (run-still w.before.before.before.before (turned w.before).kept) (p w.before) (left_by (octets t) (p w.before) (y w.before)) over (room t)));
         carried = c;
-        inside = (moves k).1;
-        few = counted k;
+        inside = (moves w.before).1;
+        few = counted w.before;
         book-long = long ∙ (going t).book-long;
-        words_long = length-set (words₁ k.before.before.before.before.before) (n t) w.item_word.result ∙ words-long₁ k.before.before.before.before.before;
+        words_long = length-set (words₁ w.before.before.before.before) (n t) w.item_word.result ∙ words-long₁ w.before.before.before.before;
       })
 
 pub item_word-requires : goal.item_word-requires
-item_word-requires c = omega (arith, near c)
+item_word-requires c = omega (arith, near c.before)
 
 -- There is room for it.
 pub bounds-words-n : goal.bounds-words-n
-bounds-words-n c = let t = within c.before in omega (arith, words-long₁ c.before.before.before.before, t.before.before.before.before.before.before.before.before.before.before.pre.4, room t)
+bounds-words-n c = let t = within c.before.before in omega (arith, words-long₁ c.before.before.before.before.before, t.before.before.before.before.before.before.before.before.before.before.pre.4, room t)
 
 -- An item whose layout is not new.
 pub loop-n-preserved : goal.loop-n-preserved
 loop-n-preserved c =
-    let t = in-round c.before.before in
-    let (same, left, long) = carried_old (octets t) (filled t) (numbers t) (places t) (steps t) (tally t) (carried t) (doc t) (doc-octets t) (short t) (pos t) (passed t) (p c.before.before.before) (y c.before.before.before) (met c.before.before.before).2
-    (subst (λ (g : Gone). g.used ≤ filled t) (sym (met c.before.before.before).3) c.if-filled-gone.false) in
-    on c.before.before (octets t) (numbers t) (places t) (steps t) (tally t) (sym left) refl
+    let t = in-round c.before.before.before in
+    let (same, left, long) = carried_old (octets t) (filled t) (numbers t) (places t) (steps t) (tally t) (carried t) (doc t) (doc-octets t) (short t) (pos t) (passed t) (p c.before.before.before.before) (y c.before.before.before.before) (met c.before.before.before.before).2
+    (subst (λ (g : Gone). g.used ≤ filled t) (sym (met c.before.before.before.before).3) c.if-filled-gone.false) in
+    on c.before.before.before (octets t) (numbers t) (places t) (steps t) (tally t) (sym left) refl
     (subst (λ (m : ℕ). Carried (octets t) m (numbers t) (places t) (steps t) (tally t)) (sym long) (carried t))
 
 -- One whose layout is new.
@@ -412,42 +411,42 @@ module _ (g : Grew) where
 
   newly : let t = in-round g.before.before in Newly (doc t) (pos t) (p g.before.before.before).next (book t) (y g.before.before.before).book
   newly =
-      let t = in-round in.before.before
+      let t = in-round g.before.before in
       carried_newly (octets t) (filled t) (numbers t) (places t) (steps t) (tally t) (carried t) (doc t) (doc-octets t) (short t) (pos t) (passed t) (p g.before.before.before) (y g.before.before.before) (met g.before.before.before).2 more
 
 pub grow-requires : goal.grow-requires
 grow-requires c =
-    let t = in-round c.before.before.before in
-    let k = w.before c.before.before.before in (
+    let t = in-round c.before.before.before.before in
+    let k = w.before c.before.before.before.before in (
       short t,
       (carried t).is,
       subst (λ (x : Gone). Grows (doc t) (pos t) x.next (book t)) (met k).3
-          (carried_grows (octets t) (filled t) (numbers t) (places t) (steps t) (tally t) (carried t) (doc t) (doc-octets t) (short t) (pos t) (passed t) (p k) (y k) (met k).2 (more c.before)),
+          (carried_grows (octets t) (filled t) (numbers t) (places t) (steps t) (tally t) (carried t) (doc t) (doc-octets t) (short t) (pos t) (passed t) (p k) (y k) (met k).2 (more c.before.before)),
     )
 
 pub overflow_add-pos : goal.overflow_add-pos
-overflow_add-pos c = omega (arith, moves c.before.before.before.before.before.before.before, short (in-round c.before.before.before.before.before.before))
+overflow_add-pos c = omega (arith, moves c.before.before.before.before.before.before.before.before, short (in-round c.before.before.before.before.before.before.before))
 
 pub keep-tally-requires : goal.keep-tally-requires
 keep-tally-requires c =
-    let t = in-round c.before.before.before.before.before.before.before.before.before in
+    let t = in-round c.before.before.before.before.before.before.before.before.before.before in
     let k = (carried t).kept in
     let (known, t.before.before.before.before.before.before.before.before.before.before, end) = tally_bounds (tally t) (book t) k.tally in
-    let n = newly c.before.before.before.before.before.before.before in
+    let n = newly c.before.before.before.before.before.before.before.before in
     (short t, ap is_ok n.reads, k.planned.long, omega (arith, n.few), t.before.before.before.before.before.before.before.before.before.before, end, omega (arith, (held t).most))
 
 pub loop-n-preserved-then-filled-gone : goal.loop-n-preserved-then-filled-gone
 unfolding newly
 loop-n-preserved-then-filled-gone c =
-    let t = in-round c.before.before.before.before.before.before.before.before.before.before in
-    let n = newly c.before.before.before.before.before.before.before.before in
+    let t = in-round c.before.before.before.before.before.before.before.before.before.before.before in
+    let n = newly c.before.before.before.before.before.before.before.before.before in
     let exit = c.grow.new.book in
-    let left : exit ≡ holding (y c.before.before.before.before.before.before.before.before.before.before.before).book (octets t) =
-    item_left (doc t) (doc-octets t) (short t) (pos t) (passed t) (book t) (p c.before.before.before.before.before.before.before.before.before.before.before) (y c.before.before.before.before.before.before.before.before.before.before.before) (met c.before.before.before.before.before.before.before.before.before.before.before).2 (omega (arith, more c.before.before.before.before.before.before.before.before, (bears t).size)) (octets t) exit
-    (λ rows st e. c.grow.ensures rows st (e ∙ ap (λ (x : Gone). ok st x.next) (met c.before.before.before.before.before.before.before.before.before.before.before).3)) in
-    let h = c.keep-tally.ensures n.layout (p c.before.before.before.before.before.before.before.before.before.before.before).next n.reads in
-    on c.before.before.before.before.before.before.before.before.before.before exit _ _ _ _ left c.grow.auto.book
-    (carried_new (octets t) (filled t) (numbers t) (places t) (steps t) (tally t) (carried t) (doc t) (doc-octets t) (short t) (pos t) (passed t) (p c.before.before.before.before.before.before.before.before.before.before.before) (y c.before.before.before.before.before.before.before.before.before.before.before) (met c.before.before.before.before.before.before.before.before.before.before.before).2 (more c.before.before.before.before.before.before.before.before) exit left h).0
+    let left : exit ≡ holding (y c.before.before.before.before.before.before.before.before.before.before.before.before).book (octets t) =
+    item_left (doc t) (doc-octets t) (short t) (pos t) (passed t) (book t) (p c.before.before.before.before.before.before.before.before.before.before.before.before) (y c.before.before.before.before.before.before.before.before.before.before.before.before) (met c.before.before.before.before.before.before.before.before.before.before.before.before).2 (omega (arith, more c.before.before.before.before.before.before.before.before.before, (bears t).size)) (octets t) exit
+    (λ rows st e. c.grow.ensures rows st (e ∙ ap (λ (x : Gone). ok st x.next) (met c.before.before.before.before.before.before.before.before.before.before.before.before).3)) in
+    let h = c.keep-tally.ensures n.layout (p c.before.before.before.before.before.before.before.before.before.before.before.before).next n.reads in
+    on c.before.before.before.before.before.before.before.before.before.before.before exit _ _ _ _ left c.grow.auto.book
+    (carried_new (octets t) (filled t) (numbers t) (places t) (steps t) (tally t) (carried t) (doc t) (doc-octets t) (short t) (pos t) (passed t) (p c.before.before.before.before.before.before.before.before.before.before.before.before) (y c.before.before.before.before.before.before.before.before.before.before.before.before) (met c.before.before.before.before.before.before.before.before.before.before.before.before).2 (more c.before.before.before.before.before.before.before.before.before) exit left h).0
 
 -- The part of the words lies within them.
 lies : (r : Reached) → n r.before.before ≤ length (words r.before.before)
@@ -459,73 +458,73 @@ module _ (v : Answered) where
   book_back = (going (Of v)).book-long
 
 pub slice_bounds-index-end : goal.slice_bounds-index-end
-slice_bounds-index-end c = let l = held_at c.before in omega (arith, l.room, l.most)
+slice_bounds-index-end c = let l = held_at c.before.before in omega (arith, l.room, l.most)
 
 pub slice_bounds-index-end-2 : goal.slice_bounds-index-end-2
-slice_bounds-index-end-2 c = let l = held_at c.before in let a = c.args in sym (length-take-le a.used a.book.now (omega (arith, l.room, l.most)))
+slice_bounds-index-end-2 c = let l = held_at c.before.before in let a = c.args in sym (length-take-le a.used a.book.now (omega (arith, l.room, l.most)))
 
 pub shape_of-book-then-passed-gt-MOST_ROWS : goal.shape_of-book-then-passed-gt-MOST_ROWS
-shape_of-book-then-passed-gt-MOST_ROWS c = (going c.before).book-long
+shape_of-book-then-passed-gt-MOST_ROWS c = (going c.before.before).book-long
 
 pub shape_of-words-then-passed-gt-MOST_ROWS : goal.shape_of-words-then-passed-gt-MOST_ROWS
-shape_of-words-then-passed-gt-MOST_ROWS c = (going c.before).words_long
+shape_of-words-then-passed-gt-MOST_ROWS c = (going c.before.before).words_long
 
 pub reach-most-requires : goal.reach-most-requires
-reach-most-requires c = (omega (arith, room c.before), omega (arith, c.if-passed-gt-MOST_ROWS.false))
+reach-most-requires c = (omega (arith, room c.before.before), omega (arith, c.if-passed-gt-MOST_ROWS.false))
 
 pub slice_bounds-go_on-end : goal.slice_bounds-go_on-end
-slice_bounds-go_on-end c = let h = held c.before.before in omega (arith, h.room, h.most)
+slice_bounds-go_on-end c = let h = held c.before.before.before in omega (arith, h.room, h.most)
 
 pub slice_bounds-go_on-end-in-loop-n : goal.slice_bounds-go_on-end-in-loop-n
-slice_bounds-go_on-end-in-loop-n c = sym (shelf_long c.before.before)
+slice_bounds-go_on-end-in-loop-n c = sym (shelf_long c.before.before.before)
 
 pub offset_bounds-words-n : goal.offset_bounds-words-n
-offset_bounds-words-n c = omega (arith, room c.before.before.before.before.before.before)
+offset_bounds-words-n c = omega (arith, room c.before.before.before.before.before.before.before)
 
 pub slice_bounds-go_on-count : goal.slice_bounds-go_on-count
-slice_bounds-go_on-count c = omega (arith, lies c.before.before.before.before)
+slice_bounds-go_on-count c = omega (arith, lies c.before.before.before.before.before)
 
 pub slice_bounds-go_on-start : goal.slice_bounds-go_on-start
-slice_bounds-go_on-start c = omega (arith, lies c.before.before.before.before)
+slice_bounds-go_on-start c = omega (arith, lies c.before.before.before.before.before)
 
 pub overflow_add-passed : goal.overflow_add-passed
-overflow_add-passed c = omega (arith, bounds c)
+overflow_add-passed c = omega (arith, bounds c.before)
 
 pub overflow_add-n : goal.overflow_add-n
-overflow_add-n c = omega (arith, bounds c)
+overflow_add-n c = omega (arith, bounds c.before)
 
 pub loop-n-smaller-in-Rows : goal.loop-n-smaller-in-Rows
-loop-n-smaller-in-Rows c = omega (arith, bounds c)
+loop-n-smaller-in-Rows c = omega (arith, bounds c.before)
 
 pub shape_of-book-then-n-eq0 : goal.shape_of-book-then-n-eq0
-shape_of-book-then-n-eq0 c = book_back c.before.before.before.before
+shape_of-book-then-n-eq0 c = book_back c.before.before.before.before.before
 
 pub shape_of-words-then-n-eq0 : goal.shape_of-words-then-n-eq0
-shape_of-words-then-n-eq0 c = words-long₁ c.before.before.before.before
+shape_of-words-then-n-eq0 c = words-long₁ c.before.before.before.before.before
 
 pub shape_of-book-in-Refused : goal.shape_of-book-in-Refused
-shape_of-book-in-Refused c = book_back c.before.before.before.before
+shape_of-book-in-Refused c = book_back c.before.before.before.before.before
 
 pub shape_of-words-in-Refused : goal.shape_of-words-in-Refused
-shape_of-words-in-Refused c = words-long₁ c.before.before.before.before
+shape_of-words-in-Refused c = words-long₁ c.before.before.before.before.before
 
 pub shape_of-book-in-End : goal.shape_of-book-in-End
-shape_of-book-in-End c = book_back c.before.before.before
+shape_of-book-in-End c = book_back c.before.before.before.before
 
 pub shape_of-words-in-End : goal.shape_of-words-in-End
-shape_of-words-in-End c = words-long₁ c.before.before.before
+shape_of-words-in-End c = words-long₁ c.before.before.before.before
 
 pub offset_bounds-words-n-in-Item : goal.offset_bounds-words-n-in-Item
-offset_bounds-words-n-in-Item c = omega (arith, room (in-round c))
+offset_bounds-words-n-in-Item c = omega (arith, room (in-round c.before))
 
 pub overflow_add-n-in-Item : goal.overflow_add-n-in-Item
-overflow_add-n-in-Item c = omega (arith, room (in-round c))
+overflow_add-n-in-Item c = omega (arith, room (in-round c.before))
 
 pub loop-n-smaller-then-filled-gone : goal.loop-n-smaller-then-filled-gone
-loop-n-smaller-then-filled-gone c = omega (arith, room (in-round c.before.before.before.before.before.before.before.before.before.before))
+loop-n-smaller-then-filled-gone c = omega (arith, room (in-round c.before.before.before.before.before.before.before.before.before.before.before))
 
 pub loop-n-smaller : goal.loop-n-smaller
-loop-n-smaller c = omega (arith, room (in-round c.before.before))
+loop-n-smaller c = omega (arith, room (in-round c.before.before.before))
 
 pub shape_of-book : goal.shape_of-book
 shape_of-book c = c.loop-n.invariant.book-long

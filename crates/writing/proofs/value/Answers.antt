@@ -8,7 +8,7 @@ use mathlib.Core.List.{List}
 use Rattle.kinds.specs.declared.Basic.{Basic}
 use Rattle.kinds.specs.declared.Form.{Form}
 use Rattle.kinds.specs.declared.Form.TheVariants as form
-use Rattle.kinds.specs.declared.Value as goal
+use Rattle.kinds.specs.declared.Value as declared
 use Rattle.kinds.specs.Kinds.{form_by}
 use Rattle.kinds.specs.Values.{basic_of_value, bits_of_value}
 use Rattle.kinds.specs.Forms.{bits, held}
@@ -26,7 +26,7 @@ of_number (form.Fixed w) n xs e = refl
 of_number form.Truth n xs e = refl
 of_number (form.Led rule) n xs e = let z : ◌≡◌ {A = ℕ} 0 1 = cc in absurd (omega arith)
 
-module _ (v : goal.Value) (xs : List ℕ) (b : Basic) (is : b ≡ basic_of_value v) where
+module _ (v : declared.Value) (xs : List ℕ) (b : Basic) (is : b ≡ basic_of_value v) where
   typed : {n : ℕ} → n ≡ bits_of_value v → value b (in_form (form_by b) n xs) ≡ value_call v xs
   typed m = rw (is, m) refl
 
