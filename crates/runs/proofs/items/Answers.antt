@@ -1,6 +1,5 @@
 -- `runs::items` meets its contract. The invariant: the run's way over the lent octets and its words, with the book in them kept.
 -- The measure is the items to come. Assumes nothing.
-use borrow.Author.Rules.{rules}
 use native.Mathlib.Omega.{arith}
 use Prim.Native.Nat.{ℕ, zero, suc, ◌+◌, ◌-◌, ◌≤◌, ◌<◌}
 use mathlib.Core.Path.{◌≡◌, refl, sym, ap, ◌∙◌, subst}
@@ -83,7 +82,6 @@ abbrev Round : Type 0
 Round = Lts.In-loop Tie.the-claims Reads.Pre Reads.Post goal.the-invariant-loop-n goal.the-decreases-loop-n
 
 module _ (t : Round) where
-
   abbrev doc : List ℕ
   doc = t.args.doc.now
 
@@ -234,7 +232,6 @@ abbrev Strode : Type 0
 Strode = Lts.Past-After-known_told Tie.the-claims Reads.Pre Reads.Post goal.the-invariant-loop-n goal.the-decreases-loop-n
 
 module _ (k : Strode) where
-
   abbrev next : ℕ
   next = k.in-Rows.next
 
@@ -314,7 +311,6 @@ abbrev Item : Type 0
 Item = Lts.Past-After-known_told4 Tie.the-claims Reads.Pre Reads.Post goal.the-invariant-loop-n goal.the-decreases-loop-n
 
 module _ (k : Item) where
-
   abbrev within : Round
   within = Of k.before.before.before
 
@@ -351,7 +347,6 @@ word-met (element.layout l) next = refl
 word-met (element.row r) next = refl
 
 module _ (w : Worded) where
-
   abbrev in-round : Round
   in-round = within w.before
 
@@ -405,7 +400,6 @@ abbrev Grew : Type 0
 Grew = Lts.Then3 Tie.the-claims Reads.Pre Reads.Post goal.the-invariant-loop-n goal.the-decreases-loop-n
 
 module _ (g : Grew) where
-
   more : filled (in-round g.before.before) < length (book_image (y g.before.before.before).book)
   more = subst (λ (x : Gone). filled (in-round g.before.before) < x.used) (sym (met g.before.before.before).3) g.if-filled-gone.true
 

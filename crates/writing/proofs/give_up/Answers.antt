@@ -1,5 +1,4 @@
 -- `writing::give_up` meets its contract: 17 and 20 first, then the zeros laid. Assumes nothing.
-use borrow.Author.Rules.{rules}
 use borrow.Author.Tests.{le-leb}
 use native.Mathlib.Omega.{arith}
 use Prim.Native.Nat.{ℕ, ◌+◌, ◌-◌, ◌≤◌}
