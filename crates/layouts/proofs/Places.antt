@@ -4,7 +4,7 @@ use mathlib.Core.Path.{◌≡◌, refl, ◌∙◌}
 use mathlib.Core.List.{List}
 use lib.ListN.{length}
 use Rattle.octets.specs.Limits.{most_attributes}
-use Rattle.octets.specs.Reading.{Read, ok, no, ◌then◌, ends, be, number, count, run}
+use Rattle.octets.specs.Reading.{Read, ok, no, ◌then◌, ends, be, count, run}
 use Rattle.octets.proofs.Ends.{on, stop, made, number_ok, number_no}
 use Rattle.texts.specs.Texts.{text}
 use Rattle.kinds.specs.Kinds.{kind_at}

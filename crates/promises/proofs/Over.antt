@@ -42,7 +42,14 @@ pub record Came (s : List ℕ) (x : Lent) (ps : List Placed) (at : ℕ) (e : Sto
   pub stop : (through_over s x).stop ≡ some e
 
 pub came_steps : {s : List ℕ} {x : Lent} {ps : List Placed} {at : ℕ} {e : Stop} → Came s x ps at e → BySteps s x (ps ++ closing at (some e)) (ending_of e)
-came_steps {e = e} c = record { stop = e; comes = c.stop; gives = rw (c.passes, c.place) refl; ends = refl }
+came_steps {s = s} {x = x} {ps = ps} {e = e} c =
+    let k = (through_over s x).spot.at in
+    record {
+      stop = e;
+      comes = c.stop;
+      gives = ap (λ (qs : List Placed). qs ++ closing k (some e)) c.passes ∙ ap (λ (p : ℕ). ps ++ closing p (some e)) c.place;
+      ends = refl;
+    }
 
 module _ (s : List ℕ) (o : Each Octet s) (short : length s ≤ longest) where
   -- Lent octets that carry a good book hold it.

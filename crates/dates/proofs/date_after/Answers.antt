@@ -6,10 +6,8 @@ use mathlib.Core.Path.{◌≡◌, refl, sym, ap, ◌∙◌, subst}
 use Prim.Native.Nat.{ℕ, ◌+◌, ◌-◌, ◌≤◌, ◌<◌}
 use Rattle.dates.specs.Calendar.{year_days, span_of, day_of_year, year_of, date_after}
 use Rattle.dates.proofs.Spans.{here, on, last}
+use Rattle.dates.proofs.date_after.Invariants.{size}
 use Rattle.dates.proofs.date_after.Goals as goal
-
-abbrev size : ℕ → ℕ
-size k = year_days (1970 + k)
 
 pub returns-then-left-here : goal.returns-then-left-here
 unfolding date_after

@@ -8,6 +8,9 @@ use Rattle.dates.specs.Calendar.{year_days, span_of, day_of_year, year_of, date_
 use Rattle.dates.proofs.Spans.{here, on, last}
 use Rattle.dates.proofs.date_after.Given as goal
 
+abbrev pub size : ℕ → ℕ
+size k = year_days (1970 + k)
+
 abbrev pub invariant-loop-years : goal.invariant-loop-years
 invariant-loop-years l = (l.years ≤ 8029) × (span_of size (8029 - l.years) l.years l.left ≡ year_of l.days)
 

@@ -29,5 +29,5 @@ pub returns-in_default : goal.returns-in_default
 unfolding month_days
 returns-in_default c =
     let m = c.args.m in
-    let r = c.in_default.rest in
+    let r = c.in_default.in_default-own.rest in
     rw (ne_eqb m 1 r.0.0.0.0.1, ne_eqb m 3 r.0.0.0.1, ne_eqb m 5 r.0.0.1, ne_eqb m 8 r.0.1, ne_eqb m 10 r.1) refl

@@ -35,7 +35,7 @@ module _ (b : Lts.After-bits64 Tie.the-claims Reads.Pre Reads.Post) where
   time = b.args.time
 
   abbrev fits : SFits w64 time
-  fits = b.before.before.fits.time
+  fits = b.ranges.time
 
   is : unsigned 8 time ≡ b.bits64-bits.result
   is = sym (b.bits64-bits.ensures ∙ ap (unsigned 8) (to_z-of_z fits))

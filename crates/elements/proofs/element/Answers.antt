@@ -82,14 +82,14 @@ over l =
 pub element_over-one-requires : goal.element_over-one-requires
 element_over-one-requires c =
     let p = c.requires in
-    (omega (arith, c.if-doc-at.false), p.0, p.1, omega (arith, used_length c.before.before.before.before, (held c.before.before.before.before).most), (held c.before.before.before.before).most, stood (take (used c.before.before.before.before) (lent c.before.before.before.before)) (over c.before).number (book c.before.before.before.before) c.look_in.result (over c.before).looks)
+    (omega (arith, c.if-doc-at.false), p.0, p.1, omega (arith, used_length c.before.before.before.before, (held c.before.before.before.before).most), (held c.before.before.before.before).most, stood (take (used c.before.before.before.before) (lent c.before.before.before.before)) (over c.before).number (book c.before.before.before.before) c.look_in-looked.result (over c.before).looks)
 
 -- The element that was read.
 abbrev Answered : Type 0
 Answered = Lts.After-element_over Tie.the-claims Reads.Pre Reads.Post
 
 abbrev Of : Answered → Known
-Of v = v.before.before.before.before.before.before
+Of v = v.before.before.before.before
 
 is_read : (v : Answered) → v.element_over-one.result ≡ tells (element_at (doc (Of v)) (at (Of v)) (rows (Of v)) (book (Of v)))
 is_read v = v.element_over-one.ensures (book (Of v)) (over v.before)
@@ -108,7 +108,7 @@ pub grow-requires : goal.grow-requires
 grow-requires c =
     let k = Of c.before.before.before.before.before in
     let x = reads c.before.before.before.before.before _ c.in-Done.is in
-    let p = k.before.before.pre in (
+    let p = c.requires in (
       p.0,
       p.2,
       record { rows = rows k; stepped = x.stepped; reads = x.reads ∙ ap (λ (y : Step). ok x.stepped y.next) x.is; more = omega (arith, (held k).size, told_used x, c.if-used-step.true) },
@@ -130,7 +130,7 @@ returns-else-used-step c =
     let x = reads c.before.before.before.before _ is in
     let same = element_old (doc k) (octets k) (at k) (rows k) (book k) x.stepped x.next x.reads (used k) _ (held k).size (told_used x) c.if-used-step.false in (
       sym is ∙ is_read c.before.before.before.before,
-      sym (holding_same (lent k) (used k) (lent-octets k) k.before.before.pre.2) ∙ (ap (λ (b : Book). holding b (lent k)) (sym same) ∙ sym (ap (octets_left (lent k)) x.reads)),
+      sym (holding_same (lent k) (used k) (lent-octets k) c.requires.2) ∙ (ap (λ (b : Book). holding b (lent k)) (sym same) ∙ sym (ap (octets_left (lent k)) x.reads)),
     )
 
 pub slice_bounds-look_in-end : goal.slice_bounds-look_in-end

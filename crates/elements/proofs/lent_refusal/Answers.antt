@@ -33,14 +33,14 @@ is v q = good_book v.args.book.now v.args.used (each_octet v.args.book.now v.sha
 pub returns-then-not-is_book : goal.returns-then-not-is_book
 returns-then-not-is_book c =
     let a = c.args in
-    sym (ap refusal_of (lent_unbooked a.doc.now a.rows a.book.now a.used (omega arith) (checked c.before.before false (not-true _ c.if-not-is_book.true))))
+    sym (ap refusal_of (lent_unbooked a.doc.now a.rows a.book.now a.used (omega arith) (checked c.before.before false c.if-not-is_book.true)))
 
 pub returns-then-rows-gt-MOST_ROWS : goal.returns-then-rows-gt-MOST_ROWS
 returns-then-rows-gt-MOST_ROWS c =
     let a = c.args in
-    sym (ap refusal_of (lent_many a.doc.now a.rows a.book.now a.used (omega arith) (is c.before.before.before (not-false _ c.if-not-is_book.false)) c.if-rows-gt-MOST_ROWS.true))
+    sym (ap refusal_of (lent_many a.doc.now a.rows a.book.now a.used (omega arith) (is c.before.before.before c.if-not-is_book.false) c.if-rows-gt-MOST_ROWS.true))
 
 pub returns : goal.returns
 returns c =
     let a = c.args in
-    sym (ap refusal_of (lent_is a.doc.now a.rows a.book.now a.used (omega arith) (is c.before.before.before (not-false _ c.if-not-is_book.false)) c.if-rows-gt-MOST_ROWS.false))
+    sym (ap refusal_of (lent_is a.doc.now a.rows a.book.now a.used (omega arith) (is c.before.before.before c.if-not-is_book.false) c.if-rows-gt-MOST_ROWS.false))

@@ -1,5 +1,4 @@
 -- `headers::close_end` meets its contract: the four octets FF behind the document id. Assumes nothing.
-use borrow.Author.Rules.{rules}
 use native.Mathlib.Omega.{arith}
 use mathlib.Core.Path.{refl, sym, ap, ◌∙◌}
 use lib.ListN.{length}

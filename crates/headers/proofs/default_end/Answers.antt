@@ -1,5 +1,4 @@
 -- `headers::default_end` meets its contract: a string behind eight octets. Assumes nothing.
-use borrow.Author.Rules.{rules}
 use native.Mathlib.Omega.{arith}
 use Prim.Native.Nat.{◌+◌}
 use mathlib.Core.Path.{refl}

@@ -1,5 +1,4 @@
 -- `headers::exactly_at` meets its contract: each return by a law of `exactly`. Assumes nothing.
-use borrow.Author.Rules.{rules}
 use native.Mathlib.Omega.{arith}
 use mathlib.Core.Path.{refl, sym, ◌∙◌}
 use Rattle.octets.proofs.Ends.{exactly_ok, exactly_no, exactly_other}

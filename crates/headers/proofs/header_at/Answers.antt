@@ -1,5 +1,4 @@
 -- `headers::header_at` meets its contract: 2 for a document that is too long, else the places of its header. Assumes nothing.
-use borrow.Author.Rules.{rules}
 use native.Mathlib.Omega.{arith}
 use mathlib.Core.Path.{sym, subst}
 use Rattle.octets.specs.Reading.{Read}

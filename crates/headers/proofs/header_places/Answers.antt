@@ -1,6 +1,5 @@
 -- `headers::header_places` meets its contract: each refusal is that of the first part refused, and the places are where the parts were read.
 -- Assumes nothing.
-use borrow.Author.Rules.{rules}
 use Prim.Native.Nat.{ℕ}
 use mathlib.Core.Path.{◌≡◌}
 use mathlib.Core.List.{List}

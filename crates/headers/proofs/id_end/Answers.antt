@@ -1,9 +1,7 @@
 -- `headers::id_end` meets its contract: sixteen octets behind a length of sixteen. Assumes nothing.
-use borrow.Author.Rules.{rules}
 use native.Mathlib.Omega.{arith}
 use Prim.Native.Nat.{ℕ}
 use mathlib.Core.Path.{◌≡◌, refl, sym, ap, ◌∙◌}
-use lib.ListN.{length}
 use Rattle.octets.specs.Reading.{ok, ends, exactly}
 use Rattle.octets.specs.Answers.{says}
 use Rattle.headers.proofs.Parts.{id_unsized, id_cut, id_whole}

@@ -1,5 +1,4 @@
 -- `headers::item_end` meets its contract: one string, and a second for a namespace. Assumes nothing.
-use borrow.Author.Rules.{rules}
 use native.Mathlib.Omega.{arith}
 use Prim.Native.Nat.{ℕ}
 use mathlib.Core.Path.{◌≡◌, sym, ap, ◌∙◌}

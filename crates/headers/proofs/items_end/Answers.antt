@@ -1,10 +1,8 @@
 -- `headers::items_end` meets its contract. The invariant: reading the run from its start is reading what is left of it from here.
 -- The measure is what is left. Assumes nothing.
-use borrow.Author.Rules.{rules}
 use native.Mathlib.Omega.{arith}
-use Prim.Native.Nat.{ℕ, ◌+◌, ◌-◌, ◌≤◌}
-use mathlib.Core.Path.{◌≡◌, sym, ap, ◌∙◌}
-use lib.ListN.{length}
+use Prim.Native.Nat.{ℕ, ◌+◌, ◌-◌}
+use mathlib.Core.Path.{sym, ap, ◌∙◌}
 use Rattle.octets.specs.Reading.{ends, run}
 use Rattle.octets.specs.Answers.{says}
 use Rattle.octets.proofs.Ends.{run_on, run_stop, run_none, left_suc, none_left, sub_none}

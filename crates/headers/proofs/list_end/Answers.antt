@@ -1,5 +1,4 @@
 -- `headers::list_end` meets its contract: items behind a count that is at most 16. Assumes nothing.
-use borrow.Author.Rules.{rules}
 use native.Mathlib.Omega.{arith}
 use mathlib.Core.Path.{◌≡◌, refl, sym, ap, ◌∙◌}
 use lib.ListN.{length}

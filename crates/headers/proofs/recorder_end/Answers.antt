@@ -1,5 +1,4 @@
 -- `headers::recorder_end` meets its contract: a string behind the version. Assumes nothing.
-use borrow.Author.Rules.{rules}
 use native.Mathlib.Omega.{arith}
 use mathlib.Core.Path.{refl, sym, ap, ◌∙◌}
 use lib.ListN.{length}

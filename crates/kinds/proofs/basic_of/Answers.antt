@@ -1,5 +1,4 @@
 -- `kinds::basic_of` meets its contract: a code of the table that is none of the first twelve is the last. Assumes nothing.
-use borrow.Author.Rules.{rules}
 use Prim.Native.Nat.{ℕ, ◌+◌, ◌≤◌}
 use mathlib.Core.Path.{◌≡◌}
 use native.Mathlib.Omega.{arith}
@@ -15,7 +14,7 @@ last x h k = omega arith
 pub returns-in_default : goal.returns-in_default
 returns-in_default c =
     let x = c.args.code in
-    let r = c.in_default.rest in
+    let r = c.in_default.in_default-own.rest in
     let h21 = c.requires.0 in
     let h22 = past 0x21 x h21 r.0.0.0.0.0.0.0.0.0.0.0.1 in
     let h23 = past 0x22 x h22 r.0.0.0.0.0.0.0.0.0.0.1 in

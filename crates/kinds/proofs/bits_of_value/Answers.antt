@@ -1,5 +1,4 @@
 -- `kinds::bits_of_value` meets its contract, by cases on the value's type. Assumes nothing.
-use borrow.Author.Rules.{rules}
 use mathlib.Core.Path.{sym, ap, ◌∙◌}
 use mir.Syntax.{w8, w16, w32, w64}
 use mir.Facts.{to_z-of_z}

@@ -1,5 +1,4 @@
 -- `kinds::form_by` meets its contract, type by type. Assumes nothing.
-use borrow.Author.Rules.{rules}
 use mathlib.Core.Path.{sym, ap}
 use Rattle.kinds.specs.Kinds.{form_by}
 use Rattle.kinds.proofs.form_by.Goals as goal

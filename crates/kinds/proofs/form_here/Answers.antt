@@ -1,5 +1,4 @@
 -- `kinds::form_here` meets its contract: the form of the type that stands there. Assumes nothing.
-use borrow.Author.Rules.{rules}
 use mathlib.Core.Path.{sym, ap, ◌∙◌, subst}
 use Rattle.kinds.specs.Kinds.{form_of}
 use Rattle.kinds.specs.Forms.{Slim}

@@ -1,5 +1,4 @@
 -- `kinds::kind_of` meets its contract: each return by a law of `kind_of`. Assumes nothing.
-use borrow.Author.Rules.{rules}
 use native.Mathlib.Omega.{arith}
 use mathlib.Core.Path.{sym}
 use Prim.Native.Nat.{◌%◌}

@@ -2,7 +2,6 @@
 use Prim.Native.Nat.{◌-◌}
 use mathlib.Core.Path.{refl}
 use native.Mathlib.Omega.{arith}
-use borrow.Author.Rules.{rules}
 use mir.Syntax.{w16}
 use Rattle.kinds.proofs.Signed.{fits, low, high}
 use Rattle.kinds.proofs.signed16.Goals as goal

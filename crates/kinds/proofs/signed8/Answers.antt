@@ -2,7 +2,6 @@
 use Prim.Native.Nat.{◌-◌}
 use mathlib.Core.Path.{refl}
 use native.Mathlib.Omega.{arith}
-use borrow.Author.Rules.{rules}
 use mir.Syntax.{w8}
 use Rattle.kinds.proofs.Signed.{fits, low, high}
 use Rattle.kinds.proofs.signed8.Goals as goal

@@ -2,12 +2,11 @@
 -- The measure is how many layouts more a book may have. Assumes nothing.
 use borrow.Author.Rules.{rules}
 use native.Mathlib.Omega.{arith}
-use Prim.Native.Nat.{ℕ, ◌-◌, ◌≤◌}
+use Prim.Native.Nat.{ℕ}
 use mathlib.Core.Path.{◌≡◌, sym, ◌∙◌, ap}
 use mathlib.Core.List.{List}
-use lib.ListN.{length, length-set, length-replicate}
+use lib.ListN.{length-set, length-replicate}
 use lib.Seq.{length-take-le}
-use Rattle.octets.specs.Limits.{most_layouts}
 use Rattle.octets.specs.Reading.{ok, ends}
 use Rattle.octets.specs.Answers.{says}
 use Rattle.octets.proofs.Ends.{ended}
@@ -46,15 +45,15 @@ returns-then-k-ge-MOST_LAYOUTS c = sym (met_full (S c.before.before) (Seen c.bef
 
 pub returns-in_default : goal.returns-in_default
 returns-in_default c =
-    let (w, q) = c.enum_told-1.given in
+    let q = c.in_default.is in
     sym (met_refused (S c.before.before.before.before) (Seen c.before.before.before.before) (K c.before.before.before.before) (Pos c.before.before.before.before) (Before c.before.before.before.before) c.loop-pos-test.true c.if-k-ge-MOST_LAYOUTS.false _ _ (sym c.layout_end.ensures.0 ∙ ap says q))
 
 -- The layout at the place ends at the next.
 abbrev One : Type 0
-One = Lts.After-next Tie.the-claims Reads.Pre Reads.Post goal.the-invariant-loop-pos goal.the-decreases-loop-pos
+One = Lts.Past-After-known_told Tie.the-claims Reads.Pre Reads.Post goal.the-invariant-loop-pos goal.the-decreases-loop-pos
 
-next-at : (o : One) → ends (layout_at (S o.before.before.before.before) (Pos o.before.before.before.before)) ≡ ok o.next-1.given.0.0 o.next-1.given.0.0
-next-at o = sym o.layout_end.ensures.0 ∙ ap says o.next-1.given.1
+next-at : (o : One) → ends (layout_at (S o.before.before.before) (Pos o.before.before.before)) ≡ ok o.in-End.next o.in-End.next
+next-at o = sym o.layout_end.ensures.0 ∙ ap says o.in-End.is
 
 pub u32_at-number-requires : goal.u32_at-number-requires
 u32_at-number-requires c =

@@ -1,19 +1,10 @@
 -- `layouts::are_layouts` meets its contract. The invariant: the numbers kept are those of the layouts met, and reading on behind these is reading all.
 -- The measure is how many layouts more a book may have. Assumes nothing.
-use borrow.Author.Rules.{rules}
-use native.Mathlib.Omega.{arith}
-use Prim.Native.Nat.{ℕ, ◌-◌, ◌≤◌}
-use mathlib.Core.Path.{◌≡◌, sym, ◌∙◌, ap}
-use mathlib.Core.List.{List}
-use lib.ListN.{length, length-set, length-replicate}
-use lib.Seq.{length-take-le}
+use Prim.Native.Nat.{◌-◌, ◌≤◌}
+use mathlib.Core.Path.{◌≡◌}
+use lib.ListN.{length}
 use Rattle.octets.specs.Limits.{most_layouts}
-use Rattle.octets.specs.Reading.{ok, ends}
-use Rattle.octets.specs.Answers.{says}
-use Rattle.octets.proofs.Ends.{ended}
-use Rattle.layouts.specs.Layout.{layout_at}
-use Rattle.layouts.proofs.Parts.{layout_number}
-use Rattle.layouts.proofs.Checks.{Met, met_start, met_end, met_full, met_refused, met_again, met_on}
+use Rattle.layouts.proofs.Checks.{Met}
 use Rattle.layouts.proofs.are_layouts.Given as goal
 
 abbrev pub invariant-loop-pos : goal.invariant-loop-pos

@@ -1,5 +1,4 @@
 -- `layouts::attribute_count` meets its contract: the count that was read is that of the attributes read. Assumes nothing.
-use borrow.Author.Rules.{rules}
 use mathlib.Core.Path.{◌∙◌}
 use Rattle.layouts.proofs.Parts.{layout_fields}
 use Rattle.layouts.proofs.attribute_count.Goals as goal

@@ -1,5 +1,4 @@
 -- `layouts::attribute_end` meets its contract: each arm by what `text_end` answered. Assumes nothing.
-use borrow.Author.Rules.{rules}
 use native.Mathlib.Omega.{arith}
 use mathlib.Core.Path.{refl, sym, ◌∙◌, ap}
 use lib.ListN.{length}

@@ -1,5 +1,4 @@
 -- `layouts::attribute_kind` meets its contract, by the type of the attribute at attribute n's place. Assumes nothing.
-use borrow.Author.Rules.{rules}
 use mathlib.Core.Path.{◌≡◌, ap, ◌∙◌}
 use Rattle.octets.specs.Reading.{is_ok}
 use Rattle.layouts.specs.Layout.{Attribute}

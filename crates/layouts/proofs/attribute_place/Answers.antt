@@ -1,11 +1,11 @@
 -- `layouts::attribute_place` meets its contract. The invariant: the run of the first i attributes ends here. Assumes nothing.
 use borrow.Author.Rules.{rules}
 use native.Mathlib.Omega.{arith}
-use Prim.Native.Nat.{ℕ, ◌+◌, ◌-◌, ◌≤◌, ◌<◌}
+use Prim.Native.Nat.{ℕ, ◌+◌, ◌<◌}
 use mathlib.Core.Path.{◌≡◌, ap, subst}
 use mathlib.Core.List.{List}
 use lib.ListN.{length}
-use Rattle.octets.specs.Reading.{ok, ends, is_ok, run}
+use Rattle.octets.specs.Reading.{ok, is_ok}
 use Rattle.octets.proofs.Inverse.{ok_value}
 use Rattle.octets.proofs.Ends.{run_none}
 use Rattle.layouts.specs.Layout.{Layout, attribute_at, layout_at}

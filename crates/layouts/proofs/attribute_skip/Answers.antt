@@ -1,5 +1,4 @@
 -- `layouts::attribute_skip` meets its contract: an attribute's type is the four octets behind its name. Assumes nothing.
-use native.Mathlib.Omega.{arith}
 use Prim.Native.Nat.{ℕ}
 use mathlib.Core.Path.{ap, ◌∙◌}
 use Rattle.octets.specs.Reading.{ok, ends}

@@ -2,9 +2,8 @@
 -- The measure is what is left. Assumes nothing.
 use borrow.Author.Rules.{rules}
 use native.Mathlib.Omega.{arith}
-use Prim.Native.Nat.{ℕ, ◌+◌, ◌-◌, ◌≤◌}
-use mathlib.Core.Path.{◌≡◌, sym, ◌∙◌, ap}
-use lib.ListN.{length}
+use Prim.Native.Nat.{ℕ, ◌+◌, ◌-◌}
+use mathlib.Core.Path.{sym, ◌∙◌, ap}
 use Rattle.octets.specs.Reading.{run, ends}
 use Rattle.layouts.specs.Layout.{attribute_at}
 use Rattle.octets.specs.Answers.{says}

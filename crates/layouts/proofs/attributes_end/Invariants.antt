@@ -1,14 +1,10 @@
 -- `layouts::attributes_end` meets its contract. The invariant: reading the run from its start is reading what is left of it from here.
 -- The measure is what is left. Assumes nothing.
-use borrow.Author.Rules.{rules}
-use native.Mathlib.Omega.{arith}
-use Prim.Native.Nat.{ℕ, ◌+◌, ◌-◌, ◌≤◌}
-use mathlib.Core.Path.{◌≡◌, sym, ◌∙◌, ap}
+use Prim.Native.Nat.{◌-◌, ◌≤◌}
+use mathlib.Core.Path.{◌≡◌}
 use lib.ListN.{length}
 use Rattle.octets.specs.Reading.{run, ends}
 use Rattle.layouts.specs.Layout.{attribute_at}
-use Rattle.octets.specs.Answers.{says}
-use Rattle.octets.proofs.Ends.{run_on, run_stop, run_none, left_suc, none_left, sub_none}
 use Rattle.layouts.proofs.attributes_end.Given as goal
 
 abbrev pub invariant-loop-i : goal.invariant-loop-i

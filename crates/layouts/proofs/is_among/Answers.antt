@@ -1,10 +1,7 @@
 -- `layouts::is_among` meets its contract. The invariant: the number is among all where it is among those left. Assumes nothing.
 use borrow.Author.Rules.{rules}
 use native.Mathlib.Omega.{arith}
-use Prim.Native.Nat.{◌-◌, ◌≤◌}
-use mathlib.Core.Path.{◌≡◌, refl, sym, ◌∙◌}
-use lib.ListN.{length, drop}
-use Rattle.layouts.specs.Answers.{is_among}
+use mathlib.Core.Path.{refl, sym, ◌∙◌}
 use Rattle.layouts.proofs.Checks.{among_here, among_on, among_end}
 use Rattle.layouts.proofs.is_among.Goals as goal
 

@@ -1,11 +1,8 @@
 -- `layouts::is_among` meets its contract. The invariant: the number is among all where it is among those left. Assumes nothing.
-use borrow.Author.Rules.{rules}
-use native.Mathlib.Omega.{arith}
 use Prim.Native.Nat.{◌-◌, ◌≤◌}
-use mathlib.Core.Path.{◌≡◌, refl, sym, ◌∙◌}
+use mathlib.Core.Path.{◌≡◌}
 use lib.ListN.{length, drop}
 use Rattle.layouts.specs.Answers.{is_among}
-use Rattle.layouts.proofs.Checks.{among_here, among_on, among_end}
 use Rattle.layouts.proofs.is_among.Given as goal
 
 abbrev pub invariant-loop-i : goal.invariant-loop-i

@@ -1,5 +1,4 @@
 -- `layouts::judge_by` meets its contract: the part of the document is the layout's image. Assumes nothing.
-use borrow.Author.Rules.{rules}
 use native.Mathlib.Omega.{arith}
 use Prim.Native.Nat.{ℕ}
 use mathlib.Core.Path.{◌≡◌, ◌∙◌, sym, ap, subst}

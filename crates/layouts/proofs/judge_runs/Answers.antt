@@ -1,5 +1,4 @@
 -- `layouts::judge_runs` meets its contract: each answer by what a book makes of octets and what the look-up found. Assumes nothing.
-use borrow.Author.Rules.{rules}
 use native.Mathlib.Omega.{arith}
 use native.Mathlib.Nat.{add_assoc}
 use Prim.Native.Nat.{ℕ, ◌+◌}
@@ -18,7 +17,6 @@ use Rattle.layouts.proofs.judge_runs.Tie
 
 -- The arguments by names, where the octets of all three slices are known.
 module _ (k : Lts.After-shared_slice_known3 Tie.the-claims Reads.Pre Reads.Post) where
-
   abbrev Front : List ℕ
   Front = k.args.front.now
 

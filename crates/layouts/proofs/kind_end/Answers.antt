@@ -1,5 +1,4 @@
 -- `layouts::kind_end` meets its contract, by what `kind_at` answered. Assumes nothing.
-use borrow.Author.Rules.{rules}
 use native.Mathlib.Omega.{arith}
 use mathlib.Core.Path.{sym, ap, ◌∙◌}
 use Rattle.octets.specs.Reading.{ends}

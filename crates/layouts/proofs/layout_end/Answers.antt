@@ -1,5 +1,4 @@
 -- `layouts::layout_end` meets its contract: each arm by what the callee answered, by a law of `layoutAt`. Assumes nothing.
-use borrow.Author.Rules.{rules}
 use native.Mathlib.Omega.{arith}
 use mathlib.Core.Path.{sym, ◌∙◌, ap}
 use lib.ListN.{length}

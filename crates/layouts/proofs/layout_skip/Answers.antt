@@ -1,7 +1,7 @@
 -- `layouts::layout_skip` meets its contract. The invariant: the layout ends where the run of what is left ends. Assumes nothing.
 use borrow.Author.Rules.{rules}
 use native.Mathlib.Omega.{arith}
-use Prim.Native.Nat.{ℕ, suc, ◌+◌, ◌-◌, ◌≤◌}
+use Prim.Native.Nat.{ℕ, suc, ◌+◌, ◌-◌}
 use mathlib.Core.Path.{◌≡◌, sym, ◌∙◌, ap}
 use mathlib.Core.List.{List}
 use mathlib.Core.Bool.{true}
@@ -16,8 +16,7 @@ use Rattle.layouts.proofs.layout_skip.Tie
 
 pub loop-i-init : goal.loop-i-init
 loop-i-init c =
-    let m = c.attributes_at-mid in
-    (
+    let m = c.attributes_at-mid in (
       search rules,
       layout_run c.args.s.now c.args.at c.requires.1 m.result c.u32_at-k.result m.ensures.0 c.u32_at-k.ensures
           ∙ ap (λ (n : ℕ). ends (run (attribute_at c.args.s.now) n (m.result + 4))) (sub_none c.u32_at-k.result),

@@ -1,6 +1,4 @@
 -- `layouts::same_runs` meets its contract: the layout's octets, cut where the first run ends, are the two runs. Assumes nothing.
-use borrow.Author.Rules.{rules}
-use borrow.Author.Tests.{not-true, not-false}
 use native.Mathlib.Omega.{arith}
 use Prim.Native.Nat.{ℕ, ◌+◌, ◌≤◌}
 use mathlib.Core.Path.{◌≡◌, refl, sym, ap, ◌∙◌}
@@ -36,14 +34,14 @@ pub returns-then-not-octets_same : goal.returns-then-not-octets_same
 returns-then-not-octets_same c = λ m end e.
     let a = c.args in
     sym (two_runs a.s.now a.at c.layout_skip-end.result m (each_octet a.s.now c.type_inv.s) (reads c.before.before.before.before.before m end e) a.front.now a.last.now c.if-end-at.false
-    (a.at + length a.front.now) refl ∙ rw (sym c.octets_same.ensures ∙ not-true _ c.if-not-octets_same.true) refl)
+    (a.at + length a.front.now) refl ∙ rw (sym c.octets_same.ensures ∙ c.if-not-octets_same.true) refl)
 
 pub returns : goal.returns
 returns c = λ m end e.
     let a = c.args in
     c.octets_same-2.ensures
     ∙ sym (two_runs a.s.now a.at c.layout_skip-end.result m (each_octet a.s.now c.type_inv.s) (reads c.before.before.before.before.before.before.before m end e) a.front.now a.last.now c.if-end-at.false
-    (a.at + length a.front.now) refl ∙ rw (sym c.octets_same.ensures ∙ not-false _ c.if-not-octets_same.false) refl)
+    (a.at + length a.front.now) refl ∙ rw (sym c.octets_same.ensures ∙ c.if-not-octets_same.false) refl)
 
 pub layout_skip-end-requires : goal.layout_skip-end-requires
 layout_skip-end-requires c = let p = c.requires in (p.0, ap is_ok p.1.reads)

@@ -1,10 +1,10 @@
 -- `octets::copy_in` meets its contract. The invariant: what was passed stands over the old content. Assumes nothing.
 use borrow.Author.Rules.{rules}
 use native.Mathlib.Omega.{arith}
-use Prim.Native.Nat.{ℕ, ◌-◌, ◌≤◌}
+use Prim.Native.Nat.{ℕ}
 use mathlib.Core.Path.{◌≡◌, refl, ◌∙◌, ap}
-use mathlib.Core.List.{List, ◌++◌}
-use lib.ListN.{length, take, drop, set, get_or, length-set}
+use mathlib.Core.List.{List}
+use lib.ListN.{length, set, get_or, length-set}
 use lib.Seq.{take-length}
 use Rattle.octets.proofs.Copies.{copied}
 use Rattle.octets.proofs.copy_in.Goals as goal

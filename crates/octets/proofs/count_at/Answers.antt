@@ -1,5 +1,4 @@
 -- `octets::count_at` meets its contract: each return by a law of `count`. Assumes nothing.
-use borrow.Author.Rules.{rules}
 use native.Mathlib.Omega.{arith}
 use mathlib.Core.Path.{refl}
 use Rattle.octets.proofs.Ends.{count_ok, count_no, count_over}

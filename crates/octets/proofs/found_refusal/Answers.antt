@@ -1,5 +1,4 @@
 -- `octets::found_refusal` meets its contract, by the two things that may have been found. Assumes nothing.
-use borrow.Author.Rules.{rules}
 use mathlib.Core.Path.{sym, ap}
 use Rattle.octets.specs.Answers.{says}
 use Rattle.octets.specs.Asked.{refusal_of}

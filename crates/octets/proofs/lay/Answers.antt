@@ -1,5 +1,4 @@
 -- `octets::lay` meets its contract: what was put over the start of the rest is laid over the whole. Assumes nothing.
-use borrow.Author.Rules.{rules}
 use mathlib.Core.Path.{refl}
 use Rattle.octets.proofs.Copies.{laid}
 use Rattle.octets.proofs.lay.Goals as goal

@@ -1,5 +1,4 @@
 -- `octets::lay_number` meets its contract: a word put over the start of the rest is laid over the whole. Assumes nothing.
-use borrow.Author.Rules.{rules}
 use Prim.Native.Nat.{ℕ, ◌-◌}
 use mathlib.Core.Path.{refl, sym, ap, ◌∙◌}
 use mathlib.Core.List.{◌++◌}

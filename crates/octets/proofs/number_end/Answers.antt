@@ -1,5 +1,4 @@
 -- `octets::number_end` meets its contract: a number fits, or its room gives the refusal. Assumes nothing.
-use borrow.Author.Rules.{rules}
 use native.Mathlib.Omega.{arith}
 use Prim.Native.Nat.{ℕ}
 use mathlib.Core.Path.{sym, ap, ◌∙◌}

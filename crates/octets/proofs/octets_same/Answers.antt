@@ -1,10 +1,7 @@
 -- `octets::octets_same` meets its contract. The invariant: the two are the same where what is left of them is. Assumes nothing.
 use borrow.Author.Rules.{rules}
 use native.Mathlib.Omega.{arith}
-use Prim.Native.Nat.{◌-◌, ◌≤◌}
-use mathlib.Core.Path.{◌≡◌, refl, sym, ◌∙◌}
-use lib.ListN.{length, drop}
-use Rattle.octets.specs.Reading.{same}
+use mathlib.Core.Path.{refl, sym, ◌∙◌}
 use Rattle.octets.proofs.Copies.{same_lengths, same_on, same_stop, same_end}
 use Rattle.octets.proofs.octets_same.Goals as goal
 

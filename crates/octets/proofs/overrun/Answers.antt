@@ -1,5 +1,4 @@
 -- `octets::overrun` meets its contract: each arm by its room. Assumes nothing.
-use borrow.Author.Rules.{rules}
 use Prim.Native.Nat.{ℕ}
 use mathlib.Core.Path.{sym, ap}
 use Rattle.octets.specs.Reading.{overrun}

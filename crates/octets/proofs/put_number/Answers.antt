@@ -1,6 +1,5 @@
 -- `octets::put_number` meets its contract. The invariant: what is to stand in the end is the word of what is left, then the rest from there on.
 -- The measure is the octets to come. Assumes nothing.
-use borrow.Author.Rules.{rules}
 use native.Mathlib.Omega.{arith}
 use Prim.Native.Nat.{ℕ, ◌≤◌}
 use mathlib.Core.Path.{◌≡◌, refl, sym, ap, ◌∙◌}

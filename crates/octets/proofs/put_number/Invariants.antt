@@ -1,13 +1,10 @@
 -- `octets::put_number` meets its contract. The invariant: what is to stand in the end is the word of what is left, then the rest from there on.
 -- The measure is the octets to come. Assumes nothing.
-use borrow.Author.Rules.{rules}
-use native.Mathlib.Omega.{arith}
-use Prim.Native.Nat.{ℕ, ◌≤◌}
-use mathlib.Core.Path.{◌≡◌, refl, sym, ap, ◌∙◌}
+use Prim.Native.Nat.{◌≤◌}
+use mathlib.Core.Path.{◌≡◌}
 use mathlib.Core.List.{◌++◌}
-use lib.ListN.{length, drop, length-set}
+use lib.ListN.{length, drop}
 use Rattle.octets.specs.Writing.{word}
-use Rattle.octets.proofs.Copies.{word_back}
 use Rattle.octets.proofs.put_number.Given as goal
 
 abbrev pub invariant-loop-i : goal.invariant-loop-i

@@ -1,5 +1,4 @@
 -- `octets::reach` meets its contract: each arm by its room. Assumes nothing.
-use borrow.Author.Rules.{rules}
 use mathlib.Core.Path.{sym, ap}
 use Rattle.octets.specs.Reading.{reach}
 use Rattle.octets.specs.declared.Room.{Room}

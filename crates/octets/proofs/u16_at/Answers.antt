@@ -1,5 +1,4 @@
 -- `octets::u16_at` meets its contract: the sum of its octets by their weights is the number they spell. Assumes nothing.
-use borrow.Author.Rules.{rules}
 use native.Mathlib.Omega.{arith}
 use native.Mathlib.Nat.{add-zero}
 use Rattle.octets.specs.Reading.{be}

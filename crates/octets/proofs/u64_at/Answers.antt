@@ -1,5 +1,4 @@
 -- `octets::u64_at` meets its contract: two numbers of four octets, one behind the other, spell one of eight. Assumes nothing.
-use borrow.Author.Rules.{rules}
 use native.Mathlib.Omega.{arith}
 use Rattle.octets.proofs.Spans.{be_join}
 use Rattle.octets.proofs.u64_at.Goals as goal

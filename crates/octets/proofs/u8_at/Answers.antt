@@ -1,5 +1,4 @@
 -- `octets::u8_at` meets its contract: one octet is its own number. Assumes nothing.
-use borrow.Author.Rules.{rules}
 use native.Mathlib.Omega.{arith}
 use native.Mathlib.Nat.{add-zero}
 use Rattle.octets.specs.Reading.{be}

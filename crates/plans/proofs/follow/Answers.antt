@@ -1,16 +1,12 @@
 -- `plans::follow` meets its contract. The invariant: the values of all attributes end where those of the attributes whose plan stands here do, from here.
 -- The measure is the steps to come. Assumes nothing.
-use borrow.Author.Rules.{rules}
 use native.Mathlib.Omega.{arith}
-use Prim.Native.Nat.{◌+◌, ◌-◌, ◌/◌, ◌%◌, ◌≤◌, ◌<◌}
+use Prim.Native.Nat.{◌+◌, ◌/◌, ◌%◌, ◌<◌}
 use mathlib.Core.Path.{◌≡◌, subst}
-use mathlib.Core.List.{List}
 use lib.ListN.{get_or}
-use Rattle.layouts.specs.Layout.{Attribute}
-use Rattle.plans.specs.Plan.{plan_of, Begins}
 use Rattle.plans.specs.Answers.{Closes}
 use Rattle.plans.specs.declared.Passed.{Passed}
-use Rattle.plans.proofs.Walking.{Onward, onward_start, onward_room, onward_last, onward_on}
+use Rattle.plans.proofs.Walking.{onward_start, onward_room, onward_last, onward_on}
 use Rattle.plans.proofs.follow.Goals as goal
 use Rattle.plans.proofs.follow.Lts
 use Rattle.plans.proofs.follow.Reads
@@ -95,3 +91,6 @@ overflow_add-j c = let h = room c.before.before.before.before.before in omega ar
 
 pub loop-at-smaller : goal.loop-at-smaller
 loop-at-smaller c = let h = room c.before.before.before.before.before.before.before in omega arith
+
+pub bounds-steps-j : goal.bounds-steps-j
+bounds-steps-j c = room c.before.before

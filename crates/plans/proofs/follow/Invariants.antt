@@ -1,16 +1,10 @@
 -- `plans::follow` meets its contract. The invariant: the values of all attributes end where those of the attributes whose plan stands here do, from here.
 -- The measure is the steps to come. Assumes nothing.
-use borrow.Author.Rules.{rules}
-use native.Mathlib.Omega.{arith}
-use Prim.Native.Nat.{◌+◌, ◌-◌, ◌/◌, ◌%◌, ◌≤◌, ◌<◌}
-use mathlib.Core.Path.{◌≡◌, subst}
+use Prim.Native.Nat.{◌-◌, ◌≤◌}
 use mathlib.Core.List.{List}
-use lib.ListN.{get_or}
 use Rattle.layouts.specs.Layout.{Attribute}
 use Rattle.plans.specs.Plan.{plan_of, Begins}
-use Rattle.plans.specs.Answers.{Closes}
-use Rattle.plans.specs.declared.Passed.{Passed}
-use Rattle.plans.proofs.Walking.{Onward, onward_start, onward_room, onward_last, onward_on}
+use Rattle.plans.proofs.Walking.{Onward}
 use Rattle.plans.proofs.follow.Given as goal
 
 abbrev pub invariant-loop-at : goal.invariant-loop-at

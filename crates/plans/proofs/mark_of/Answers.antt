@@ -1,5 +1,4 @@
 -- `plans::mark_of` meets its contract: a number's width is at most eight, and octets have their rule's number. Assumes nothing.
-use borrow.Author.Rules.{rules}
 use native.Mathlib.Omega.{arith}
 use Prim.Native.Nat.{◌≤◌}
 use mathlib.Core.Path.{sym, ap, ◌∙◌, subst}
@@ -15,13 +14,13 @@ slim : (c : Lts.Past-After-known_told Tie.the-claims Reads.Pre Reads.Post) → c
 slim c = subst Slim c.in-Fixed.is c.requires
 
 pub returns-in-Fixed : goal.returns-in-Fixed
-returns-in-Fixed c = let s = slim c.before in (sym (ap mark c.in-Fixed.is), omega arith)
+returns-in-Fixed c = let s = slim c in (sym (ap mark c.in-Fixed.is), omega arith)
 
 pub returns-in-Led : goal.returns-in-Led
 returns-in-Led c = let r = c.closer_of.ensures in (r.0 ∙ sym (ap mark c.in-Led.is), omega (arith, r.1))
 
 pub overflow_mul-result : goal.overflow_mul-result
-overflow_mul-result c = let s = slim c.before in omega arith
+overflow_mul-result c = let s = slim c in omega arith
 
 pub overflow_cast-result : goal.overflow_cast-result
-overflow_cast-result c = let s = slim c.before in omega arith
+overflow_cast-result c = let s = slim c in omega arith

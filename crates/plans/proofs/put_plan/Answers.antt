@@ -1,11 +1,11 @@
 -- `plans::put_plan` meets its contract. The invariant: the steps that stand, with those of the attributes that are left, are the plan.
 -- The measure is the attributes to come. Assumes nothing.
 use native.Mathlib.Omega.{arith}
-use Prim.Native.Nat.{ℕ, suc, ◌+◌, ◌-◌, ◌*◌, ◌%◌, ◌≤◌}
+use Prim.Native.Nat.{ℕ, suc, ◌+◌, ◌-◌, ◌%◌, ◌≤◌}
 use mathlib.Core.Path.{◌≡◌, refl, sym, ap, ◌∙◌, subst}
 use mathlib.Core.List.{List}
 use mathlib.Core.Bool.{true}
-use lib.ListN.{length, take, set, length-set}
+use lib.ListN.{set, length-set}
 use lib.Seq.{take-set-le}
 use Rattle.octets.specs.Reading.{ok, is_ok, run}
 use Rattle.octets.proofs.Ends.{left_suc, none_left, sub_none}

@@ -1,19 +1,12 @@
 -- `plans::put_plan` meets its contract. The invariant: the steps that stand, with those of the attributes that are left, are the plan.
 -- The measure is the attributes to come. Assumes nothing.
-use native.Mathlib.Omega.{arith}
-use Prim.Native.Nat.{ℕ, suc, ◌+◌, ◌-◌, ◌*◌, ◌%◌, ◌≤◌}
-use mathlib.Core.Path.{◌≡◌, refl, sym, ap, ◌∙◌, subst}
+use Prim.Native.Nat.{ℕ, ◌-◌, ◌*◌, ◌≤◌}
+use mathlib.Core.Path.{◌≡◌}
 use mathlib.Core.List.{List}
-use mathlib.Core.Bool.{true}
-use lib.ListN.{length, take, set, length-set}
-use lib.Seq.{take-set-le}
-use Rattle.octets.specs.Reading.{ok, is_ok, run}
-use Rattle.octets.proofs.Ends.{left_suc, none_left, sub_none}
-use Rattle.kinds.specs.Kinds.{form_of}
+use lib.ListN.{length, take}
+use Rattle.octets.specs.Reading.{ok, run}
 use Rattle.layouts.specs.Layout.{Attribute, attribute_at}
-use Rattle.layouts.proofs.Parts.{Described, attribute_fields, attribute_named, attribute_typed}
-use Rattle.plans.specs.Plan.{mark}
-use Rattle.plans.proofs.Making.{Making, making_start, Next, making_next, making_full, making_last}
+use Rattle.plans.proofs.Making.{Making}
 use Rattle.plans.proofs.put_plan.Given as goal
 
 abbrev pub invariant-loop-i : goal.invariant-loop-i

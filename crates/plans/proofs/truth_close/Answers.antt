@@ -1,5 +1,4 @@
 -- `plans::truth_close` meets its contract: each return by a law of booleans, in every room of that reach. Assumes nothing.
-use borrow.Author.Rules.{rules}
 use native.Mathlib.Omega.{arith}
 use mathlib.Core.Path.{sym, ap, ◌∙◌}
 use Rattle.octets.specs.Reading.{is_ok}

@@ -1,5 +1,4 @@
 -- `plans::values_to` meets its contract: by the length that stands there, unstated or stated. Assumes nothing.
-use borrow.Author.Rules.{rules}
 use native.Mathlib.Omega.{arith}
 use Prim.Native.Nat.{◌+◌}
 use mathlib.Core.Path.{◌≡◌, sym, ◌∙◌, subst}

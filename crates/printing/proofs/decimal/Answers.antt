@@ -10,7 +10,7 @@ use Rattle.printing.proofs.decimal.Goals as goal
 
 pub returns : goal.returns
 returns c =
-    let t = c.spell.new.0 in
-    let r = c.spell.result in
-    let long : length t ≡ 20 = c.spell.auto.0 in
-    says (plain (take (20 - r) (drop r t)) ∙ (take_all (20 - r) (drop r t) (omega (arith, length-drop r t, long)) ∙ c.spell.ensures.1)) c.show_all.ensures
+    let t = c.spell-from.new.text in
+    let r = c.spell-from.result in
+    let long : length t ≡ 20 = c.spell-from.auto.text in
+    says (plain (take (20 - r) (drop r t)) ∙ (take_all (20 - r) (drop r t) (omega (arith, length-drop r t, long)) ∙ c.spell-from.ensures.1)) c.show_all.ensures

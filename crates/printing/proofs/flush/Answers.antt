@@ -7,5 +7,5 @@ use Rattle.printing.proofs.flush.Goals as goal
 
 pub slice_bounds-write_all-end : goal.slice_bounds-write_all-end
 slice_bounds-write_all-end c =
-    let a = c.before.before.before.args in
+    let a = c.args in
     sym (length-take-le a.n a.out.now (omega arith))

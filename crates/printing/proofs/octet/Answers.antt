@@ -16,11 +16,11 @@ returns-then-n-out c =
 
 pub returns-then-out-eq0 : goal.returns-then-out-eq0
 returns-then-out-eq0 c =
-    let a = v.before.before.before.before.args in
+    let a = c.args in
     subst (λ (k : ℕ). Prints a.out.now a.n (a.x ∷ []) a.out.now k) (sym c.flush-start.ensures) (away a.out.now a.n a.x (omega arith))
 
 pub returns : goal.returns
 returns c =
-    let a = v.before.before.before.before.args in
+    let a = c.args in
     subst (λ (k : ℕ). Prints a.out.now a.n (a.x ∷ []) (set a.out.now k a.x) (k + 1)) (sym c.flush-start.ensures)
     (anew a.out.now a.n a.x (omega arith) (omega arith))

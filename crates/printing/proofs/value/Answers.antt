@@ -17,26 +17,24 @@ met : {before after : List ℕ} {n r : ℕ} {v w : Value} → v ≡ w → Prints
 met is p = says (sym (ap value_text is)) p
 
 pub overflow_cast-x : goal.overflow_cast-x
-overflow_cast-x c = wider w32 c.in-Int.x tt (record { sfits = c.known_told-1.given.0.1 })
+overflow_cast-x c = wider w32 c.in-Int.x tt (record { sfits = c.in-Int.known_told-1-own.given.0.1 })
 
 pub overflow_cast-x-in-Byte : goal.overflow_cast-x-in-Byte
-overflow_cast-x-in-Byte c = wider w8 c.in-Byte.x tt (record { sfits = c.known_told-in-Byte-1.given.0.1 })
+overflow_cast-x-in-Byte c = wider w8 c.in-Byte.x tt (record { sfits = c.in-Byte.known_told-in-Byte-1-own.given.0.1 })
 
 pub overflow_cast-x-in-Short : goal.overflow_cast-x-in-Short
-overflow_cast-x-in-Short c = wider w16 c.in-Short.x tt (record { sfits = c.known_told-in-Short-1.given.0.1 })
+overflow_cast-x-in-Short c = wider w16 c.in-Short.x tt (record { sfits = c.in-Short.known_told-in-Short-1-own.given.0.1 })
 
 pub returns-in-Int : goal.returns-in-Int
 returns-in-Int c =
-    let v = c.v-1.given in
-    met c.in-Int.is (says (ap signed (narrow w32 c.in-Int.x tt (record { sfits = c.known_told-1.given.0.1 }))) c.signed.ensures)
+    met c.in-Int.is (says (ap signed (narrow w32 c.in-Int.x tt (record { sfits = c.in-Int.known_told-1-own.given.0.1 }))) c.signed.ensures)
 
 pub returns-in-UnsignedInt : goal.returns-in-UnsignedInt
 returns-in-UnsignedInt c = met c.in-UnsignedInt.is c.decimal.ensures
 
 pub returns-in-Long : goal.returns-in-Long
 returns-in-Long c =
-    let v = c.v-in-Long-1.given in
-    met c.in-Long.is (says (ap signed (to_z-of_z {w = w64} {z = c.in-Long.x} (record { sfits = c.known_told-in-Long-1.given.0.1 }))) c.signed-in-Long.ensures)
+    met c.in-Long.is (says (ap signed (to_z-of_z {w = w64} {z = c.in-Long.x} (record { sfits = c.in-Long.known_told-in-Long-1-own.given.0.1 }))) c.signed-in-Long.ensures)
 
 pub returns-in-UnsignedLong : goal.returns-in-UnsignedLong
 returns-in-UnsignedLong c = met c.in-UnsignedLong.is c.decimal-in-UnsignedLong.ensures
@@ -58,16 +56,14 @@ returns-in-Boolean c = met c.in-Boolean.is c.truth.ensures
 
 pub returns-in-Byte : goal.returns-in-Byte
 returns-in-Byte c =
-    let v = c.v-in-Byte-1.given in
-    met c.in-Byte.is (says (ap signed (narrow w8 c.in-Byte.x tt (record { sfits = c.known_told-in-Byte-1.given.0.1 }))) c.signed-in-Byte.ensures)
+    met c.in-Byte.is (says (ap signed (narrow w8 c.in-Byte.x tt (record { sfits = c.in-Byte.known_told-in-Byte-1-own.given.0.1 }))) c.signed-in-Byte.ensures)
 
 pub returns-in-UnsignedByte : goal.returns-in-UnsignedByte
 returns-in-UnsignedByte c = met c.in-UnsignedByte.is c.decimal-in-UnsignedByte.ensures
 
 pub returns-in-Short : goal.returns-in-Short
 returns-in-Short c =
-    let v = c.v-in-Short-1.given in
-    met c.in-Short.is (says (ap signed (narrow w16 c.in-Short.x tt (record { sfits = c.known_told-in-Short-1.given.0.1 }))) c.signed-in-Short.ensures)
+    met c.in-Short.is (says (ap signed (narrow w16 c.in-Short.x tt (record { sfits = c.in-Short.known_told-in-Short-1-own.given.0.1 }))) c.signed-in-Short.ensures)
 
 pub returns-in-UnsignedShort : goal.returns-in-UnsignedShort
 returns-in-UnsignedShort c = met c.in-UnsignedShort.is c.decimal-in-UnsignedShort.ensures

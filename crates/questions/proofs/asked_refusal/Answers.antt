@@ -22,10 +22,10 @@ returns-in-Refused c =
     (refused_as (lent_book a.doc.now a.rows a.book.now a.used) _ _ (sym c.lent_refusal-lent.ensures ∙ c.in-Refused.is))
 
 -- What is lent is not refused.
-good : (k : Lts.After-enum_told Tie.the-claims Reads.Pre Reads.Post) → let a = k.args in (length a.doc.now ≤ longest) × (a.rows ≤ most_rows) × IsBook a.book.now a.used
+good : (k : Lts.Past-After-enum_told Tie.the-claims Reads.Pre Reads.Post) → let a = k.args in (length a.doc.now ≤ longest) × (a.rows ≤ most_rows) × IsBook a.book.now a.used
 good k =
     let a = k.args in
-    lent_good a.doc.now a.rows a.book.now a.used (each_octet a.book.now k.shared_slice_known-2-1.given) (sym k.lent_refusal-lent.ensures ∙ k.enum_told-1.given.1)
+    lent_good a.doc.now a.rows a.book.now a.used (each_octet a.book.now k.shared_slice_known-2-1.given) (sym k.lent_refusal-lent.ensures ∙ k.in-None.is)
 
 pub returns-in-None : goal.returns-in-None
 returns-in-None c =

@@ -14,9 +14,9 @@ use Rattle.questions.proofs.attribute_at.Reads
 use Rattle.questions.proofs.attribute_at.Tie
 
 -- The layout is accepted.
-layout : (k : Lts.After-known_told2 Tie.the-claims Reads.Pre Reads.Post) → let a = k.args in
-    Standing a.doc.now (layout_at a.doc.now) (layout_asked a.doc.now a.at a.rows a.book.now a.used) k.layout-in-End-1.given.0.0
-layout k = rw k.layout-in-End-1.given.1 at k.layout_at-layout.ensures
+layout : (k : Lts.Past-After-known_told2 Tie.the-claims Reads.Pre Reads.Post) → let a = k.args in
+    Standing a.doc.now (layout_at a.doc.now) (layout_asked a.doc.now a.at a.rows a.book.now a.used) k.in-End.place
+layout k = rw k.in-End.is at k.layout_at-layout.ensures
 
 -- How many attributes it has.
 many : (c : Lts.After-attribute_count Tie.the-claims Reads.Pre Reads.Post) → c.attribute_count-count.result ≡ length (layout c.before).item.attributes

@@ -16,9 +16,9 @@ pub returns-in-Refused : goal.returns-in-Refused
 returns-in-Refused c = sym (ap kind_tells (rw c.in-Refused.is at c.attribute_at-attribute.ensures))
 
 -- Where the attribute stands.
-found : (k : Lts.After-known_told2 Tie.the-claims Reads.Pre Reads.Post) → let a = k.args in
-    Standing a.doc.now (attribute_at a.doc.now) (attribute_asked a.doc.now a.at a.rows a.book.now a.used a.n) k.attribute-in-End-1.given.0.0
-found k = rw k.attribute-in-End-1.given.1 at k.attribute_at-attribute.ensures
+found : (k : Lts.Past-After-known_told2 Tie.the-claims Reads.Pre Reads.Post) → let a = k.args in
+    Standing a.doc.now (attribute_at a.doc.now) (attribute_asked a.doc.now a.at a.rows a.book.now a.used a.n) k.in-End.place
+found k = rw k.in-End.is at k.attribute_at-attribute.ensures
 
 pub returns-in-End : goal.returns-in-End
 returns-in-End c =

@@ -14,12 +14,12 @@ use Rattle.questions.proofs.attribute_name.Reads
 use Rattle.questions.proofs.attribute_name.Tie
 
 pub returns-in_default : goal.returns-in_default
-returns-in_default c = sym (ap (part_of (λ (a : Attribute). a.name)) (rw c.before.enum_told.given.1 at c.before.before.before.attribute-at.ensures))
+returns-in_default c = sym (ap (part_of (λ (a : Attribute). a.name)) (rw c.in_default.is at c.attribute_at-attribute.ensures))
 
 -- Where the attribute stands.
-found : (k : Lts.After-known_told Tie.the-claims Reads.Pre Reads.Post) → let a = k.args in
-    Standing a.doc.now (attribute_at a.doc.now) (attribute_asked a.doc.now a.at a.rows a.book.now a.used a.n) k.attribute-1.given.0.0
-found k = rw k.attribute-1.given.1 at k.attribute_at-attribute.ensures
+found : (k : Lts.Past-After-known_told Tie.the-claims Reads.Pre Reads.Post) → let a = k.args in
+    Standing a.doc.now (attribute_at a.doc.now) (attribute_asked a.doc.now a.at a.rows a.book.now a.used a.n) k.in-End.place
+found k = rw k.in-End.is at k.attribute_at-attribute.ensures
 
 pub led_part-requires : goal.led_part-requires
 led_part-requires c =

@@ -9,20 +9,20 @@ use Rattle.questions.proofs.field_at.Lts
 use Rattle.questions.proofs.field_at.Reads
 use Rattle.questions.proofs.field_at.Tie
 
-opened : (k : Lts.After-enum_told Tie.the-claims Reads.Pre Reads.Post) → let a = k.args in Opened 2 a.doc.now a.at a.rows a.book.now a.used
-opened k = rw k.enum_told-1.given.1 at k.asked_refusal-before.ensures
+opened : (k : Lts.Past-After-enum_told Tie.the-claims Reads.Pre Reads.Post) → let a = k.args in Opened 2 a.doc.now a.at a.rows a.book.now a.used
+opened k = rw k.in-None.is at k.asked_refusal-before.ensures
 
 pub returns-in-None : goal.returns-in-None
 returns-in-None c =
-    let a = k.before.before.before.before.before.args in
-    let o = opened c.before.before.before in
+    let a = c.args in
+    let o = opened c.before.before in
     field_placed a.doc.now a.at a.rows a.book.now a.used a.n o c.field_here.result (c.field_here.ensures (book_in a.book.now a.used) o.image)
 
 pub slice_bounds-field_here-end : goal.slice_bounds-field_here-end
-slice_bounds-field_here-end c = sym (opened c.before.before).whole
+slice_bounds-field_here-end c = sym (opened c.before).whole
 
 pub field_here-requires : goal.field_here-requires
-field_here-requires c = (opened c.before.before).lent
+field_here-requires c = (opened c.before).lent
 
 pub returns-in-Refused : goal.returns-in-Refused
 returns-in-Refused c = field_unopened _ _ _ _ _ _ _ _ (rw c.in-Refused.is at c.asked_refusal-before.ensures)

@@ -18,25 +18,25 @@ use Rattle.questions.proofs.field_name.Reads
 use Rattle.questions.proofs.field_name.Tie
 
 pub returns-in_default : goal.returns-in_default
-returns-in_default c = sym (ap (part_of (λ (f : Field). f.attribute.name)) (rw c.before.enum_told.given.1 at c.before.before.before.field_at.ensures))
+returns-in_default c = sym (ap (part_of (λ (f : Field). f.attribute.name)) (rw c.in_default.is at c.field_at-spot.ensures))
 
 -- Where the field stands.
-found : (k : Lts.After-known_told Tie.the-claims Reads.Pre Reads.Post) → let a = k.args in
-    FieldAt a.doc.now a.book.now a.used (field_asked a.doc.now a.at a.rows a.book.now a.used a.n) (At k.spot-1.given.0.0 k.spot-1.given.0.1.0)
-found k = rw k.spot-1.given.1 at k.field_at-spot.ensures
+found : (k : Lts.Past-After-known_told Tie.the-claims Reads.Pre Reads.Post) → let a = k.args in
+    FieldAt a.doc.now a.book.now a.used (field_asked a.doc.now a.at a.rows a.book.now a.used a.n) (At k.in-At.attribute k.in-At.value)
+found k = rw k.in-At.is at k.field_at-spot.ensures
 
 pub led_part-requires : goal.led_part-requires
 led_part-requires c =
-    let a = c.before.before.before.before.before.before.before.args in
-    let p = (found c.before.before).0 in
+    let a = c.args in
+    let p = (found c.before).0 in
     (omega (arith, p.small), text_there (take a.used a.book.now) _ (attribute_named (take a.used a.book.now) _ (ap is_ok p.names)))
 
 pub returns : goal.returns
 returns c =
-    let a = k.before.before.before.before.before.before.args in
-    let p = (found c.before.before.before).0 in
+    let a = c.args in
+    let p = (found c.before.before).0 in
     let (mid, named) = attribute_text (take a.used a.book.now) _ p.names in
     c.led_part.ensures Characters p.field.attribute.name mid named ∙ sym (ap (part_of (λ (f : Field). f.attribute.name)) p.is)
 
 pub slice_bounds-led_part-end : goal.slice_bounds-led_part-end
-slice_bounds-led_part-end c = sym (found c.before.before).1
+slice_bounds-led_part-end c = sym (found c.before).1

@@ -23,41 +23,41 @@ use Rattle.questions.proofs.field_octets.Reads
 use Rattle.questions.proofs.field_octets.Tie
 
 pub returns-in_default : goal.returns-in_default
-returns-in_default c = sym (ap (part_of (λ (f : Field). octets_of f.value)) (rw c.before.enum_told.given.1 at c.before.before.before.field_at.ensures))
+returns-in_default c = sym (ap (part_of (λ (f : Field). octets_of f.value)) (rw c.in_default.is at c.field_at-spot.ensures))
 
 -- Where the field stands.
-found : (k : Lts.After-known_told Tie.the-claims Reads.Pre Reads.Post) → let a = k.args in
-    FieldAt a.doc.now a.book.now a.used (field_asked a.doc.now a.at a.rows a.book.now a.used a.n) (At k.spot-1.given.0.0 k.spot-1.given.0.1.0)
-found k = rw k.spot-1.given.1 t.before.before.before k.field_at-spot.ensures
+found : (k : Lts.Past-After-known_told Tie.the-claims Reads.Pre Reads.Post) → let a = k.args in
+    FieldAt a.doc.now a.book.now a.used (field_asked a.doc.now a.at a.rows a.book.now a.used a.n) (At k.in-At.attribute k.in-At.value)
+found k = rw k.in-At.is at k.field_at-spot.ensures
 
 -- Whether its type has octets.
 module _ (t : Lts.After-is_held Tie.the-claims Reads.Pre Reads.Post) where
 
-  held : (b : Bool) → t.is_held_lem.result ≡ b → is_held (form_of (found t.before.before.before).0.field.attribute.kind) ≡ b
+  held : (b : Bool) → t.is_held.result ≡ b → is_held (form_of (found t.before.before).0.field.attribute.kind) ≡ b
   held b q =
-      let p = (found t.before.before.before).0 in
-      ap (λ (k : Kind). is_held (form_of k)) (sym (t.kind_behind-kind.ensures p.field.attribute p.last p.names)) ∙ (sym t.is_held_lem.ensures ∙ q)
+      let p = (found t.before.before).0 in
+      ap (λ (k : Kind). is_held (form_of k)) (sym (t.kind_behind-kind.ensures p.field.attribute p.last p.names)) ∙ (sym t.is_held.ensures ∙ q)
 
-  stood : t.is_held_lem.result ≡ true → let s = t.before.before.before.before.before.before.before.before.before.args.doc.now in
-      (rule : Rule) × (led_in rule Document s t.before.before.before.before.spot.given.0.1.0 ≡ ok (octets_of (found t.before.before.before).0.field.value) (found t.before.before.before).0.after)
-  stood q = let p = (found t.before.before.before).0 in held_stood _ p.end _ (form_of p.field.attribute.kind) p.inside (held true q) p.reads
+  stood : t.is_held.result ≡ true → let s = t.args.doc.now in
+      (rule : Rule) × (led_in rule Document s t.in-At.value ≡ ok (octets_of (found t.before.before).0.field.value) (found t.before.before).0.after)
+  stood q = let p = (found t.before.before).0 in held_stood _ p.end _ (form_of p.field.attribute.kind) p.inside (held true q) p.reads
 
 pub returns-then-is_held : goal.returns-then-is_held
 returns-then-is_held c =
-    let p = (found c.before.before.before.before.before.before).0 in
+    let p = (found c.before.before.before.before.before).0 in
     let (rule, reads) = stood c.before.before.before c.if-is_held.true in
     c.led_part.ensures rule (octets_of p.field.value) p.after reads ∙ sym (ap (part_of (λ (f : Field). octets_of f.value)) p.is)
 
 pub returns : goal.returns
 returns c =
-    let p = (found c.before.before.before.before.before.before).0 in
-    sym (number_held _ p.end _ (form_of p.field.attribute.kind) (held c.before.before.before false c.before.if1.false) p.reads) ∙ sym (ap (part_of (λ (f : Field). octets_of f.value)) p.is)
+    let p = (found c.before.before.before.before).0 in
+    sym (number_held _ p.end _ (form_of p.field.attribute.kind) (held c.before.before false c.if-is_held.false) p.reads) ∙ sym (ap (part_of (λ (f : Field). octets_of f.value)) p.is)
 
 pub slice_bounds-kind_behind-end : goal.slice_bounds-kind_behind-end
-slice_bounds-kind_behind-end c = sym (found c.before.before).1
+slice_bounds-kind_behind-end c = sym (found c.before).1
 
 pub kind_behind-kind-requires : goal.kind_behind-kind-requires
-kind_behind-kind-requires c = let p = (found c.before.before).0 in (omega (arith, p.small), ap is_ok p.names)
+kind_behind-kind-requires c = let p = (found c.before).0 in (omega (arith, p.small), ap is_ok p.names)
 
 pub led_part-requires : goal.led_part-requires
-led_part-requires c = let (rule, reads) = stood c.before.before c.if-is_held.true in ((found c.before.before.before.before.before).0.short, record { rule = rule; octets = _; next = _; reads = reads })
+led_part-requires c = let (rule, reads) = stood c.before.before c.if-is_held.true in ((found c.before.before.before.before).0.short, record { rule = rule; octets = _; next = _; reads = reads })

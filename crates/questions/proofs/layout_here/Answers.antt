@@ -20,7 +20,7 @@ returns-in-Refused c = λ b i.
 
 -- The layout that was read.
 abbrev Layed : Type 0
-Layed = Lts.After-known_told2 Tie.the-claims Reads.Pre Reads.Post
+Layed = Lts.Past-After-known_told2 Tie.the-claims Reads.Pre Reads.Post
 
 module _ (k : Layed) where
 
@@ -31,10 +31,10 @@ module _ (k : Layed) where
   at = k.args.at
 
   abbrev next : ℕ
-  next = k.end-in-End-1.given.0.0
+  next = k.in-End.next
 
   read-to : ends (layout_at doc (at + 4)) ≡ ok next next
-  read-to = sym k.layout_end-end.ensures.0 ∙ ap says k.end-in-End-1.given.1
+  read-to = sym k.layout_end-end.ensures.0 ∙ ap says k.in-End.is
 
   layout : (l : Layout) × (layout_at doc (at + 4) ≡ ok l next)
   layout = ended (layout_at doc (at + 4)) next read-to
@@ -47,15 +47,15 @@ judge-judged-requires c =
 -- What the book says of it.
 pub returns-in-Refused-judged : goal.returns-in-Refused-judged
 returns-in-Refused-judged c = λ b i.
-    over_unlearnt b (doc c.before.before.before.before.before) (at c.before.before.before.before.before) (layout c.before.before.before.before.before).0 (next c.before.before.before.before.before) (layout c.before.before.before.before.before).1 _ _ (rw c.in-Refused-judged.is at (c.judge-judged.ensures b (layout c.before.before.before.before.before).0 i (layout c.before.before.before.before.before).1))
+    over_unlearnt b (doc c.before.before.before) (at c.before.before.before) (layout c.before.before.before).0 (next c.before.before.before) (layout c.before.before.before).1 _ _ (rw c.in-Refused-judged.is at (c.judge-judged.ensures b (layout c.before.before.before).0 i (layout c.before.before.before).1))
 
 pub returns-in-Known : goal.returns-in-Known
 returns-in-Known c = λ b i.
-    over_learnt b (doc c.before.before.before.before) (at c.before.before.before.before) (layout c.before.before.before.before).0 (next c.before.before.before.before) (layout c.before.before.before.before).1 c.requires.short _ _ (rw c.in-Known.is at (c.judge-judged.ensures b (layout c.before.before.before.before).0 i (layout c.before.before.before.before).1))
+    over_learnt b (doc c.before.before.before) (at c.before.before.before) (layout c.before.before.before).0 (next c.before.before.before) (layout c.before.before.before).1 c.requires.short _ _ (rw c.in-Known.is at (c.judge-judged.ensures b (layout c.before.before.before).0 i (layout c.before.before.before).1))
 
 pub returns-in-New : goal.returns-in-New
 returns-in-New c = λ b i.
-    over_learnt b (doc c.before.before.before.before.before) (at c.before.before.before.before.before) (layout c.before.before.before.before.before).0 (next c.before.before.before.before.before) (layout c.before.before.before.before.before).1 c.requires.short _ _ (rw c.in-New.is at (c.judge-judged.ensures b (layout c.before.before.before.before.before).0 i (layout c.before.before.before.before.before).1)).0
+    over_learnt b (doc c.before.before.before) (at c.before.before.before) (layout c.before.before.before).0 (next c.before.before.before) (layout c.before.before.before).1 c.requires.short _ _ (rw c.in-New.is at (c.judge-judged.ensures b (layout c.before.before.before).0 i (layout c.before.before.before).1)).0
 
 pub layout_end-end-requires : goal.layout_end-end-requires
 layout_end-end-requires c = let o = c.requires in (o.room, o.short)

@@ -11,12 +11,12 @@ use Rattle.questions.proofs.type_name.Reads
 use Rattle.questions.proofs.type_name.Tie
 
 pub returns-in_default : goal.returns-in_default
-returns-in_default c = sym (ap (part_of (λ (l : Layout). l.type_name)) (rw c.before.enum_told.given.1 at c.before.before.before.layout-at.ensures))
+returns-in_default c = sym (ap (part_of (λ (l : Layout). l.type_name)) (rw c.in_default.is at c.layout_at-layout.ensures))
 
 -- Where the layout stands.
-found : (k : Lts.After-known_told Tie.the-claims Reads.Pre Reads.Post) → let a = k.args in
-    Standing a.doc.now (layout_at a.doc.now) (layout_asked a.doc.now a.at a.rows a.book.now a.used) k.layout-1.given.0.0
-found k = rw k.layout-1.given.1 at k.layout_at-layout.ensures
+found : (k : Lts.Past-After-known_told Tie.the-claims Reads.Pre Reads.Post) → let a = k.args in
+    Standing a.doc.now (layout_at a.doc.now) (layout_asked a.doc.now a.at a.rows a.book.now a.used) k.in-End.place
+found k = rw k.in-End.is at k.layout_at-layout.ensures
 
 pub returns : goal.returns
 returns c =

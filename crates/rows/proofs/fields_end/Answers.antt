@@ -2,11 +2,11 @@
 -- The measure is what is left. Assumes nothing.
 use borrow.Author.Rules.{rules}
 use native.Mathlib.Omega.{arith}
-use Prim.Native.Nat.{ℕ, ◌+◌, ◌-◌, ◌≤◌}
+use Prim.Native.Nat.{ℕ, ◌+◌, ◌-◌}
 use mathlib.Core.Path.{◌≡◌, sym, ap, ◌∙◌, subst}
 use mathlib.Core.List.{List}
 use mathlib.Core.Bool.{true}
-use Rattle.octets.specs.Reading.{ok, ends, is_ok, reach, run}
+use Rattle.octets.specs.Reading.{ok, ends, is_ok, run}
 use Rattle.octets.specs.declared.Room.{Room}
 use Rattle.octets.proofs.Ends.{left_suc, none_left, sub_none}
 use Rattle.kinds.specs.declared.Form.{Form}
@@ -89,13 +89,12 @@ loop-i-preserved c =
     )
 
 pub returns-in-Refused : goal.returns-in-Refused
-returns-in-Refused c =
-    (
-      λ xs last e.
-          let n = next-of c.before.before.before.before.before xs last e in
-          sym (n.stops _ _ (answered c.before.before _ c.in-Refused.is n.attribute n.next n.reads)),
-      tt,
-    )
+returns-in-Refused c = (
+  λ xs last e.
+      let n = next-of c.before.before.before.before.before xs last e in
+      sym (n.stops _ _ (answered c.before.before _ c.in-Refused.is n.attribute n.next n.reads)),
+  tt,
+)
 
 pub returns : goal.returns
 returns c =

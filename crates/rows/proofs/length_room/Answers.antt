@@ -1,5 +1,4 @@
 -- `rows::length_room` meets its contract, by its one test. Assumes nothing.
-use borrow.Author.Rules.{rules}
 use borrow.Author.Tests.{eq-eqb, ne_eqb}
 use mathlib.Core.Path.{refl}
 use Rattle.rows.proofs.length_room.Goals as goal

@@ -1,5 +1,4 @@
 -- `rows::row_end` meets its contract: the values behind the length, over the attributes that stand behind the layout's count. Assumes nothing.
-use borrow.Author.Rules.{rules}
 use native.Mathlib.Omega.{arith}
 use Prim.Native.Nat.{ℕ, ◌+◌}
 use mathlib.Core.Path.{◌≡◌, sym, ap, ◌∙◌, subst}

@@ -1,5 +1,4 @@
 -- `rows::values_end` meets its contract: by the room that the length gives, which passes the document's end or is filled. Assumes nothing.
-use borrow.Author.Rules.{rules}
 use native.Mathlib.Omega.{arith}
 use Prim.Native.Nat.{◌+◌, ◌≤◌}
 use mathlib.Core.Path.{◌≡◌, sym, ap, ◌∙◌, subst}

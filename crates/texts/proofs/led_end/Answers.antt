@@ -1,5 +1,4 @@
 -- `texts::led_end` meets its contract: what is there is asked its rule. Assumes nothing.
-use borrow.Author.Rules.{rules}
 use native.Mathlib.Omega.{arith}
 use Prim.Native.Nat.{◌+◌, ◌≤◌}
 use mathlib.Core.Path.{sym, ◌∙◌, subst}

@@ -1,5 +1,4 @@
 -- `texts::octets_end` meets its contract: each return by a law of `octetsIn`. Assumes nothing.
-use borrow.Author.Rules.{rules}
 use native.Mathlib.Omega.{arith}
 use Prim.Native.Nat.{ℕ}
 use mathlib.Core.List.{List}

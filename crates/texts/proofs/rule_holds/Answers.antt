@@ -1,5 +1,4 @@
 -- `texts::rule_holds` meets its contract, rule by rule. Assumes nothing.
-use borrow.Author.Rules.{rules}
 use Prim.Native.Nat.{◌-◌}
 use mathlib.Core.Path.{sym, ap, ◌∙◌}
 use Rattle.octets.specs.Reading.{part}

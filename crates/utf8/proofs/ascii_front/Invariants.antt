@@ -1,10 +1,6 @@
 -- `utf8::ascii_front` meets its contract. The invariant: the octets passed are ASCII. The measure is what is left. Assumes nothing.
-use borrow.Author.Rules.{rules}
-use native.Mathlib.Omega.{arith}
-use Prim.Native.Nat.{◌+◌, ◌-◌, ◌≤◌}
-use mathlib.Core.Path.{sym, ◌∙◌}
+use Prim.Native.Nat.{◌-◌, ◌≤◌}
 use Rattle.utf8.specs.Answers.{Ascii}
-use Rattle.utf8.proofs.Ascii.{unmarked_ascii, ascii_join}
 use Rattle.utf8.proofs.ascii_front.Given as goal
 
 abbrev pub invariant-loop-i : goal.invariant-loop-i

@@ -1,5 +1,4 @@
 -- `utf8::ascii_to` meets its contract: the octets before the first mark are ASCII. Assumes nothing.
-use borrow.Author.Rules.{rules}
 use native.Mathlib.Omega.{arith}
 use Prim.Native.Nat.{◌+◌}
 use Rattle.octets.proofs.Spans.{each_octet}

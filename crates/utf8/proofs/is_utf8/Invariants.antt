@@ -1,11 +1,8 @@
 -- `utf8::is_utf8` meets its contract. The invariant: the octets are UTF-8 just where those that are left are. The measure is what is left. Assumes nothing.
-use borrow.Author.Rules.{rules}
-use native.Mathlib.Omega.{arith}
 use Prim.Native.Nat.{◌-◌, ◌≤◌}
-use mathlib.Core.Path.{◌≡◌, sym, ◌∙◌}
+use mathlib.Core.Path.{◌≡◌}
 use Rattle.octets.specs.Reading.{part}
 use Rattle.utf8.specs.Utf8.{utf8}
-use Rattle.utf8.proofs.Characters.{ascii_passes, utf8_on, utf8_not, utf8_end}
 use Rattle.utf8.proofs.is_utf8.Given as goal
 
 abbrev pub invariant-loop-i : goal.invariant-loop-i

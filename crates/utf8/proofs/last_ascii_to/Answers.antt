@@ -1,5 +1,4 @@
 -- `utf8::last_ascii_to` meets its contract: the marks of the last octets are what is left of those of eight. Assumes nothing.
-use borrow.Author.Rules.{rules}
 use native.Mathlib.Omega.{arith}
 use native.Mathlib.Nat.{one-le-pow}
 use Prim.Native.Nat.{ℕ, ◌+◌, ◌-◌, ◌*◌, ◌%◌, ◌^◌}

@@ -1,5 +1,4 @@
 -- `utf8::marks_at` meets its contract: a mask of eight octets. Assumes nothing.
-use borrow.Author.Rules.{rules}
 use mathlib.Core.Path.{ap, ◌∙◌}
 use Prim.Native.Nat.{ℕ}
 use lib.Bits.{bit_and}

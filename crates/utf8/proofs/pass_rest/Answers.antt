@@ -1,5 +1,4 @@
 -- `utf8::pass_rest` meets its contract: by the line that the octet opens, or by a step and the tails behind it. Assumes nothing.
-use borrow.Author.Rules.{rules}
 use native.Mathlib.Omega.{arith}
 use mathlib.Core.Path.{refl}
 use mathlib.Core.List.{[], ◌∷◌}

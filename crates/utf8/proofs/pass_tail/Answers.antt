@@ -1,5 +1,4 @@
 -- `utf8::pass_tail` meets its contract: a step, and nothing is wanted behind it. Assumes nothing.
-use borrow.Author.Rules.{rules}
 use native.Mathlib.Omega.{arith}
 use Prim.Native.Nat.{◌+◌}
 use mathlib.Core.Path.{refl}

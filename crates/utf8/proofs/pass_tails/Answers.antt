@@ -1,5 +1,4 @@
 -- `utf8::pass_tails` meets its contract: a step, and a tail behind it. Assumes nothing.
-use borrow.Author.Rules.{rules}
 use native.Mathlib.Omega.{arith}
 use mathlib.Core.List.{[], ◌∷◌}
 use mathlib.Core.Option.{some}

@@ -1,5 +1,4 @@
 -- `utf8::second_of_three` meets its contract: by the line that the first octet opens. Assumes nothing.
-use borrow.Author.Rules.{rules}
 use native.Mathlib.Omega.{arith}
 use mathlib.Core.Path.{refl}
 use mathlib.Core.List.{[], ◌∷◌}

@@ -1,5 +1,4 @@
 -- `utf8::stands` meets its contract: the tests one by one. Assumes nothing.
-use borrow.Author.Rules.{rules}
 use native.Mathlib.Omega.{arith}
 use mathlib.Core.Path.{refl}
 use mathlib.Core.Bool.{false}

@@ -109,7 +109,7 @@ looks l book b =
 pub element_over-one-requires : goal.element_over-one-requires
 element_over-one-requires c =
     let q = By c.before in
-    let p = q.before.before.before.before.before.pre in
+    let p = c.requires in
     let k = p.4 in
     (inside q, p.1, p.2, p.3, omega (arith, k.bears.size, k.bears.planned.numbered.good.small), stood (shelf q) _ k.book c.looked_at-looked.result (looks c.before k.book k.bears))
 

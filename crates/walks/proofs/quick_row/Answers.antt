@@ -50,26 +50,23 @@ returns-in-None c = λ book p i h n k.
 abbrev Indexed : Type 0
 Indexed = Lts.Past-After-known_told Tie.the-claims Reads.Pre Reads.Post
 
-abbrev Start : Indexed → Lts.Start Tie.the-claims Reads.Pre Reads.Post
-Start x = x.before.before.before.before.before.before.before
-
 module _ (x : Indexed) where
   abbrev doc : List ℕ
-  doc = (Start x).args.doc.now
+  doc = x.args.doc.now
 
   abbrev at : ℕ
-  at = (Start x).args.at
+  at = x.args.at
 
   abbrev numbers : List ℕ
-  numbers = (Start x).args.numbers.now
+  numbers = x.args.numbers.now
 
   abbrev steps : List ℕ
-  steps = (Start x).args.steps.now
+  steps = x.args.steps.now
 
   abbrev I : ℕ
   I = x.in-Index.i
 
-  found : (I < (Start x).args.known) × (get_or numbers I 0 ≡ be 4 doc (at + 4))
+  found : (I < x.args.known) × (get_or numbers I 0 ≡ be 4 doc (at + 4))
   found = let (below, is) = indexes x.before _ x.in-Index.is in (below, is ∙ x.u32_at-2.ensures)
 
   room : at + 12 ≤ length doc
@@ -79,11 +76,11 @@ module _ (x : Indexed) where
   small =
       omega (arith, (word_be 4 doc (at + 4) (each_octet doc x.shared_slice_known-1.given) (omega (arith, room))).0)
 
-  has-plan : (book : Book) → Planned numbers steps (Start x).args.known book → Marked steps 0 book (be 4 doc (at + 4)) I
-  has-plan book p = plan_at numbers steps (Start x).args.known book p I (be 4 doc (at + 4)) found.0 small found.1
+  has-plan : (book : Book) → Planned numbers steps x.args.known book → Marked steps 0 book (be 4 doc (at + 4)) I
+  has-plan book p = plan_at numbers steps x.args.known book p I (be 4 doc (at + 4)) found.0 small found.1
 
   few : I < 64
-  few = let k = (Start x).pre.3.planned.numbered in omega (arith, found.0, k.count, k.good.few)
+  few = let k = x.requires.3.planned.numbered in omega (arith, found.0, k.count, k.good.few)
 
 -- Where its plan stands.
 abbrev Stepped : Type 0
@@ -96,9 +93,9 @@ stands_here w m =
 
 pub values_to-passed-requires : goal.values_to-passed-requires
 values_to-passed-requires c =
-    let p = (Start c.before.before.before.before).pre.3 in
+    let p = c.requires.3 in
     let m = has-plan c.before.before.before.before p.book p.planned in
-    (omega (arith, room c.before.before.before.before), (Start c.before.before.before.before).pre.1, record { long = p.planned.long; attributes = m.layout.attributes; stands = stands_here c.before m })
+    (omega (arith, room c.before.before.before.before), c.requires.1, record { long = p.planned.long; attributes = m.layout.attributes; stands = stands_here c.before m })
 
 -- The values that were passed.
 lasts : (v : Lts.After-values_to Tie.the-claims Reads.Pre Reads.Post) (y : Passed) → v.values_to-passed.result ≡ y → Lasts (doc v.before.before.before.before) (at v.before.before.before.before + 8) (steps v.before.before.before.before) v.wide.result y

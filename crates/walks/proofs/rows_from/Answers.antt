@@ -26,14 +26,11 @@ use Rattle.walks.proofs.Marks.{tally_bounds}
 use Rattle.walks.proofs.Keeping.{kept_none}
 use Rattle.walks.proofs.Moves.{Newly, item_moves}
 use Rattle.walks.proofs.Ways.{OnWay, way_start, way_bears, way_few, way_rows, way_old, way_newly, way_new, moved_item, moved_end, moved_refused}
+use Rattle.walks.proofs.rows_from.Invariants.{Going}
 use Rattle.walks.proofs.rows_from.Goals as goal
 use Rattle.walks.proofs.rows_from.Lts
 use Rattle.walks.proofs.rows_from.Reads
 use Rattle.walks.proofs.rows_from.Tie
-
--- A way k.before.before.before.before the start, whatever it passed.
-abbrev Going : List ℕ → ℕ → List ℕ → List ℕ → List ℕ → Tally → ℕ → ℕ → ℕ → Type 0
-Going s at numbers places steps t pos rows used = (passed : List Seen) × OnWay s (spot_at at 0 []) passed s numbers places steps t pos rows used
 
 pub loop-next-init : goal.loop-next-init
 loop-next-init c =

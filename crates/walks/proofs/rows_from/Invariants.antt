@@ -28,6 +28,10 @@ use Rattle.walks.proofs.Moves.{Newly, item_moves}
 use Rattle.walks.proofs.Ways.{OnWay, way_start, way_bears, way_few, way_rows, way_old, way_newly, way_new, moved_item, moved_end, moved_refused}
 use Rattle.walks.proofs.rows_from.Given as goal
 
+-- A way from the start, whatever it passed.
+abbrev pub Going : List ℕ → ℕ → List ℕ → List ℕ → List ℕ → Tally → ℕ → ℕ → ℕ → Type 0
+Going s at numbers places steps t pos rows used = (passed : List Seen) × OnWay s (spot_at at 0 []) passed s numbers places steps t pos rows used
+
 abbrev pub invariant-loop-next : goal.invariant-loop-next
 invariant-loop-next l = Going l.doc l.at l.numbers l.places l.steps l.tally l.pos l.rows l.used × (length l.words ≡ 1)
 

@@ -36,28 +36,24 @@ module _ (b l : List ℕ) (used from at : ℕ) (xs : List ℕ) (x : Learning) (f
 
 pub returns-in-Refused : goal.returns-in-Refused
 returns-in-Refused c =
-    let a = m.before.before.before.before.before.before.before.args in
+    let a = c.args in
     refused a.buf.now a.book.now a.used a.from a.at a.last.now c.meet-learning.result c.refusal_of-fault.result c.meet-learning.ensures c.refusal_of-fault.ensures
     c.in-Refused.n c.in-Refused.is
 
 pub returns-then-room-at : goal.returns-then-room-at
 returns-then-room-at c =
-    let i = m.before.before.before.before.before.before.before in
-    let a = i.args in
+    let a = c.args in
     full a.buf.now a.book.now a.used a.from a.at a.last.now c.meet-learning.result c.refusal_of-fault.result c.meet-learning.ensures c.refusal_of-fault.ensures
-    c.in_default.is c.room_of-room.result c.room_of-room.ensures i.requires.2 c.if-room-at.true
+    c.in_default.is c.room_of-room.result c.room_of-room.ensures c.requires.2 c.if-room-at.true
 
 pub enter-total-requires : goal.enter-total-requires
 enter-total-requires c =
-    let k = m.before.before.before.before.before in
-    let i = k.before.before in
-    let a = i.args in
-    let w = used_room a.book.now a.used (each_octet a.book.now k.slice-known2.given) i.requires.0 in
-    enters a.buf.now a.book.now a.used a.from a.at a.last.now c.meet.result c.refusal_of.result c.meet.ensures c.refusal_of.ensures w.1 w.0
+    let a = c.args in
+    let w = used_room a.book.now a.used (each_octet a.book.now c.slice_known-2-1.given) c.requires.0 in
+    enters a.buf.now a.book.now a.used a.from a.at a.last.now c.meet-learning.result c.refusal_of-fault.result c.meet-learning.ensures c.refusal_of-fault.ensures w.1 w.0
 
 pub returns : goal.returns
 returns c =
-    let i = m.before.before.before.before.before.before.before in
-    let a = i.args in
-    done a.buf.now a.book.now a.used a.from a.at a.last.now c.meet.result c.refusal_of.result c.meet.ensures c.refusal_of.ensures
-    c.enum_told.given.1 c.room_of.result c.room_of.ensures i.requires.2 c.if1.false c.enter-total.ensures c.lay-next.ensures
+    let a = c.args in
+    done a.buf.now a.book.now a.used a.from a.at a.last.now c.meet-learning.result c.refusal_of-fault.result c.meet-learning.ensures c.refusal_of-fault.ensures
+    c.in_default.is c.room_of-room.result c.room_of-room.ensures c.requires.2 c.if-room-at.false c.enter-total.ensures c.lay-next.ensures

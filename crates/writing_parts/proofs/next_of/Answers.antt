@@ -29,16 +29,16 @@ long k = sym (used_length k.args.book.now k.args.used (octets k) k.requires)
 
 pub next_at-requires : goal.next_at-requires
 next_at-requires c =
-    let w = found c.before.before.before.before.before _ c.looked.given.1 in
-    (used_small k.before.args.book.now k.before.args.used (octets c.before.before.before.before.before.before) k.before.requires, record { layout = w.layout; next = w.next; reads = w.reads })
+    let w = found c.before.before _ c.in-There.is in
+    (used_small c.args.book.now c.args.used (octets c.before.before.before) c.requires, record { layout = w.layout; next = w.next; reads = w.reads })
 
 pub returns-in-There : goal.returns-in-There
 returns-in-There c =
-    let w = found c.before.before.before.before.before.before _ c.looked.given.1 in
+    let w = found c.before.before.before _ c.in-There.is in
     rw w.found (c.next_at.ensures w.layout w.next w.reads)
 
 pub returns-in-Missing : goal.returns-in-Missing
-returns-in-Missing c = rw (found c.before.before.before.before _ c.in-Missing.is).0 refl
+returns-in-Missing c = rw (found c.before.before _ c.in-Missing.is).0 refl
 
 pub slice_bounds-next_at-end : goal.slice_bounds-next_at-end
-slice_bounds-next_at-end c = long c.before.before.before.before.before.before
+slice_bounds-next_at-end c = long c.before.before.before

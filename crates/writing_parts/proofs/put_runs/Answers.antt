@@ -24,22 +24,22 @@ module _ (b h x t : List ℕ) (at r : ℕ) (u : Bool) (p : at ≤ min (length b)
 pub returns-then-not-fits : goal.returns-then-not-fits
 returns-then-not-fits c =
     let a = c.args in (
-      tested a.buf.now a.head.now a.body.now a.tail.now a.at c.room_of-room.result c.fits2.result c.requires c.room_of-room.ensures c.fits2.ensures
-          ∙ not-true _ c.if-not-fits.true,
+      tested a.buf.now a.head.now a.body.now a.tail.now a.at c.room_of-room.result c.fits.result c.requires c.room_of-room.ensures c.fits.ensures
+          ∙ c.if-not-fits.true,
       refl,
     )
 
 pub lay3-requires : goal.lay3-requires
 lay3-requires c =
     let a = c.args in
-    inside a.buf.now a.head.now a.body.now a.tail.now a.at c.room_of-room.result c.fits2.result c.requires c.room_of-room.ensures c.fits2.ensures
-    (not-false _ c.if-not-fits.false)
+    inside a.buf.now a.head.now a.body.now a.tail.now a.at c.room_of-room.result c.fits.result c.requires c.room_of-room.ensures c.fits.ensures
+    c.if-not-fits.false
 
 pub returns : goal.returns
 returns c =
     let a = c.args in (
-      tested a.buf.now a.head.now a.body.now a.tail.now a.at c.room_of-room.result c.fits2.result c.requires c.room_of-room.ensures c.fits2.ensures
-          ∙ not-false _ c.if-not-fits.false,
+      tested a.buf.now a.head.now a.body.now a.tail.now a.at c.room_of-room.result c.fits.result c.requires c.room_of-room.ensures c.fits.ensures
+          ∙ c.if-not-fits.false,
       c.lay3.ensures.0,
       c.lay3.ensures.1,
     )

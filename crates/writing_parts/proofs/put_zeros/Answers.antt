@@ -18,11 +18,11 @@ pub loop-i-init : goal.loop-i-init
 loop-i-init c = (search rules, refl, fill_none c.args.rest.now 0)
 
 pub loop-i-preserved : goal.loop-i-preserved
-loop-i-preserved c = (λ c.
+loop-i-preserved c =
     let l = c.loop-i in
-    (search rules, simp length-set l.invariant.1, more c.before.before.args.rest.now l.rest l.i (search rules) l.invariant.2)) c.before
+    (search rules, simp length-set l.invariant.1, more c.args.rest.now l.rest l.i (search rules) l.invariant.2)
 
 pub returns : goal.returns
-returns c = (λ c.
+returns c =
     let l = c.loop-i in
-    whole c.before.before.args.rest.now l.rest l.i c.before.before.args.n (search rules) (search rules) l.invariant.2) c.before
+    whole c.args.rest.now l.rest l.i c.args.n (search rules) (search rules) l.invariant.2

@@ -1,0 +1,13 @@
+-- `giving::give_number` meets its contract: the last of its eight octets are the number's. Assumes nothing.
+use borrow.Author.Rules.{rules}
+use mathlib.Core.Path.{refl, ◌∙◌}
+use mathlib.Core.List.{append-nil}
+use Rattle.giving.proofs.Values.{number_octets}
+use Rattle.writer.proofs.Tests.{same_put, gave}
+use Rattle.giving.proofs.give_number.Goals as goal
+
+pub returns : goal.returns
+returns c =
+    let a = c.args in
+    gave a.s a.buf.now a.book.now a.used c.give.ensures
+    (same_put a.s a.turn a.s.start refl (append-nil _ ∙ number_octets a.w a.n c.requires c.word8-head.ensures) refl refl)

@@ -1,0 +1,20 @@
+-- `giving::give_text` meets its contract: the length and the octets are the string's image. Assumes nothing.
+use borrow.Author.Rules.{rules}
+use mathlib.Core.Path.{◌≡◌, refl}
+use mathlib.Core.List.{List, [], ◌++◌, append-nil}
+use Prim.Native.Nat.{ℕ}
+use lib.ListN.{length}
+use Rattle.octets.specs.Writing.{word}
+use Rattle.texts.specs.Texts.{led_image}
+use Rattle.writer.proofs.Tests.{same_put, gave}
+use Rattle.giving.proofs.give_text.Goals as goal
+
+image : (xs : List ℕ) {h : List ℕ} → h ≡ word 4 (length xs) → h ++ (xs ++ []) ≡ led_image xs
+unfolding led_image
+image xs e = rw (e, append-nil xs) refl
+
+pub returns : goal.returns
+returns c =
+    let a = c.args in
+    gave a.s a.buf.now a.book.now a.used c.give.ensures
+    (same_put a.s a.turn a.s.start c.breach-fault.ensures (image a.xs.now c.word4-head.ensures) refl refl)

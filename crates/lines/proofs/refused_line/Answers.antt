@@ -1,0 +1,8 @@
+-- `lines::refused_line` meets its contract. Assumes nothing.
+use borrow.Author.Rules.{rules}
+use Rattle.printing.proofs.Puts.{then}
+use Rattle.lines.proofs.refused_line.Goals as goal
+
+pub returns : goal.returns
+returns c =
+    then c.refused-to.ensures c.octet.ensures

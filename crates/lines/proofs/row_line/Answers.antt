@@ -1,0 +1,45 @@
+-- `lines::row_line` meets its contract. The invariant: the fields passed are printed. The measure is the fields left. Assumes nothing.
+use borrow.Author.Rules.{rules}
+use native.Mathlib.Omega.{arith}
+use mathlib.Core.Path.{◌≡◌, refl, sym, ap, ◌∙◌}
+use Prim.Native.Nat.{ℕ, ◌-◌, ◌≤◌}
+use lib.ListN.{length, take}
+use lib.Seq.{take-length}
+use Rattle.octets.specs.Reading.{ok}
+use Rattle.octets.specs.Writing.{images}
+use Rattle.rows.specs.Row.{Row}
+use Rattle.questions.specs.Questions.{row_asked}
+use Rattle.octets.proofs.Asked.{nth_some}
+use Rattle.questions.proofs.Asked.{field_asked_lem}
+use Rattle.printing.specs.Text.{Prints, spelt}
+use Rattle.printing.proofs.Puts.{then, says, nothing, images_none}
+use Rattle.lines.specs.Lines.{numbered, field_text}
+use Rattle.lines.proofs.Words.{one_more}
+use Rattle.lines.proofs.row_line.Goals as goal
+
+pub loop-i-init : goal.loop-i-init
+loop-i-init c =
+    (refl, omega arith, λ row next e count. says (sym (images_none field_text)) (nothing c.numbered-to.new.out c.numbered-to.result))
+
+pub loop-i-preserved : goal.loop-i-preserved
+loop-i-preserved c =
+    let l = c.loop-i in
+    let a = c.args in (
+      c.field_word-to.auto.out ∙ l.invariant.0,
+      omega arith,
+      λ row next e count.
+          let (f, rest, is, more) = one_more field_text row.fields l.i (omega arith) in
+          says (sym more)
+          (then (l.invariant.2 row next e count)
+          (c.field_word-to.ensures f next
+          (field_asked_lem a.doc.now a.at a.rows a.book.now a.used l.i row next e ∙ nth_some l.i a.at row.fields next is))),
+    )
+
+pub returns : goal.returns
+returns c =
+    let l = c.loop-i in
+    let a = c.args in
+    λ row next e number count.
+    let all : l.i ≡ length row.fields = omega arith in
+    then (says (ap (λ (x : ℕ). numbered (spelt "row ") a.at x) number) c.numbered-to.ensures)
+    (then (says (ap (λ (i : ℕ). images field_text (take i row.fields)) all ∙ ap (images field_text) (take-length row.fields)) (l.invariant.2 row next e count)) c.octet.ensures)

@@ -1,0 +1,44 @@
+-- `reading::step` meets its contract: what stands before every step, which leaves the book; then what the element answers and leaves. Assumes nothing.
+use borrow.Author.Rules.{rules}
+use Prim.Native.Nat.{◌≤◌}
+use mathlib.Core.Path.{sym, ap, ◌∙◌}
+use lib.ListN.{length}
+use lib.Seq.{take-length}
+use Rattle.octets.specs.Limits.{longest, most_rows}
+use Rattle.octets.proofs.Spans.{each_octet}
+use Rattle.layouts.specs.Book.{IsBook}
+use Rattle.elements.specs.Steps.{octets_left}
+use Rattle.elements.specs.Answers.{tells}
+use Rattle.elements.proofs.Before.{guard_refused, guard_good, step_is}
+use Rattle.reading.proofs.step.Goals as goal
+use Rattle.reading.proofs.step.Lts
+use Rattle.reading.proofs.step.Reads
+use Rattle.reading.proofs.step.Tie
+
+-- What stands before the step.
+abbrev Guard : Type 0
+Guard = Lts.After-lent_refusal Tie.the-claims Reads.Pre Reads.Post
+
+pub returns-in-Refused : goal.returns-in-Refused
+returns-in-Refused c =
+    let a = c.args in
+    let e = guard_refused a.doc.now a.rows a.book.now a.used _ c.lent_refusal-guard.ensures a.at _ _ c.in-Refused.is in
+    (sym (ap tells e), sym (ap (octets_left a.book.now) e))
+
+good : (c : Lts.Past-After-enum_told Tie.the-claims Reads.Pre Reads.Post) → let a = c.args in (length a.doc.now ≤ longest) × (a.rows ≤ most_rows) × IsBook a.book.now a.used
+good c =
+    let a = c.args in
+    guard_good a.doc.now a.rows a.book.now a.used _ c.lent_refusal-guard.ensures (each_octet a.book.now c.slice_known-1.given) c.in-None.is
+
+pub returns-in-None : goal.returns-in-None
+returns-in-None c =
+    let a = c.args in
+    let (short, few, is) = good c.before.before.before.before.before in
+    let e = step_is a.doc.now a.rows a.book.now a.used a.at short is few in
+    (c.element.ensures.0 ∙ sym (ap tells e), c.element.ensures.1 ∙ sym (ap (octets_left a.book.now) e))
+
+pub slice_bounds-lent_refusal-end-2 : goal.slice_bounds-lent_refusal-end-2
+slice_bounds-lent_refusal-end-2 c = ap length (sym (take-length c.args.book.now))
+
+pub element-requires : goal.element-requires
+element-requires c = good c.before.before

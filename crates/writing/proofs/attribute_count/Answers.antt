@@ -1,0 +1,17 @@
+-- `writing::attribute_count` meets its contract: its number is given as the call says. Assumes nothing.
+use borrow.Author.Rules.{rules}
+use mathlib.Core.Path.{ap}
+use Rattle.octets.specs.Writing.{word}
+use Rattle.writing_parts.specs.declared.Fault.{Fault}
+use Rattle.writer.specs.declared.Wanted.TheVariants as wants
+use Rattle.writer.specs.Writer.{does, attributes}
+use Rattle.writer.specs.Answers.{call_leaves}
+use Rattle.writer.proofs.Tests.{gave}
+use Rattle.writing.proofs.attribute_count.Goals as goal
+
+pub returns : goal.returns
+unfolding call_leaves does
+returns c =
+    let a = c.args in
+    gave a.s a.buf.now a.book.now a.used c.give_attribute.ensures
+    (ap (λ (f : Fault). attributes a.s wants.AttributeCount f (word 4 a.n) a.n) c.at_most-fault.ensures)

@@ -1,0 +1,20 @@
+-- `writing::recorder` meets its contract: its octets are the version's and the string's. Assumes nothing.
+use borrow.Author.Rules.{rules}
+use mathlib.Core.Path.{refl}
+use mathlib.Core.List.{append_assoc}
+use lib.ListN.{length}
+use Rattle.octets.specs.Writing.{word}
+use Rattle.texts.specs.Texts.{led_image}
+use Rattle.writer.specs.declared.Wanted.TheVariants as wants
+use Rattle.writer.specs.Writer.{does}
+use Rattle.writer.specs.Answers.{call_leaves}
+use Rattle.writer.proofs.Tests.{same_put, gave}
+use Rattle.writing.proofs.recorder.Goals as goal
+
+pub returns : goal.returns
+unfolding call_leaves does led_image
+returns c =
+    let a = c.args in
+    let xs = a.xs.now in
+    gave a.s a.buf.now a.book.now a.used c.give_pair.ensures
+    (same_put a.s wants.Recorder a.s.start c.breach.ensures (append_assoc (word 4 4) (word 4 (length xs)) xs) refl refl)

@@ -1,0 +1,9 @@
+-- `writing::service` meets its contract: its string is given as the call says, with one less to come. Assumes nothing.
+use borrow.Author.Rules.{rules}
+use Rattle.writer.specs.Writer.{does}
+use Rattle.writer.specs.Answers.{call_leaves}
+use Rattle.writing.proofs.service.Goals as goal
+
+pub returns : goal.returns
+unfolding call_leaves does
+returns c = c.give_item.ensures
