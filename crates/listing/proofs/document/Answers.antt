@@ -29,7 +29,7 @@ returns-in-Refused c =
 
 -- The header is accepted.
 abbrev Told : Type 0
-Told = Lts.After-known_told2 Tie.the-claims Reads.Pre Reads.Post
+Told = Lts.Past-After-known_told2 Tie.the-claims Reads.Pre Reads.Post
 
 module _ (k : Told) where
 
@@ -37,10 +37,10 @@ module _ (k : Told) where
   doc = k.args.doc.now
 
   abbrev head : Head
-  head = k.headed-in-Is-1.given.0.0
+  head = k.in-Is.head
 
   told : (h : Header) × (next : ℕ) × (header_at doc ≡ ok h next) × (head_of h next ≡ head)
-  told = headed_as (header_at doc) head (sym k.header-headed.ensures ∙ k.headed-in-Is-1.given.1)
+  told = headed_as (header_at doc) head (sym k.header-headed.ensures ∙ k.in-Is.is)
 
   place : (head.next ≤ length doc) × (length doc ≤ longest)
   place =

@@ -1,5 +1,4 @@
 -- `questions::layout_here` meets its contract: the layout is read to its last type, then judged by the book; nothing is put. Assumes nothing.
-use borrow.Author.Rules.{rules}
 use Prim.Native.Nat.{ℕ, ◌+◌}
 use mathlib.Core.Path.{◌≡◌, sym, ap, ◌∙◌}
 use mathlib.Core.List.{List}
@@ -23,7 +22,6 @@ abbrev Layed : Type 0
 Layed = Lts.Past-After-known_told2 Tie.the-claims Reads.Pre Reads.Post
 
 module _ (k : Layed) where
-
   abbrev doc : List ℕ
   doc = k.args.doc.now
 
