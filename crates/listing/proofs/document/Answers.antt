@@ -1,5 +1,4 @@
 -- `listing::document` meets its contract: the listing of the document. Assumes nothing.
-use borrow.Author.Rules.{rules}
 use mathlib.Core.Path.{◌≡◌, sym, ap, ◌∙◌, subst}
 use mathlib.Core.List.{List, []}
 use Prim.Native.Nat.{ℕ, ◌≤◌}
@@ -32,7 +31,6 @@ abbrev Told : Type 0
 Told = Lts.Past-After-known_told2 Tie.the-claims Reads.Pre Reads.Post
 
 module _ (k : Told) where
-
   abbrev doc : List ℕ
   doc = k.args.doc.now
 

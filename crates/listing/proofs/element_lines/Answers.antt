@@ -1,8 +1,7 @@
 -- `listing::element_lines` meets its contract. The invariant: the lines of the items passed are printed, over octets that carry the book that they left.
 -- The measure is what is left of the document: an item goes on. Assumes nothing.
-use borrow.Author.Rules.{rules}
 use native.Mathlib.Omega.{arith}
-use Prim.Native.Nat.{ℕ, ◌-◌, ◌≤◌}
+use Prim.Native.Nat.{ℕ, ◌≤◌}
 use mathlib.Core.Path.{◌≡◌, refl, sym, ap, ◌∙◌, subst}
 use mathlib.Core.List.{List}
 use mir.Syntax.{w64}
@@ -102,7 +101,6 @@ abbrev Item : Type 0
 Item = Lts.Past-After-known_told4 Tie.the-claims Reads.Pre Reads.Post goal.the-invariant-loop-next goal.the-decreases-loop-next
 
 module _ (m : Item) where
-
   abbrev by : Turn
   by = m.before.before.before.before.before.before.before.before.before
 
@@ -117,7 +115,6 @@ abbrev Lined : Type 0
 Lined = Lts.After-element_line Tie.the-claims Reads.Pre Reads.Post goal.the-invariant-loop-next goal.the-decreases-loop-next
 
 module _ (line : Lined) where
-
   put : let l = (by line.before.before.before).loop-next in Prints l.out l.to (element_text l.pos (goes line.before.before.before).stepped.element) line.element_line-to.new.out line.element_line-to.result
   put = let k = goes line.before.before.before in line.element_line-to.ensures k.stepped (gone line.before.before.before).next k.reads k.met
 
@@ -129,7 +126,6 @@ abbrev Grew : Type 0
 Grew = Lts.Then1 Tie.the-claims Reads.Pre Reads.Post goal.the-invariant-loop-next goal.the-decreases-loop-next
 
 module _ (g : Grew) where
-
   abbrev turn : Turn
   turn = by g.before.before.before.before.before.before.before
 
