@@ -19,14 +19,14 @@ use borrow.Enum.Refused.{opened}
 use Rattle.lines.proofs.value_word.Goals as goal
 
 -- What is one of an arm's keys is found among them.
-or-true : (b : Bool) → (b || true) ≡ true
-or-true true = refl
-or-true false = refl
+or_true : (b : Bool) → (b || true) ≡ true
+or_true true = refl
+or_true false = refl
 
 found : (x k : ℕ) (ks : List ℕ) → OneOf (k ∷ ks) x → has_key (k ∷ ks) x ≡ true
 found x k [] e = rw (eq-eqb k x (sym e)) refl
 found x k (j ∷ ks) (inl e) = rw (eq-eqb k x (sym e)) refl
-found x k (j ∷ ks) (inr h) = rw (found x j ks h) (or-true (eqb k x))
+found x k (j ∷ ks) (inr h) = rw (found x j ks h) (or_true (eqb k x))
 
 abbrev more : List ℕ
 more = 1 ∷ 2 ∷ 3 ∷ 4 ∷ 5 ∷ 8 ∷ 9 ∷ 10 ∷ 11 ∷ 12 ∷ []

@@ -118,8 +118,8 @@ module _ (line : Lined) where
   put : let l = (by line.before.before.before).loop-next in Prints l.out l.to (element_text l.pos (goes line.before.before.before).stepped.element) line.element_line-to.new.out line.element_line-to.result
   put = let k = goes line.before.before.before in line.element_line-to.ensures k.stepped (gone line.before.before.before).next k.reads k.met
 
-  out-long : length line.element_line-to.new.out ≡ length (by line.before.before.before).before.before.before.before.args.out.now
-  out-long = line.element_line-to.auto.out ∙ (by line.before.before.before).loop-next.invariant.0
+  out_long : length line.element_line-to.new.out ≡ length (by line.before.before.before).before.before.before.before.args.out.now
+  out_long = line.element_line-to.auto.out ∙ (by line.before.before.before).loop-next.invariant.0
 
 -- One whose layout is new.
 abbrev Grew : Type 0
@@ -141,10 +141,10 @@ keep-tally-requires c =
 pub loop-next-preserved-then-used-gone : goal.loop-next-preserved-then-used-gone
 loop-next-preserved-then-used-gone c =
     let new = grown c.before.before.before.before.before.before.before.before in
-    (out-long c.before.before.before.before.before.before.before.before.before.before.before.before, new.on (put c.before.before.before.before.before.before.before.before.before.before.before.before) c.grow.auto.book c.grow.ensures (c.keep-tally.ensures new.layout _ new.reads), words_long c.before.before.before.before.before.before.before.before.before.before.before.before.before.before.before.before.before)
+    (out_long c.before.before.before.before.before.before.before.before.before.before.before.before, new.on (put c.before.before.before.before.before.before.before.before.before.before.before.before) c.grow.auto.book c.grow.ensures (c.keep-tally.ensures new.layout _ new.reads), words_long c.before.before.before.before.before.before.before.before.before.before.before.before.before.before.before.before.before)
 
 pub loop-next-preserved : goal.loop-next-preserved
-loop-next-preserved c = (out-long c.before.before.before.before.before, (goes c.before.before.before.before.before.before.before.before).old c.if-used-gone.false (put c.before.before.before.before.before), words_long c.before.before.before.before.before.before.before.before.before.before)
+loop-next-preserved c = (out_long c.before.before.before.before.before, (goes c.before.before.before.before.before.before.before.before).old c.if-used-gone.false (put c.before.before.before.before.before), words_long c.before.before.before.before.before.before.before.before.before.before)
 
 pub slice_bounds-go_on-end : goal.slice_bounds-go_on-end
 slice_bounds-go_on-end c = sym (shelf c.before.before)

@@ -3,14 +3,14 @@ use Rattle.std.proofs.Common.{◌-◌, ◌≤◌, rules}
 use Rattle.probe_input.proofs.numbers.Statement.{statement}
 use Rattle.probe_input.proofs.numbers.Tie as tie
 
-abbrev invariant-loop : tie.invariant-loop
-invariant-loop buf₀ to₀ n at₀ i₀ buf to at i = i ≤ n
+abbrev invariant_loop : tie.invariant_loop
+invariant_loop buf₀ to₀ n at₀ i₀ buf to at i = i ≤ n
 
-abbrev decreases-loop : tie.decreases-loop
-decreases-loop buf₀ to₀ n at₀ i₀ buf to at i = n - i
+abbrev decreases_loop : tie.decreases_loop
+decreases_loop buf₀ to₀ n at₀ i₀ buf to at i = n - i
 
-pub numbers-spec : {M : Type 1} → statement M
-numbers-spec =
+pub numbers_spec : {M : Type 1} → statement M
+numbers_spec =
     tie.close
-    (tie.spec invariant-loop decreases-loop (λ c. search rules) (λ c κs. search rules) (λ c. search rules) (λ c. search rules) (λ c. search rules) (λ c. search rules)
+    (tie.spec invariant_loop decreases_loop (λ c. search rules) (λ c κs. search rules) (λ c. search rules) (λ c. search rules) (λ c. search rules) (λ c. search rules)
     (λ c. search rules) (λ c. search rules) (λ c. search rules) (λ c. search rules) (λ c. search rules))

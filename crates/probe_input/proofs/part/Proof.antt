@@ -22,14 +22,14 @@ returns c =
     let a = first.before.before.before.before.args in
     says (empty a.xs.now (omega arith)) (then first.octet.ensures last.octet2.ensures)
 
-returns-2 : tie.Need-returns-2
-returns-2 c =
+returns_2 : tie.Need-returns-2
+returns_2 c =
     let last = c.before.before in
     let first = last.before.before.before.before.before in
     let a = first.before.before.before.before.args in
     says (some a.xs.now (omega arith)) (then first.octet.ensures last.show_all.ensures)
 
-pub part-spec : {M : Type 1} → statement M
-part-spec =
+pub part_spec : {M : Type 1} → statement M
+part_spec =
     tie.close
-    (tie.spec (λ c κs. search rules) (λ c κs. search rules) (λ c. search rules) returns (λ c κs. search rules) (λ c. search rules) returns-2)
+    (tie.spec (λ c κs. search rules) (λ c κs. search rules) (λ c. search rules) returns (λ c κs. search rules) (λ c. search rules) returns_2)

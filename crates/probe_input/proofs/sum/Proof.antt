@@ -13,5 +13,5 @@ returns c =
     let first = last.before.before.before.before.before in
     says (ap (λ (s : ℕ). spelt " " ++ showing Hex (word 8 s)) last.before.checksum.ensures) (then first.octet.ensures last.hex.ensures)
 
-pub sum-spec : {M : Type 1} → statement M
-sum-spec = tie.close (tie.spec (λ c κs. search rules) (λ c κs. search rules) (λ c κs. search rules) (λ c. search rules) returns)
+pub sum_spec : {M : Type 1} → statement M
+sum_spec = tie.close (tie.spec (λ c κs. search rules) (λ c κs. search rules) (λ c κs. search rules) (λ c. search rules) returns)

@@ -22,7 +22,7 @@ module _ (h : ℕ) where
 returns : tie.Need-returns
 returns c = product c.before.before.args.h c.before.wrapping-add-u64.ensures c.wrapping-add-u642.ensures
 
-pub times-prime-spec : {M : Type 1} → statement M
-times-prime-spec =
+pub times_prime_spec : {M : Type 1} → statement M
+times_prime_spec =
     tie.close
     (tie.spec (λ c. search rules) (λ c. search rules) (λ c. search rules) (λ c. search rules) (λ c κs. search rules) (λ c κs. search rules) returns)

@@ -6,14 +6,14 @@ use lib.ListN.{length}
 use Rattle.probe_writes.proofs.set_front.Statement.{statement}
 use Rattle.probe_writes.proofs.set_front.Tie as tie
 
-abbrev invariant-loop : tie.invariant-loop
-invariant-loop s₀ n x i₀ s i = length s ≡ length s₀
+abbrev invariant_loop : tie.invariant_loop
+invariant_loop s₀ n x i₀ s i = length s ≡ length s₀
 
-abbrev decreases-loop : tie.decreases-loop
-decreases-loop s₀ n x i₀ s i = n - i
+abbrev decreases_loop : tie.decreases_loop
+decreases_loop s₀ n x i₀ s i = n - i
 
-pub set-front-spec : {M : Type 1} → statement M
-set-front-spec =
+pub set_front_spec : {M : Type 1} → statement M
+set_front_spec =
     tie.close
-    (tie.spec invariant-loop decreases-loop (λ c. refl) (λ c. search rules) (λ c. search rules) (λ c. search rules) (λ c. search rules) (λ c. search rules) (λ c. search rules)
+    (tie.spec invariant_loop decreases_loop (λ c. refl) (λ c. search rules) (λ c. search rules) (λ c. search rules) (λ c. search rules) (λ c. search rules) (λ c. search rules)
     (λ c. search rules) (λ c. search rules))

@@ -17,7 +17,7 @@ pub record Going (doc : List ℕ) (at rows : ℕ) (entry : List ℕ) (used : ℕ
   pub carried : Carried book filled numbers places steps tally
   pub inside : pos ≤ length doc
   pub few : passed ≤ most_rows + 1
-  pub book-long : length book ≡ length entry
+  pub book_long : length book ≡ length entry
   pub words_long : length words ≡ length lent
 
 abbrev pub invariant-loop-n : goal.invariant-loop-n
