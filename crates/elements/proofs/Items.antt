@@ -12,7 +12,7 @@ use Rattle.octets.proofs.Spans.{Spans, none_spans, join, middle}
 use Rattle.layouts.specs.Book.{Book}
 use Rattle.elements.specs.Element.{Item, layout, row, item, finish, Stepped, element_at}
 use Rattle.elements.specs.Walk.{ended, Seen, stops, Walk, behind, walk, Path, seen_at, Spot, spot_at, spot_of, turn_at}
-use Rattle.elements.specs.Reading.{Placed, placed, placed_all, elements_read}
+use Rattle.elements.specs.Reading.{Placed, placed_all, elements_read}
 use Rattle.elements.specs.Document.{item_image, row_count, GoodItems, placed_from}
 use Rattle.elements.proofs.Elements.{end_image, Came, a_layout, a_row, an_end, element_back, element_forth}
 use Rattle.elements.proofs.Walks.{walk_stops, walk_path, walk_at_stop, path_walk}

@@ -6,7 +6,7 @@ use mathlib.Core.Bool.{Bool}
 use native.Mathlib.Omega.{arith}
 use lib.ListN.{length, take-append-drop}
 use borrow.Author.Tests.{eq-eqb, ne_eqb}
-use Rattle.octets.specs.Reading.{Read, ok, no, ends, be, number}
+use Rattle.octets.specs.Reading.{Read, ok, no, ends, be}
 use Rattle.octets.specs.Writing.{Each, Octet}
 use Rattle.octets.proofs.Ends.{number_ok, number_no, refused}
 use Rattle.layouts.specs.Layout.{Layout, layout_at}

@@ -2,11 +2,9 @@
 use Rattle.std.specs.Prelude.{ℕ, ◌+◌, ◌≤◌, ◌<◌, ◌≡◌, List, length}
 use Rattle.octets.specs.Reading.{Read, ok, no, be}
 use Rattle.kinds.specs.Kinds.{signed}
-use Rattle.layouts.specs.Layout.{Layout}
 use Rattle.layouts.specs.Book.{Book, book_image}
 use Rattle.layouts.specs.Answers.{Looks}
 use Rattle.layouts.specs.declared.Looked.{Looked}
-use Rattle.rows.specs.Row.{Row}
 use Rattle.elements.specs.Element as element
 use Rattle.elements.specs.declared.Met.{Met}
 use Rattle.elements.specs.declared.Met.TheVariants as met

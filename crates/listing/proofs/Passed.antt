@@ -137,7 +137,7 @@ module _ {s : List ℕ} {at : ℕ} {before : List ℕ} {n : ℕ} {octets numbers
       text = element_text pos took.stepped.element
 
       said : text ≡ line (placed p)
-      said = rw (took.is, took.seen) refl
+      said = ap (λ (x : Element). element_text pos x) took.is ∙ ap (λ (q : Seen). element_text q.place (item q.which)) (sym took.seen)
 
       on : {after : List ℕ} {to : ℕ} → Prints mid m text after to → (octets₁ : List ℕ) (used₁ : ℕ) {numbers₁ places₁ steps₁ : List ℕ} {t₁ : Tally} → length octets₁ ≡ book_room
           → Carried octets₁ used₁ numbers₁ places₁ steps₁ t₁ → book_in octets₁ used₁ ≡ y.book → Passed s at before n octets₁ numbers₁ places₁ steps₁ t₁ p.next y.rows used₁ after to

@@ -156,7 +156,7 @@ module _ (buffer lent : List ℕ) (long : book_room ≤ length lent) where
   run_keeps : (r : Run) (cs : List Call) → Each Given cs → Kept r → Kept (goes_on r cs)
   unfolding goes_on
   run_keeps r [] g k = k
-  run_keeps r (c ∷ cs) g k = run_keeps _ cs g.1 (answer_keeps r c g.0 k)
+  run_keeps r (c ∷ cs) g k = run_keeps (answering r c (call r.now.state r.now.buffer r.now.book r.now.used c)) cs g.1 (answer_keeps r c g.0 k)
 
   begun_stands : Inv buffer lent nothing_told (begun buffer lent)
   unfolding book_image images
@@ -278,7 +278,7 @@ same_place back far place h = absurd (h refl)
 stays : (r : Run) (cs : List Call) → (Each Forward r.accepted → r.farthest ≡ 0) → Each Forward (goes_on r cs).accepted → (goes_on r cs).farthest ≡ 0
 unfolding goes_on
 stays r [] h all = h all
-stays r (c ∷ cs) h all = stays _ cs (go (call r.now.state r.now.buffer r.now.book r.now.used c)) all
+stays r (c ∷ cs) h all = stays (answering r c (call r.now.state r.now.buffer r.now.book r.now.used c)) cs (go (call r.now.state r.now.buffer r.now.book r.now.used c)) all
   where
     go : (x : Read Written) → Each Forward (answering r c x).accepted → (answering r c x).farthest ≡ 0
     go (ok v n) f =

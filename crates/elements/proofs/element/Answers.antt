@@ -1,5 +1,4 @@
 -- `elements::element` meets its contract: the number is looked up in the used octets, the element is read over them, and a layout that the book grew by is laid behind them. Assumes nothing.
-use borrow.Author.Rules.{rules}
 use native.Mathlib.Omega.{arith}
 use Prim.Native.Nat.{ℕ, ◌+◌}
 use mathlib.Core.Path.{◌≡◌, sym, ap, ◌∙◌}

@@ -1,5 +1,4 @@
 -- `elements::element_over` meets its contract: the kind says which function answers. Assumes nothing.
-use borrow.Author.Rules.{rules}
 use native.Mathlib.Omega.{arith}
 use mathlib.Core.Path.{sym, ap, ◌∙◌}
 use Rattle.elements.specs.Answers.{tells}

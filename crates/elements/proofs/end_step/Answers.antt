@@ -1,5 +1,4 @@
 -- `elements::end_step` meets its contract: each return by a law of the end. Assumes nothing.
-use borrow.Author.Rules.{rules}
 use native.Mathlib.Omega.{arith}
 use mathlib.Core.Path.{sym, ap, ◌∙◌}
 use mir.Syntax.{w64}

@@ -1,5 +1,4 @@
 -- `elements::grow` meets its contract: the octets of the layout that was read are laid behind the used ones. Assumes nothing.
-use borrow.Author.Rules.{rules}
 use native.Mathlib.Omega.{arith}
 use mathlib.Core.Path.{◌∙◌}
 use Rattle.octets.proofs.Spans.{each_octet}

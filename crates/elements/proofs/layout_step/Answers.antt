@@ -1,5 +1,4 @@
 -- `elements::layout_step` meets its contract: the layout is read to its last type, then judged; each answer by a law of both. Assumes nothing.
-use borrow.Author.Rules.{rules}
 use Prim.Native.Nat.{ℕ, ◌+◌}
 use mathlib.Core.Path.{◌≡◌, refl, sym, ap, ◌∙◌, subst}
 use mathlib.Core.List.{List, [], ◌∷◌, ◌++◌}

@@ -1,5 +1,4 @@
 -- `elements::layout_told` meets its contract: the number and the count of the layout that stands there. Assumes nothing.
-use borrow.Author.Rules.{rules}
 use Rattle.elements.proofs.layout_told.Goals as goal
 
 pub returns : goal.returns

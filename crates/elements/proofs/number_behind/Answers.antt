@@ -1,5 +1,4 @@
 -- `elements::number_behind` meets its contract. Assumes nothing.
-use borrow.Author.Rules.{rules}
 use native.Mathlib.Omega.{arith}
 use mathlib.Core.Path.{refl}
 use Rattle.elements.proofs.number_behind.Goals as goal

@@ -1,5 +1,4 @@
 -- `elements::row_step` meets its contract: a row over the layout that was looked up, or 12. Assumes nothing.
-use borrow.Author.Rules.{rules}
 use native.Mathlib.Omega.{arith}
 use mathlib.Core.Path.{sym, ap, ◌∙◌, subst}
 use Rattle.layouts.specs.Answers.{Stood}

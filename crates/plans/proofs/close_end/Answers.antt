@@ -22,7 +22,6 @@ use Rattle.plans.proofs.close_end.Tie
 
 -- What was answered without the rule.
 module _ (o : Lts.After-octets_end Tie.the-claims Reads.Pre Reads.Post) where
-
   abbrev Doc : List ℕ
   Doc = o.args.doc.now
 

@@ -1,5 +1,4 @@
 -- `row_fields::field_here` meets its contract: the row's refusal, 18 where it has no field n, else the places of the field's attribute and value. Assumes nothing.
-use borrow.Author.Rules.{rules}
 use native.Mathlib.Omega.{arith}
 use Prim.Native.Nat.{ℕ, ◌+◌, ◌<◌}
 use Rattle.layouts.specs.Book.{Book}
@@ -20,7 +19,6 @@ abbrev Accepted : Type 0
 Accepted = Lts.Past-After-known_told2 Tie.the-claims Reads.Pre Reads.Post
 
 module _ (k : Accepted) where
-
   abbrev place : ℕ
   place = k.in-At.place
 

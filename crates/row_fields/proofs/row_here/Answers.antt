@@ -1,5 +1,4 @@
 -- `row_fields::row_here` meets its contract: the row over the layout that was looked up, or its refusal. Assumes nothing.
-use borrow.Author.Rules.{rules}
 use native.Mathlib.Omega.{arith}
 use Prim.Native.Nat.{ℕ}
 use mathlib.Core.Path.{◌≡◌, sym, ap, ◌∙◌, subst}

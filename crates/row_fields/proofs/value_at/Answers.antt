@@ -1,5 +1,4 @@
 -- `row_fields::value_at` meets its contract: each type by the number of its width that stands there, signed where the type is. Assumes nothing.
-use borrow.Author.Rules.{rules}
 use Prim.Native.Nat.{ℕ, ◌+◌, ◌≤◌}
 use mathlib.Core.Path.{◌≡◌, refl, sym, ap, ◌∙◌}
 use mathlib.Core.List.{List}

@@ -1,5 +1,4 @@
 -- `row_fields::value_place` meets its contract: the values of the first n attributes end where value n stands; in a row that is accepted they do end. Assumes nothing.
-use borrow.Author.Rules.{rules}
 use native.Mathlib.Omega.{arith}
 use Prim.Native.Nat.{ℕ, ◌+◌, ◌<◌}
 use mathlib.Core.Path.{◌≡◌, sym, ap, ◌∙◌, subst}

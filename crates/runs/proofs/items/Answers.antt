@@ -78,7 +78,7 @@ loop-n-init c =
       words_long = refl;
     }
 
--- The round k.before.before.before.before.before names.
+-- The round by names.
 abbrev Round : Type 0
 Round = Lts.In-loop Tie.the-claims Reads.Pre Reads.Post goal.the-invariant-loop-n goal.the-decreases-loop-n
 
@@ -200,10 +200,10 @@ abbrev Answered : Type 0
 Answered = Lts.After-go_on Tie.the-claims Reads.Pre Reads.Post goal.the-invariant-loop-n goal.the-decreases-loop-n
 
 abbrev Of : Answered → Round
-Of v = v.before.before.before.before.before.before.before.before.before
+Of v = v.before.before.before.before.before.before.before.before
 
 module _ (v : Answered) where
-  -- The words k.before.before.before.before.before the index on, before and behind.
+  -- The words from the index on, before and behind.
   abbrev rest : List ℕ
   rest = mid_of (n (Of v)) (length (words (Of v)) - n (Of v)) (words (Of v))
 
@@ -271,8 +271,8 @@ loop-n-preserved-in-Rows c =
       words_long = words-long₁ c.before.before.before.before;
     }
   where
-    over-inside : (c : Strode) → next c.before ≤ length (doc (Of c.before.before.before.before))
-    over-inside c.before = (over c.before).1.inside
+    over-inside : (k : Strode) → next k ≤ length (doc (Of k.before.before.before))
+    over-inside k = (over k).1.inside
 
 -- A turn that stops.
 refuses : (v : Answered) (m p : ℕ) → GoesOn-by v (moved.Refused m p) → turn_over (doc (Of v)) (here (Of v)) ≡ stops (refused m p)
@@ -309,7 +309,7 @@ returns c =
     let full : c.loop-n.n ≡ 4096 = omega (arith, g.run.few, c.loop-n-test.false) in
     went_some a.doc.now x a.words.now g.run (omega arith) none (run_full a.doc.now x a.words.now g.run full)
 
--- An item, k.before.before.before.before.before names.
+-- An item, by names.
 abbrev Item : Type 0
 Item = Lts.Past-After-known_told4 Tie.the-claims Reads.Pre Reads.Post goal.the-invariant-loop-n goal.the-decreases-loop-n
 
@@ -389,7 +389,7 @@ item_word-requires c = omega (arith, near c.before)
 
 -- There is room for it.
 pub bounds-words-n : goal.bounds-words-n
-bounds-words-n c = let t = within c.before.before in omega (arith, words-long₁ c.before.before.before.before.before, t.before.before.before.before.before.before.before.before.before.before.pre.4, room t)
+bounds-words-n c = let t = within c.before.before in omega (arith, words-long₁ c.before.before.before.before.before, c.requires.4, room t)
 
 -- An item whose layout is not new.
 pub loop-n-preserved : goal.loop-n-preserved
@@ -417,7 +417,7 @@ module _ (g : Grew) where
 pub grow-requires : goal.grow-requires
 grow-requires c =
     let t = in-round c.before.before.before.before in
-    let k = w.before c.before.before.before.before in (
+    let k = c.before.before.before.before.before in (
       short t,
       (carried t).is,
       subst (λ (x : Gone). Grows (doc t) (pos t) x.next (book t)) (met k).3
@@ -431,9 +431,9 @@ pub keep-tally-requires : goal.keep-tally-requires
 keep-tally-requires c =
     let t = in-round c.before.before.before.before.before.before.before.before.before.before in
     let k = (carried t).kept in
-    let (known, t.before.before.before.before.before.before.before.before.before.before, end) = tally_bounds (tally t) (book t) k.tally in
+    let (known, start, end) = tally_bounds (tally t) (book t) k.tally in
     let n = newly c.before.before.before.before.before.before.before.before in
-    (short t, ap is_ok n.reads, k.planned.long, omega (arith, n.few), t.before.before.before.before.before.before.before.before.before.before, end, omega (arith, (held t).most))
+    (short t, ap is_ok n.reads, k.planned.long, omega (arith, n.few), start, end, omega (arith, (held t).most))
 
 pub loop-n-preserved-then-filled-gone : goal.loop-n-preserved-then-filled-gone
 unfolding newly
@@ -452,7 +452,7 @@ loop-n-preserved-then-filled-gone c =
 lies : (r : Reached) → n r.before.before ≤ length (words r.before.before)
 lies r = omega (arith, words-full r.before.before, room r.before.before)
 
--- Book and words come back as long as they were lent, k.before.before.before.before.before a refusal and k.before.before.before.before.before the end.
+-- Book and words come back as long as they were lent, from a refusal and from the end.
 module _ (v : Answered) where
   book_back : length (octets (Of v)) ≡ length (entry (Of v))
   book_back = (going (Of v)).book-long

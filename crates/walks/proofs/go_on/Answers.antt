@@ -1,6 +1,5 @@
 -- `walks::go_on` meets its contract: over rows by plans; where none was passed, the number behind the kind is looked up by its position, and the element is read over the layout that stands there.
 -- Assumes nothing.
-use borrow.Author.Rules.{rules}
 use native.Mathlib.Omega.{arith}
 use Prim.Native.Nat.{ℕ, ◌≤◌}
 use mathlib.Core.Path.{◌≡◌, refl, sym, ap, ◌∙◌, subst}

@@ -1,15 +1,10 @@
 -- `walks::index` meets its contract. The invariant: of every such book the layouts met are kept, and those left stand from here on.
 -- The measure is what is left of the octets. Assumes nothing.
-use borrow.Author.Rules.{rules}
-use native.Mathlib.Omega.{arith}
-use Prim.Native.Nat.{ℕ, ◌-◌, ◌<◌}
-use mathlib.Core.Path.{sym, subst}
-use mathlib.Core.List.{List}
+use Prim.Native.Nat.{◌-◌}
 use lib.ListN.{length}
 use Rattle.layouts.specs.Book.{Book}
 use Rattle.walks.specs.Kept.{Image}
-use Rattle.walks.specs.declared.Tally.{Tally}
-use Rattle.walks.proofs.Indexing.{Met, Here, met_none, met_here, met_all}
+use Rattle.walks.proofs.Indexing.{Met}
 use Rattle.walks.proofs.index.Given as goal
 
 abbrev pub invariant-loop-pos : goal.invariant-loop-pos

@@ -1,5 +1,4 @@
 -- `walks::index_of` meets its contract: each return is of an index whose number was compared, and the number's position is the only other. Assumes nothing.
-use borrow.Author.Rules.{rules}
 use native.Mathlib.Omega.{arith}
 use Rattle.walks.proofs.Shelves.{position_lacks}
 use Rattle.walks.proofs.index_of.Goals as goal

@@ -1,5 +1,4 @@
 -- `walks::keep` meets its contract: the plan of the layout's attributes is put behind the others, which stay, where there is room for it. Assumes nothing.
-use borrow.Author.Rules.{rules}
 use native.Mathlib.Omega.{arith}
 use Prim.Native.Nat.{ℕ, ◌+◌, ◌*◌}
 use mathlib.Core.Path.{◌≡◌, refl, sym, ap, ◌∙◌, subst}

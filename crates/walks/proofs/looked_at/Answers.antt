@@ -1,5 +1,4 @@
 -- `walks::looked_at` meets its contract: the layout of a position stands at its place, and behind all there is none. Assumes nothing.
-use borrow.Author.Rules.{rules}
 use native.Mathlib.Omega.{arith}
 use Prim.Native.Nat.{ℕ}
 use mathlib.Core.Path.{sym, subst}

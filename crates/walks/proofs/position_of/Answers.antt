@@ -1,6 +1,6 @@
 -- `walks::position_of` meets its contract. The invariant: none of the numbers passed is this one. Assumes nothing.
 use native.Mathlib.Omega.{arith}
-use Prim.Native.Nat.{ℕ, ◌-◌, ◌%◌, ◌≤◌, ◌<◌}
+use Prim.Native.Nat.{ℕ, ◌%◌}
 use mathlib.Core.Path.{◌≡◌}
 use lib.ListN.{get_or}
 use Rattle.walks.proofs.Shelves.{none_more, at_position, no_position}

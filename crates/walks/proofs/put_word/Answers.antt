@@ -1,5 +1,4 @@
 -- `walks::put_word` meets its contract: past the end a store changes nothing. Assumes nothing.
-use borrow.Author.Rules.{rules}
 use native.Mathlib.Omega.{arith}
 use mathlib.Core.Path.{sym}
 use lib.Seq.{set_out}

@@ -1,6 +1,5 @@
 -- `walks::quick_row` meets its contract: the number that was found is that of a layout of the book, and its plan passes the row's values.
 -- Where it is unsure, no row stands there, its number has no plan, or it is refused. Assumes nothing.
-use borrow.Author.Rules.{rules}
 use native.Mathlib.Omega.{arith}
 use Prim.Native.Nat.{ℕ, ◌+◌, ◌^◌, ◌≤◌, ◌<◌}
 use mathlib.Core.Path.{◌≡◌, sym, ap, ◌∙◌, subst}

@@ -1,5 +1,4 @@
 -- `walks::row_word` meets its contract. Assumes nothing.
-use borrow.Author.Rules.{rules}
 use native.Mathlib.Omega.{arith}
 use Rattle.walks.proofs.row_word.Goals as goal
 

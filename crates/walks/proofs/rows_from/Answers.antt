@@ -1,8 +1,7 @@
 -- `walks::rows_from` meets its contract. The invariant: a way from the start, with its book kept by the document itself; the count is that of the spot that it reached.
 -- The measure is what is left of the document. Assumes nothing.
-use borrow.Author.Rules.{rules}
 use native.Mathlib.Omega.{arith}
-use Prim.Native.Nat.{ℕ, ◌+◌, ◌-◌, ◌≤◌, ◌<◌}
+use Prim.Native.Nat.{ℕ, ◌+◌, ◌≤◌, ◌<◌}
 use mathlib.Core.Path.{◌≡◌, sym, ap, ◌∙◌, subst}
 use mathlib.Core.List.{List, [], ◌∷◌, ◌++◌}
 use mathlib.Core.Option.{some}
@@ -26,7 +25,6 @@ use Rattle.walks.proofs.Marks.{tally_bounds}
 use Rattle.walks.proofs.Keeping.{kept_none}
 use Rattle.walks.proofs.Moves.{Newly, item_moves}
 use Rattle.walks.proofs.Ways.{OnWay, way_start, way_bears, way_few, way_rows, way_old, way_newly, way_new, moved_item, moved_end, moved_refused}
-use Rattle.walks.proofs.rows_from.Invariants.{Going}
 use Rattle.walks.proofs.rows_from.Goals as goal
 use Rattle.walks.proofs.rows_from.Lts
 use Rattle.walks.proofs.rows_from.Reads
@@ -136,7 +134,6 @@ abbrev Strode : Type 0
 Strode = Lts.Past-After-known_told Tie.the-claims Reads.Pre Reads.Post goal.the-invariant-loop-next goal.the-decreases-loop-next
 
 module _ (k : Strode) where
-
   abbrev next : ℕ
   next = k.in-Rows.next
 
@@ -168,7 +165,6 @@ abbrev Item : Type 0
 Item = Lts.After-struct_known Tie.the-claims Reads.Pre Reads.Post goal.the-invariant-loop-next goal.the-decreases-loop-next
 
 module _ (m : Item) where
-
   abbrev gone : Gone
   gone = m.in-Item.gone
 
@@ -216,16 +212,15 @@ loop-next-preserved-then-used-gone c =
     )
 
 pub loop-next-preserved : goal.loop-next-preserved
-loop-next-preserved c =
-    (
-      (
-        passed c.before.before.before.before.before ++ (met c.before.before).0 ∷ [],
-        subst (Behind c.before.before (numbers c.before.before.before.before.before) (places c.before.before.before.before.before) (steps c.before.before.before.before.before) (tally c.before.before.before.before.before)) (met c.before.before).3
-            (way_old (doc c.before.before.before.before.before) (octets c.before.before.before.before.before) (short c.before.before.before.before.before) (first c.before.before.before.before.before) (passed c.before.before.before.before.before) (doc c.before.before.before.before.before) (numbers c.before.before.before.before.before) (places c.before.before.before.before.before) (steps c.before.before.before.before.before) (tally c.before.before.before.before.before) (pos c.before.before.before.before.before) (rows c.before.before.before.before.before) (used c.before.before.before.before.before) (way c.before.before.before.before.before) (met c.before.before).0 (met c.before.before).1 (met c.before.before).2
-            (subst (λ (x : Gone). x.used ≤ used c.before.before.before.before.before) (sym (met c.before.before).3) c.if-used-gone.false)),
-      ),
-      words_long c.before.before.before.before.before,
-    )
+loop-next-preserved c = (
+  (
+    passed c.before.before.before.before.before ++ (met c.before.before).0 ∷ [],
+    subst (Behind c.before.before (numbers c.before.before.before.before.before) (places c.before.before.before.before.before) (steps c.before.before.before.before.before) (tally c.before.before.before.before.before)) (met c.before.before).3
+        (way_old (doc c.before.before.before.before.before) (octets c.before.before.before.before.before) (short c.before.before.before.before.before) (first c.before.before.before.before.before) (passed c.before.before.before.before.before) (doc c.before.before.before.before.before) (numbers c.before.before.before.before.before) (places c.before.before.before.before.before) (steps c.before.before.before.before.before) (tally c.before.before.before.before.before) (pos c.before.before.before.before.before) (rows c.before.before.before.before.before) (used c.before.before.before.before.before) (way c.before.before.before.before.before) (met c.before.before).0 (met c.before.before).1 (met c.before.before).2
+        (subst (λ (x : Gone). x.used ≤ used c.before.before.before.before.before) (sym (met c.before.before).3) c.if-used-gone.false)),
+  ),
+  words_long c.before.before.before.before.before,
+)
 
 pub slice_bounds-go_on-end : goal.slice_bounds-go_on-end
 slice_bounds-go_on-end c = sym c.loop-next.invariant.1

@@ -1,7 +1,6 @@
 -- `walks::rows_on` meets its contract. The invariant: the way over the rows passed leads up to here, and their words are put. The measure is what is left of the words. Assumes nothing.
-use borrow.Author.Rules.{rules}
 use native.Mathlib.Omega.{arith}
-use Prim.Native.Nat.{ℕ, ◌+◌, ◌-◌, ◌%◌, ◌≤◌, ◌<◌}
+use Prim.Native.Nat.{ℕ, ◌+◌, ◌%◌, ◌≤◌, ◌<◌}
 use mathlib.Core.Path.{◌≡◌, refl, sym, ap, ◌∙◌, subst}
 use mathlib.Core.List.{List}
 use lib.ListN.{length, get_or}
@@ -76,7 +75,6 @@ abbrev Row : Type 0
 Row = Lts.Past-After-known_told Tie.the-claims Reads.Pre Reads.Post goal.the-invariant-loop-n goal.the-decreases-loop-n
 
 module _ (r : Row) where
-
   abbrev Next : ℕ
   Next = r.in-Row.next
 

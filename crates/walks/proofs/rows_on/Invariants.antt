@@ -1,22 +1,11 @@
 -- `walks::rows_on` meets its contract. The invariant: the way over the rows passed leads up to here, and their words are put. The measure is what is left of the words. Assumes nothing.
-use borrow.Author.Rules.{rules}
-use native.Mathlib.Omega.{arith}
-use Prim.Native.Nat.{ℕ, ◌+◌, ◌-◌, ◌%◌, ◌≤◌, ◌<◌}
-use mathlib.Core.Path.{◌≡◌, refl, sym, ap, ◌∙◌, subst}
-use mathlib.Core.List.{List}
-use lib.ListN.{length, get_or}
-use lib.Dec.{ltb}
-use Rattle.octets.specs.Reading.{be}
-use Rattle.octets.specs.Writing.{Each, Octet}
-use Rattle.octets.proofs.Spans.{each_octet}
+use Prim.Native.Nat.{ℕ, ◌-◌, ◌≤◌, ◌<◌}
+use mathlib.Core.Path.{◌≡◌}
+use lib.ListN.{length}
 use Rattle.layouts.specs.Book.{Book}
-use Rattle.rows.proofs.Named.{row_says_lem, row_inside}
 use Rattle.elements.specs.Walk.{spot_at}
 use Rattle.walks.specs.Kept.{Planned}
-use Rattle.walks.specs.Rows.{row_word, Passes, Tried, Passage}
-use Rattle.walks.specs.declared.Quick.{Quick}
-use Rattle.walks.specs.declared.Quick.TheVariants as quick
-use Rattle.walks.proofs.Rows.{passage_none, passage_more}
+use Rattle.walks.specs.Rows.{Passage}
 use Rattle.walks.proofs.rows_on.Given as goal
 
 abbrev pub invariant-loop-n : goal.invariant-loop-n

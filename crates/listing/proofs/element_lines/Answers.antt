@@ -1,0 +1,184 @@
+-- `listing::element_lines` meets its contract. The invariant: the lines of the items passed are printed, over octets that carry the book that they left.
+-- The measure is what is left of the document: an item goes on. Assumes nothing.
+use borrow.Author.Rules.{rules}
+use native.Mathlib.Omega.{arith}
+use Prim.Native.Nat.{ℕ, ◌-◌, ◌≤◌}
+use mathlib.Core.Path.{◌≡◌, refl, sym, ap, ◌∙◌, subst}
+use mathlib.Core.List.{List}
+use mir.Syntax.{w64}
+use mir.Facts.{to_z-of_z}
+use lib.ListN.{length, take, length-replicate}
+use lib.Seq.{length-take-le}
+use Rattle.octets.specs.Limits.{longest}
+use Rattle.octets.specs.Reading.{is_ok}
+use Rattle.octets.specs.Writing.{Each, Octet}
+use Rattle.octets.proofs.Spans.{each_octet}
+use Rattle.layouts.specs.Book.{Book, book_in}
+use Rattle.elements.specs.Walk.{spot_at}
+use Rattle.walks.specs.Answers.{GoesOn}
+use Rattle.walks.specs.declared.Gone.{Gone}
+use Rattle.walks.specs.declared.Moved.{Moved}
+use Rattle.walks.proofs.Marks.{tally_bounds}
+use Rattle.printing.specs.Text.{Prints}
+use Rattle.printing.proofs.Puts.{says}
+use Rattle.lines.specs.Lines.{end_text, element_text}
+use Rattle.listing.proofs.Passed.{Passed, passed_start, passed_lent, passed_bears, passed_refused, passed_end, Grown, Goes, passed_item}
+use Rattle.listing.proofs.element_lines.Goals as goal
+use Rattle.listing.proofs.element_lines.Lts
+use Rattle.listing.proofs.element_lines.Reads
+use Rattle.listing.proofs.element_lines.Tie
+
+pub loop-next-init : goal.loop-next-init
+loop-next-init c =
+    (refl, rw c.nothing-tally.ensures (passed_start c.args.doc.now c.args.at c.args.out.now c.args.n c.requires.0), length-replicate {A = ℕ} 1 0)
+
+-- A turn by names: the document, and what holds.
+abbrev Turn : Type 0
+Turn = Lts.At-loop Tie.the-claims Reads.Pre Reads.Post goal.the-invariant-loop-next goal.the-decreases-loop-next
+
+module _ (t : Turn) where
+  abbrev doc : List ℕ
+  doc = t.args.doc.now
+
+  short : length doc ≤ longest
+  short = t.requires.1
+
+  octets : Each Octet doc
+  octets = each_octet doc t.shared_slice_known-1.given
+
+  abbrev held : Book
+  held = book_in t.loop-next.book t.loop-next.used
+
+  passed : let l = t.loop-next in
+      let a = t.args in
+      Passed doc a.at a.out.now a.n l.book l.numbers l.places l.steps l.tally l.pos l.rows l.used l.out l.to
+  passed = t.loop-next.invariant.1
+
+  fits : t.loop-next.used ≤ length t.loop-next.book
+  fits = omega (arith, (passed_lent passed).most, (passed_lent passed).room)
+
+  shelf : length (take t.loop-next.used t.loop-next.book) ≡ t.loop-next.used
+  shelf = length-take-le t.loop-next.used t.loop-next.book fits
+
+pub go_on-moved-requires : goal.go_on-moved-requires
+go_on-moved-requires c =
+    ((passed c.before.before.before.before.before.before.before).inside, short c.before.before.before.before.before.before.before, omega (arith, short c.before.before.before.before.before.before.before, (passed c.before.before.before.before.before.before.before).few, (passed c.before.before.before.before.before.before.before).inside), omega (arith, shelf c.before.before.before.before.before.before.before, (passed_lent (passed c.before.before.before.before.before.before.before)).most), record { book = held c.before.before.before.before.before.before.before; bears = passed_bears (passed c.before.before.before.before.before.before.before) })
+
+-- How it went on.
+abbrev Answered : Type 0
+Answered = Lts.After-go_on Tie.the-claims Reads.Pre Reads.Post goal.the-invariant-loop-next goal.the-decreases-loop-next
+
+module _ (v : Answered) where
+  abbrev words : List ℕ
+  words = v.go_on-moved.new.words
+
+  words_long : length words ≡ 1
+  words_long = v.go_on-moved.auto.words ∙ v.loop-next.invariant.2
+
+  abbrev On : Moved → Type 0
+  On x = GoesOn (doc v.before.before.before.before.before.before.before) (spot_at v.loop-next.pos v.loop-next.rows (held v.before.before.before.before.before.before.before)) v.loop-next.numbers v.loop-next.tally.known v.loop-next.numbers 0 v.loop-next.words words x
+
+  went : (x : Moved) → v.go_on-moved.result ≡ x → On x
+  went x e = subst On e (v.go_on-moved.ensures (held v.before.before.before.before.before.before.before) (passed_bears (passed v.before.before.before.before.before.before.before)))
+
+-- Not over a row.
+never : (k : Lts.After-known_told Tie.the-claims Reads.Pre Reads.Post goal.the-invariant-loop-next goal.the-decreases-loop-next) → ⊥
+never k = let (some, none) = went k.before.before.before.before _ k.moved-1.given.1 in omega (arith, none.few)
+
+pub returns-in-Rows : goal.returns-in-Rows
+returns-in-Rows c = absurd (never c.before)
+
+pub returns-in-Refused : goal.returns-in-Refused
+returns-in-Refused c =
+    let m.before.before.before.before = c.before.before.before.before.before in
+    let v = m.before.before.before.before.before.before.before.before in
+    let t = v.before.before.before.before.before.before.before in
+    passed_refused (passed t) (octets t) (short t) _ _ (sym (went v _ m.before.before.before.before.before.moved2.given.1).is) c.refused_line.ensures
+
+pub returns-in-End : goal.returns-in-End
+returns-in-End c =
+    let m.before.before.before.before = c.before.before.before.before.before in
+    let v = m.before.before.before.before.before.before.before.before in
+    let t = v.before.before.before.before.before.before.before in
+    let exact = to_z-of_z {w = w64} (record { sfits = m.before.before.before.before.known-told3.given.1.0.1 }) in
+    passed_end (passed t) (octets t) (short t) _ _ _ (sym (went v _ m.before.before.before.before.before.moved3.given.1).is) (says (ap (end_text t.loop.pos _) exact) c.end_line.ensures)
+
+-- An item, by names.
+abbrev Item : Type 0
+Item = Lts.After-known_told4 Tie.the-claims Reads.Pre Reads.Post goal.the-invariant-loop-next goal.the-decreases-loop-next
+
+module _ (m : Item) where
+
+  abbrev by : Turn
+  by = m.before.before.before.before.before.before.before.before.before.before.before
+
+  abbrev gone : Gone
+  gone = m.moved-in-Item-1.given.0.0
+
+  goes : Goes (passed by) (octets by) (short by) gone
+  goes = passed_item (passed by) (octets by) (short by) gone (sym (went m.before.before.before.before _ m.moved-in-Item-1.given.1).is)
+
+-- Its line.
+abbrev Lined : Type 0
+Lined = Lts.After-element_line Tie.the-claims Reads.Pre Reads.Post goal.the-invariant-loop-next goal.the-decreases-loop-next
+
+module _ (line : Lined) where
+
+  put : let l = (by line.before.before.before).loop in Prints l.out l.to (element_text l.pos (goes line.before.before.before).stepped.element) line.element_line-to.new.out line.element_line-to.result
+  put = let k = goes line.before.before.before in line.element_line-to.ensures k.stepped (gone line.before.before.before).next k.reads k.met
+
+  out-long : length line.element_line-to.new.out ≡ length (by line.before.before.before).before.before.before.before.args.out.now
+  out-long = line.element_line-to.auto.out ∙ (by line.before.before.before).loop.inv.0
+
+-- One whose layout is new.
+abbrev Grew : Type 0
+Grew = Lts.Then1 Tie.the-claims Reads.Pre Reads.Post goal.the-invariant-loop-next goal.the-decreases-loop-next
+
+module _ (g : Grew) where
+
+  abbrev turn : Turn
+  turn = by g.before.before.before.before.before.before.before
+
+  grown : Grown (passed turn) (octets turn) (short turn) (gone g.before.before.before.before.before.before.before) (element_text turn.loop.pos (goes g.before.before.before.before.before.before.before).stepped.element)
+  grown = (goes g.before.before.before.before.before.before.before).new g.if-used-gone.true
+
+pub keep-tally-requires : goal.keep-tally-requires
+keep-tally-requires c =
+    let k = (passed (turn c.before.before.before.before.before.before.before)).carried.kept in
+    let (known, start, end) = tally_bounds (turn c.before.before.before.before.before.before.before).loop.tally (held (turn c.before.before.before.before.before.before.before)) k.tally in
+    (short (turn c.before.before.before.before.before.before.before), ap is_ok (grown c.before.before.before.before.before.before.before).reads, k.planned.long, omega (arith, (grown c.before.before.before.before.before.before.before).few), start, end, omega (arith, (passed_lent (passed (turn c.before.before.before.before.before.before.before))).most))
+
+pub loop-next-preserved-then-used-gone : goal.loop-next-preserved-then-used-gone
+loop-next-preserved-then-used-gone c =
+    let new = grown c.before.before.before.before.before.before.before.before in
+    (out-long c.before.before.before.before.before.before.before.before.before.before.before.before, new.on (put c.before.before.before.before.before.before.before.before.before.before.before.before) c.grow.auto.book c.grow.ensures (c.keep-tally.ensures new.layout _ new.reads), words_long (m.before.before.before.before (line.before.before.before c.before.before.before.before.before.before.before.before.before.before.before.before)))
+
+pub loop-next-preserved : goal.loop-next-preserved
+loop-next-preserved c = (out-long c.before.before.before.before.before, (goes c.before.before.before.before.before.before.before.before).old c.if-used-gone.false (put c.before.before.before.before.before), words_long (m.before.before.before.before c.before.before.before.before.before.before.before.before))
+
+pub slice_bounds-go_on-end : goal.slice_bounds-go_on-end
+slice_bounds-go_on-end c = sym (shelf c.before.before)
+
+pub slice_bounds-go_on-end-in-loop-next : goal.slice_bounds-go_on-end-in-loop-next
+slice_bounds-go_on-end-in-loop-next c = sym c.loop-next.invariant.2
+
+pub shape_of-out-in-Rows : goal.shape_of-out-in-Rows
+shape_of-out-in-Rows c = absurd (never c.before)
+
+pub slice_bounds-element_line-end : goal.slice_bounds-element_line-end
+slice_bounds-element_line-end c = sym (passed (by c.before.before)).size
+
+pub slice_bounds-grow-end : goal.slice_bounds-grow-end
+slice_bounds-grow-end c = sym (passed (turn c.before.before)).size
+
+pub grow-requires : goal.grow-requires
+grow-requires c = let t = turn c.before.before in (short t, (passed t).carried.is, (grown c.before.before).grows)
+
+pub overflow_add-pos : goal.overflow_add-pos
+overflow_add-pos c = omega (arith, (goes (line.before.before.before c.before.before.before.before.before.before.before.before)).further, short (turn c.before.before.before.before))
+
+pub loop-next-smaller-then-used-gone : goal.loop-next-smaller-then-used-gone
+loop-next-smaller-then-used-gone c = omega (arith, (goes (line.before.before.before c.before.before.before.before.before.before.before.before.before.before.before.before)).further)
+
+pub loop-next-smaller : goal.loop-next-smaller
+loop-next-smaller c = omega (arith, (goes c.before.before.before.before.before.before.before.before).further)
