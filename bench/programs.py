@@ -10,7 +10,7 @@ HERE = pathlib.Path(__file__).resolve().parent
 ROOT = HERE.parent
 OUT = ROOT / "target" / "bench"
 ARCHIVE = ROOT / "target" / "staticlib" / "libcollector.a"
-LACKING = "no target/staticlib/libcollector.a, which `rt staticlib collector` makes"
+LACKING = "no target/staticlib/libcollector.a, which `tools/build collector` makes"
 
 # For x86-64, on any processor.
 CC = ROOT / "tools" / "cc"

@@ -1,6 +1,6 @@
 /* ipdr.h: reading IPDR/XDR documents of version 4 from C.
  *
- * Link with target/staticlib/libcollector.a, which `rt staticlib collector` makes. It is for x86-64, needs no library
+ * Link with target/staticlib/libcollector.a, which `tools/build collector` makes. It is for x86-64, needs no library
  * but C's, allocates nothing, keeps nothing between calls, and may be called from several threads at once.
  *
  * Every call takes any octets and any numbers, comes to an end, and answers 0 where it accepts, else a refusal: one

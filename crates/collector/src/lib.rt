@@ -1,4 +1,4 @@
-// Reading for C callers: the header check, one step, a run of steps and the whole check, on numbers and octet slices. Each takes every input.
+// Reading for C callers: the header check, one step, a run of steps and the whole check, on numbers and octet slices. Each takes every input. Crate collector_c exports them to C.
 // How answers are packed for C stands in specs/Calls.antt; what they are is defined where reading and runs say.
 
 #![tactic(auto)]
@@ -54,8 +54,7 @@ fn words_of(met: Met, next: u64, rows: u64, used: u64) -> [u64; 8]
 }
 
 // The header check: its numbers go to the first four words.
-#[unsafe(no_mangle)]
-pub extern "C" fn ipdr_header(doc: &[u8], out: &mut [u64; 8]) -> u64
+pub fn ipdr_header(doc: &[u8], out: &mut [u64; 8]) -> u64
     ensures { (result ≡ answered (header_at doc.now)) × (out.new ≡ head_leaves out.old (header_at doc.now)) }
 {
     let headed = reading::header(doc);
@@ -73,8 +72,7 @@ pub extern "C" fn ipdr_header(doc: &[u8], out: &mut [u64; 8]) -> u64
 }
 
 // One step: its words go to all eight, and a new layout to the book.
-#[unsafe(no_mangle)]
-pub extern "C" fn ipdr_step<'d, 'b, 'o>(
+pub fn ipdr_step<'d, 'b, 'o>(
     doc: &'d [u8],
     at: u32,
     rows: u32,
@@ -101,8 +99,7 @@ pub extern "C" fn ipdr_step<'d, 'b, 'o>(
 }
 
 // A run of steps: how many layouts and rows it has passed and where it stands then go to the first four words, each layout and row to a word of its own, and new layouts to the book.
-#[unsafe(no_mangle)]
-pub extern "C" fn ipdr_run<'d, 'b, 'w, 'o>(
+pub fn ipdr_run<'d, 'b, 'w, 'o>(
     doc: &'d [u8],
     at: u32,
     rows: u32,
@@ -131,8 +128,7 @@ pub extern "C" fn ipdr_run<'d, 'b, 'w, 'o>(
 }
 
 // The whole check: the row count.
-#[unsafe(no_mangle)]
-pub extern "C" fn ipdr_whole(doc: &[u8], rows: &mut u64) -> u64
+pub fn ipdr_whole(doc: &[u8], rows: &mut u64) -> u64
     ensures { (result ≡ answered (whole doc.now)) × (rows.new ≡ count_leaves rows.old (whole doc.now)) }
 {
     let checked = reading::whole(doc);

@@ -12,7 +12,6 @@ use Rattle.octets.proofs.Spans.{length_word}
 use Rattle.octets.proofs.Copies.{rest}
 use Rattle.layouts.specs.Book.{IsBook}
 use Rattle.layouts.proofs.Checks.{good_book}
-use Rattle.kinds.specs.Forms.{Value}
 use Rattle.writer.specs.declared.Wanted.TheVariants as wants
 use Rattle.writer.specs.declared.State.{State}
 use Rattle.writer.specs.Writer.{room, same_turn}

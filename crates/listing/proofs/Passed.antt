@@ -1,6 +1,6 @@
 -- A listing on the way: the lines of the items passed are printed, over octets that carry their book, and the lines of the walk are those and what is printed from here on.
 use Prim.Native.Nat.{ℕ, ◌+◌, ◌≤◌, ◌<◌}
-use mathlib.Core.Path.{◌≡◌, refl, sym, ap, ◌∙◌, subst}
+use mathlib.Core.Path.{◌≡◌, sym, ap, ◌∙◌, subst}
 use mathlib.Core.List.{List, [], ◌∷◌, ◌++◌, append_assoc, append-nil}
 use mathlib.Core.Option.{some}
 use native.Mathlib.Omega.{arith}
@@ -15,7 +15,7 @@ use Rattle.layouts.specs.Layout.{Layout, layout_at}
 use Rattle.layouts.specs.Book.{book_image, book_in}
 use Rattle.layouts.proofs.Books.{Lent}
 use Rattle.layouts.proofs.Lends.{empty_book_lem}
-use Rattle.elements.specs.Element.{item, Stepped, element_at}
+use Rattle.elements.specs.Element.{Element, item, Stepped, element_at}
 use Rattle.elements.specs.Steps.{holding, step_at}
 use Rattle.elements.specs.Answers.{met_of, Grows}
 use Rattle.elements.specs.Walk.{Stop, ended, refused, Seen, goes, stops, Walk, standing, behind, Path, Spot, spot_at, spot_of, turn_at, through}

@@ -99,18 +99,18 @@ module _ (s : List ℕ) (o : Each Octet s) where
   further (p ∷ []) x y h some_passed = let m = over_moves s x o p h.0 h.1 in rw (← h.2) (omega arith, m.1)
   further (p ∷ q ∷ ps) x y h some_passed = let m = over_moves s x o p h.0 h.1 in let n = further (q ∷ ps) h.0 y h.2 (omega arith) in (omega arith, n.1)
 
-  abbrev Read-on : Lent → Type 0
-  Read-on x = (ps : List Placed) × (e : Ending) × ByRuns s x ps e
+  abbrev ReadOn : Lent → Type 0
+  ReadOn x = (ps : List Placed) × (e : Ending) × ByRuns s x ps e
 
-  reads : (k : ℕ) (x : Lent) → length s - x.at < k → Read-on x
+  reads : (k : ℕ) (x : Lent) → length s - x.at < k → ReadOn x
   reads zero x h = absurd (omega arith)
   reads (suc k) x h = by (run_asked s x) refl (λ y. reads k y)
     where
-      by : (r : Read (Walk Lent)) → run_asked s x ≡ r → ((y : Lent) → length s - y.at < k → Read-on y) → Read-on x
+      by : (r : Read (Walk Lent)) → run_asked s x ≡ r → ((y : Lent) → length s - y.at < k → ReadOn y) → ReadOn x
       by (no n p) e again = ([], refused n p, refuse e)
       by (ok w j) e again = of (length w.seen) refl
         where
-          of : (m : ℕ) → length w.seen ≡ m → Read-on x
+          of : (m : ℕ) → length w.seen ≡ m → ReadOn x
           of zero empty = let (st, next, f) = (asked_is s x e).1 in (_, _, end e empty f)
           of (suc m) q =
               let more : 0 < length w.seen = omega arith in

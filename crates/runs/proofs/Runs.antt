@@ -17,7 +17,6 @@ use Rattle.walks.specs.Rows.{laid}
 use Rattle.walks.proofs.Rows.{laid_both, laid_from}
 use Rattle.runs.specs.Runs.{item_word, words_of, run_asked}
 use Rattle.runs.specs.Answers.{Ran}
-use Rattle.runs.specs.declared.Went.{Went}
 use Rattle.runs.specs.declared.Running.TheVariants as running
 
 words_append : (ps qs : List Seen) → words_of (ps ++ qs) ≡ words_of ps ++ words_of qs

@@ -1,5 +1,4 @@
 -- `collector::ipdr_run` meets its contract: what the run tells, packed where it is refused, and book and words as the run leaves them. Assumes nothing.
-use borrow.Author.Rules.{rules}
 use native.Mathlib.Omega.{arith}
 use Prim.Native.Nat.{ℕ}
 use mathlib.Core.Path.{◌≡◌, sym, ap, ◌∙◌, subst}

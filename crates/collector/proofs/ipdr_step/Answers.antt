@@ -1,5 +1,4 @@
 -- `collector::ipdr_step` meets its contract: what reading tells of the step, packed where it is refused, and the book as reading leaves it. Assumes nothing.
-use borrow.Author.Rules.{rules}
 use native.Mathlib.Omega.{arith}
 use Prim.Native.Nat.{ℕ}
 use mathlib.Core.Path.{◌≡◌, sym, ap, ◌∙◌, subst}

@@ -1,5 +1,4 @@
 -- `collector::ipdr_whole` meets its contract: what reading tells of the whole check, packed where it is refused. Assumes nothing.
-use borrow.Author.Rules.{rules}
 use Prim.Native.Nat.{ℕ}
 use mathlib.Core.Path.{◌≡◌, sym, ap, ◌∙◌, subst}
 use mathlib.Core.List.{List}

@@ -1,5 +1,4 @@
 -- `collector::words_of` meets its contract: the element by its cases. Assumes nothing.
-use borrow.Author.Rules.{rules}
 use mir.Syntax.{w64}
 use mir.Facts.{to_z-of_z}
 use Rattle.collector.proofs.words_of.Goals as goal

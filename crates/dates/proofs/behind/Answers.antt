@@ -1,5 +1,4 @@
 -- `dates::behind` meets its contract. Assumes nothing.
-use borrow.Author.Rules.{rules}
 use Rattle.printing.proofs.Puts.{then}
 use Rattle.dates.proofs.behind.Goals as goal
 

@@ -1,5 +1,4 @@
 -- `dates::clock` meets its contract. Assumes nothing.
-use borrow.Author.Rules.{rules}
 use Rattle.printing.proofs.Puts.{then}
 use Rattle.dates.proofs.clock.Goals as goal
 

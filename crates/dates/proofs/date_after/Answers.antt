@@ -1,10 +1,9 @@
 -- `dates::date_after` meets its contract. The invariant: the day left, from the year reached on, is the day given.
 -- The measure is the years to come before 9999. Assumes nothing.
-use borrow.Author.Rules.{rules}
 use native.Mathlib.Omega.{arith}
 use mathlib.Core.Path.{◌≡◌, refl, sym, ap, ◌∙◌, subst}
 use Prim.Native.Nat.{ℕ, ◌+◌, ◌-◌, ◌≤◌, ◌<◌}
-use Rattle.dates.specs.Calendar.{year_days, span_of, day_of_year, year_of, date_after}
+use Rattle.dates.specs.Calendar.{span_of, day_of_year, date_after}
 use Rattle.dates.proofs.Spans.{here, on, last}
 use Rattle.dates.proofs.date_after.Invariants.{size}
 use Rattle.dates.proofs.date_after.Goals as goal

@@ -1,11 +1,8 @@
 -- `dates::date_after` meets its contract. The invariant: the day left, from the year reached on, is the day given.
 -- The measure is the years to come before 9999. Assumes nothing.
-use borrow.Author.Rules.{rules}
-use native.Mathlib.Omega.{arith}
-use mathlib.Core.Path.{◌≡◌, refl, sym, ap, ◌∙◌, subst}
-use Prim.Native.Nat.{ℕ, ◌+◌, ◌-◌, ◌≤◌, ◌<◌}
-use Rattle.dates.specs.Calendar.{year_days, span_of, day_of_year, year_of, date_after}
-use Rattle.dates.proofs.Spans.{here, on, last}
+use mathlib.Core.Path.{◌≡◌}
+use Prim.Native.Nat.{ℕ, ◌+◌, ◌-◌, ◌≤◌}
+use Rattle.dates.specs.Calendar.{year_days, span_of, year_of}
 use Rattle.dates.proofs.date_after.Given as goal
 
 abbrev pub size : ℕ → ℕ

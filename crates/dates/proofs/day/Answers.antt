@@ -1,5 +1,4 @@
 -- `dates::day` meets its contract. Assumes nothing.
-use borrow.Author.Rules.{rules}
 use Rattle.printing.proofs.Puts.{then}
 use Rattle.dates.proofs.day.Goals as goal
 

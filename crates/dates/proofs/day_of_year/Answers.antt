@@ -1,6 +1,5 @@
 -- `dates::day_of_year` meets its contract. The invariant: the day left, from the month reached on, is the day given.
 -- The measure is the months to come before December. Assumes nothing.
-use borrow.Author.Rules.{rules}
 use native.Mathlib.Omega.{arith}
 use mathlib.Core.Path.{◌≡◌, refl, sym, ap, ◌∙◌, subst}
 use Prim.Native.Nat.{ℕ, ◌+◌, ◌-◌, ◌≤◌, ◌<◌}

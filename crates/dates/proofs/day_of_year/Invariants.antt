@@ -1,11 +1,8 @@
 -- `dates::day_of_year` meets its contract. The invariant: the day left, from the month reached on, is the day given.
 -- The measure is the months to come before December. Assumes nothing.
-use borrow.Author.Rules.{rules}
-use native.Mathlib.Omega.{arith}
-use mathlib.Core.Path.{◌≡◌, refl, sym, ap, ◌∙◌, subst}
-use Prim.Native.Nat.{ℕ, ◌+◌, ◌-◌, ◌≤◌, ◌<◌}
-use Rattle.dates.specs.Calendar.{month_days, span_of, in_year}
-use Rattle.dates.proofs.Spans.{here, on, last}
+use mathlib.Core.Path.{◌≡◌}
+use Prim.Native.Nat.{◌+◌, ◌-◌, ◌≤◌}
+use Rattle.dates.specs.Calendar.{month_days, span_of}
 use Rattle.dates.proofs.day_of_year.Given as goal
 
 abbrev pub invariant-loop-months : goal.invariant-loop-months

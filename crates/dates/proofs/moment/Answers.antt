@@ -1,5 +1,4 @@
 -- `dates::moment` meets its contract. Assumes nothing.
-use borrow.Author.Rules.{rules}
 use native.Mathlib.Omega.{arith}
 use mathlib.Core.Path.{sym, ap, subst}
 use Prim.Native.Nat.{◌/◌, ◌≤◌}

@@ -1,5 +1,4 @@
 -- `dates::month_days` meets its contract, by cases on the month. Assumes nothing.
-use borrow.Author.Rules.{rules}
 use mathlib.Core.Path.{refl, sym, ap, ◌∙◌}
 use borrow.Author.Tests.{ne_eqb}
 use Rattle.dates.specs.Calendar.{month_days}

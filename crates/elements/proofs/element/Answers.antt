@@ -50,11 +50,11 @@ module _ (k : Known) where
   octets : Each Octet doc
   octets = each_octet doc k.shared_slice_known-1.given
 
-  lent-octets : Each Octet lent
-  lent-octets = each_octet lent k.slice_known-1.given
+  lent_octets : Each Octet lent
+  lent_octets = each_octet lent k.slice_known-1.given
 
   held : Lent lent used book
-  held = lent_book_lem lent used lent-octets k.requires.2
+  held = lent_book_lem lent used lent_octets k.requires.2
 
   image : Image (take used lent) book
   image = book_image_lem lent used book held
@@ -71,10 +71,10 @@ pub look_in-looked-requires : goal.look_in-looked-requires
 look_in-looked-requires c = (omega (arith, used_length c.before.before.before, (held c.before.before.before).most), record { book = book c.before.before.before; image = image c.before.before.before })
 
 -- What was looked up.
-abbrev Looked-up : Type 0
-Looked-up = Lts.After-look_in Tie.the-claims Reads.Pre Reads.Post
+abbrev LookedUp : Type 0
+LookedUp = Lts.After-look_in Tie.the-claims Reads.Pre Reads.Post
 
-over : (l : Looked-up) → Over (doc l.before.before.before) (at l.before.before.before + 4) (take (used l.before.before.before) (lent l.before.before.before)) l.look_in-looked.result (used l.before.before.before) (book l.before.before.before)
+over : (l : LookedUp) → Over (doc l.before.before.before) (at l.before.before.before + 4) (take (used l.before.before.before) (lent l.before.before.before)) l.look_in-looked.result (used l.before.before.before) (book l.before.before.before)
 over l =
     record { number = l.number_behind.result; is = l.number_behind.ensures.0; looks = l.look_in-looked.ensures (book l.before.before.before) (image l.before.before.before); size = (held l.before.before.before).size }
 
@@ -129,7 +129,7 @@ returns-else-used-step c =
     let x = reads c.before.before.before.before _ is in
     let same = element_old (doc k) (octets k) (at k) (rows k) (book k) x.stepped x.next x.reads (used k) _ (held k).size (told_used x) c.if-used-step.false in (
       sym is ∙ is_read c.before.before.before.before,
-      sym (holding_same (lent k) (used k) (lent-octets k) c.requires.2) ∙ (ap (λ (b : Book). holding b (lent k)) (sym same) ∙ sym (ap (octets_left (lent k)) x.reads)),
+      sym (holding_same (lent k) (used k) (lent_octets k) c.requires.2) ∙ (ap (λ (b : Book). holding b (lent k)) (sym same) ∙ sym (ap (octets_left (lent k)) x.reads)),
     )
 
 pub slice_bounds-look_in-end : goal.slice_bounds-look_in-end

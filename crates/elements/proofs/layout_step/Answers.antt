@@ -49,17 +49,17 @@ module _ (k : Layed) where
   abbrev used : ℕ
   used = k.args.used
 
-  read-to : ends (layout_at doc at) ≡ ok (Next k) (Next k)
-  read-to = sym k.layout_end-end.ensures.0 ∙ ap says k.in-End.is
+  read_to : ends (layout_at doc at) ≡ ok (Next k) (Next k)
+  read_to = sym k.layout_end-end.ensures.0 ∙ ap says k.in-End.is
 
   layout : (l : Layout) × (layout_at doc at ≡ ok l (Next k))
-  layout = ended (layout_at doc at) (Next k) read-to
+  layout = ended (layout_at doc at) (Next k) read_to
 
 pub judge_by-judged-requires : goal.judge_by-judged-requires
 judge_by-judged-requires c =
     let p = c.requires in
     let w = rw c.in-End.is at c.layout_end-end.ensures.1 in
-    (w.0, w.1, read-to c.before, p.2, p.3, p.4)
+    (w.0, w.1, read_to c.before, p.2, p.3, p.4)
 
 -- How it was judged.
 judged : (v : Lts.After-judge_by Tie.the-claims Reads.Pre Reads.Post) (b : Book) → Over (doc v.before) (at v.before) (s v.before) (looked v.before) (used v.before) b → (x : Learning) → v.judge_by-judged.result ≡ x

@@ -1,5 +1,4 @@
 -- `giving::complete` meets its contract: 17, 20 and the own fault, then what completing the layout answers. Assumes nothing.
-use borrow.Author.Rules.{rules}
 use native.Mathlib.Omega.{arith}
 use Prim.Native.Nat.{ℕ, ◌+◌, ◌≤◌}
 use mathlib.Core.Path.{◌≡◌, sym, ◌∙◌, subst}

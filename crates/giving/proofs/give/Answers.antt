@@ -1,5 +1,4 @@
 -- `giving::give` meets its contract: 17, 20 and the own fault are one fault, and octets are given against it. Assumes nothing.
-use borrow.Author.Rules.{rules}
 use mathlib.Core.Path.{◌∙◌}
 use mathlib.Core.List.{◌++◌}
 use Rattle.writer.specs.Writer.{put}

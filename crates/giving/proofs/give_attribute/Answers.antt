@@ -1,5 +1,4 @@
 -- `giving::give_attribute` meets its contract: with none to come the layout is complete, else its number is given. Assumes nothing.
-use borrow.Author.Rules.{rules}
 use borrow.Author.Tests.{ne_eqb}
 use Prim.Native.Nat.{ℕ}
 use mathlib.Core.Path.{◌≡◌, refl}

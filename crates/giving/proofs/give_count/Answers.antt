@@ -1,5 +1,4 @@
 -- `giving::give_count` meets its contract: the number with its own fault, and the turn that follows. Assumes nothing.
-use borrow.Author.Rules.{rules}
 use mathlib.Core.Path.{refl}
 use Rattle.writer.proofs.Tests.{same_put, gave}
 use Rattle.giving.proofs.give_count.Goals as goal

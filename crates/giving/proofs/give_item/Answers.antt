@@ -1,5 +1,4 @@
 -- `giving::give_item` meets its contract: the string, and one less to come. Assumes nothing.
-use borrow.Author.Rules.{rules}
 use mathlib.Core.Path.{refl}
 use Rattle.writer.proofs.Tests.{same_put, gave}
 use Rattle.giving.proofs.give_item.Goals as goal

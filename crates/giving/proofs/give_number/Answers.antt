@@ -1,5 +1,4 @@
 -- `giving::give_number` meets its contract: the last of its eight octets are the number's. Assumes nothing.
-use borrow.Author.Rules.{rules}
 use mathlib.Core.Path.{refl, ◌∙◌}
 use mathlib.Core.List.{append-nil}
 use Rattle.giving.proofs.Values.{number_octets}

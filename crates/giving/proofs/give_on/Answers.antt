@@ -1,5 +1,4 @@
 -- `giving::give_on` meets its contract: a law of what is left for each way out. Assumes nothing.
-use borrow.Author.Rules.{rules}
 use Prim.Native.Nat.{ℕ}
 use mathlib.Core.Path.{◌≡◌, refl, sym, subst}
 use mathlib.Core.List.{List, ◌++◌}

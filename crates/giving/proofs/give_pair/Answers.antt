@@ -1,5 +1,4 @@
 -- `giving::give_pair` meets its contract: its octets are the two numbers' and those behind them. Assumes nothing.
-use borrow.Author.Rules.{rules}
 use mathlib.Core.Path.{◌≡◌, refl}
 use mathlib.Core.List.{List, [], ◌++◌, append-nil}
 use Prim.Native.Nat.{ℕ}

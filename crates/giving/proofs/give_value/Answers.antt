@@ -1,5 +1,4 @@
 -- `giving::give_value` meets its contract: 17 and 20 first, then the next field looked up and the value put. Assumes nothing.
-use borrow.Author.Rules.{rules}
 use native.Mathlib.Omega.{arith}
 use Prim.Native.Nat.{ℕ, ◌+◌}
 use mathlib.Core.Path.{◌≡◌, refl, sym, ap, ◌∙◌}

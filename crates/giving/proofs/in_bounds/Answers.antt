@@ -1,5 +1,4 @@
 -- `giving::in_bounds` meets its contract: a law of the bounds for each test. Assumes nothing.
-use borrow.Author.Rules.{rules}
 use native.Mathlib.Omega.{arith}
 use Prim.Native.Nat.{◌+◌}
 use mathlib.Core.Path.{sym, ◌∙◌}

@@ -1,5 +1,4 @@
 -- `giving::in_turn` meets its contract: a call's turn is the state's where both are the same. Assumes nothing.
-use borrow.Author.Rules.{rules}
 use mathlib.Core.Path.{ap, ◌∙◌}
 use mathlib.Core.Bool.{Bool}
 use Rattle.writer.specs.Answers.{early}

@@ -1,5 +1,4 @@
 -- `giving::is_open` meets its contract: the test is the definition's. Assumes nothing.
-use borrow.Author.Rules.{rules}
 use mathlib.Core.Path.{refl}
 use Rattle.giving.proofs.is_open.Goals as goal
 

@@ -1,6 +1,4 @@
 -- `giving::ready` meets its contract: 17, then 20 by each of its causes. Assumes nothing.
-use borrow.Author.Rules.{rules}
-use borrow.Author.Tests.{not-true, not-false}
 use mathlib.Core.Path.{◌≡◌, refl, sym, ap, ◌∙◌}
 use mathlib.Core.Bool.{Bool, ◌&&◌}
 use Rattle.writing_parts.specs.Faults.{unless}

@@ -1,5 +1,4 @@
 -- `giving::same_turn` meets its contract. Assumes nothing.
-use borrow.Author.Rules.{rules}
 use mathlib.Core.Path.{refl}
 use Rattle.giving.proofs.same_turn.Goals as goal
 

@@ -1,5 +1,4 @@
 -- `header_questions::document_id` meets its contract: sixteen octets behind their length. Assumes nothing.
-use borrow.Author.Rules.{rules}
 use native.Mathlib.Omega.{arith}
 use Prim.Native.Nat.{ℕ, ◌+◌, ◌-◌}
 use mathlib.Core.List.{List}

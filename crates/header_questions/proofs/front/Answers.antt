@@ -1,5 +1,4 @@
 -- `header_questions::front` meets its contract: the string behind the version, or the one behind the start time. Assumes nothing.
-use borrow.Author.Rules.{rules}
 use native.Mathlib.Omega.{arith}
 use mathlib.Core.Path.{◌≡◌, sym, ap, ◌∙◌, subst}
 use mathlib.Core.Bool.{Bool}

@@ -1,5 +1,4 @@
 -- `header_questions::header_refusal` meets its contract, by what was found of the header. Assumes nothing.
-use borrow.Author.Rules.{rules}
 use mathlib.Core.Path.{◌≡◌, sym, ap, subst}
 use Rattle.octets.specs.Asked.{refusal_of}
 use Rattle.headers.specs.Header.{header_at}

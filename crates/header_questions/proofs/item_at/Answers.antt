@@ -1,5 +1,4 @@
 -- `header_questions::item_at` meets its contract: the item stands where the items of its list before it end. Assumes nothing.
-use borrow.Author.Rules.{rules}
 use mathlib.Core.Path.{◌≡◌, sym, subst}
 use mathlib.Core.Bool.{Bool}
 use Rattle.octets.specs.Writing.{Each, Octet}

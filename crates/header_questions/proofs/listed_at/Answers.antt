@@ -1,5 +1,4 @@
 -- `header_questions::listed_at` meets its contract: an item that is there stands behind the items before it. Assumes nothing.
-use borrow.Author.Rules.{rules}
 use native.Mathlib.Omega.{arith}
 use Prim.Native.Nat.{ℕ, ◌≤◌}
 use mathlib.Core.Path.{refl, subst}

@@ -1,5 +1,4 @@
 -- `header_questions::namespace_refusal` meets its contract, by where the namespace stands. Assumes nothing.
-use borrow.Author.Rules.{rules}
 use mathlib.Core.Path.{◌∙◌}
 use Rattle.octets.proofs.Asked.{refusal_stands}
 use Rattle.headers.specs.Header.{namespace_at}

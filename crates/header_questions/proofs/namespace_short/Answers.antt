@@ -1,5 +1,4 @@
 -- `header_questions::namespace_short` meets its contract: the second of the two strings that stand where namespace n does. Assumes nothing.
-use borrow.Author.Rules.{rules}
 use Prim.Native.Nat.{ℕ}
 use mathlib.Core.Path.{◌≡◌, sym, ap, ◌∙◌, subst}
 use Rattle.octets.specs.Reading.{ok, ends, is_ok}

@@ -1,5 +1,4 @@
 -- `header_questions::namespace_uri` meets its contract: the first of the two strings that stand where namespace n does. Assumes nothing.
-use borrow.Author.Rules.{rules}
 use Prim.Native.Nat.{ℕ}
 use mathlib.Core.Path.{◌≡◌, ◌∙◌}
 use mathlib.Core.List.{List}

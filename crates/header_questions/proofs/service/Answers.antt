@@ -1,5 +1,4 @@
 -- `header_questions::service` meets its contract: the string that stands where service definition n does. Assumes nothing.
-use borrow.Author.Rules.{rules}
 use mathlib.Core.Path.{◌∙◌}
 use Rattle.texts.specs.Texts.{text}
 use Rattle.header_questions.proofs.Lists.{is_text, text_shown}

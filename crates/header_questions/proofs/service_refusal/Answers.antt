@@ -1,5 +1,4 @@
 -- `header_questions::service_refusal` meets its contract, by where the service definition stands. Assumes nothing.
-use borrow.Author.Rules.{rules}
 use mathlib.Core.Path.{◌∙◌}
 use Rattle.octets.proofs.Asked.{refusal_stands}
 use Rattle.texts.specs.Texts.{text}

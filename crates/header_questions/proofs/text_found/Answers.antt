@@ -1,5 +1,4 @@
 -- `header_questions::text_found` meets its contract: the string at the place that was found. Assumes nothing.
-use borrow.Author.Rules.{rules}
 use mathlib.Core.Path.{sym, ap, ◌∙◌, subst}
 use mathlib.Core.List.{List}
 use Prim.Native.Nat.{ℕ}

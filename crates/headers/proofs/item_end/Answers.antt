@@ -16,13 +16,13 @@ use Rattle.headers.proofs.item_end.Reads
 use Rattle.headers.proofs.item_end.Tie
 
 -- The place behind the first string.
-abbrev Read-one : Type 0
-Read-one = Lts.Past-After-known_told2 Tie.the-claims Reads.Pre Reads.Post
+abbrev ReadOne : Type 0
+ReadOne = Lts.Past-After-known_told2 Tie.the-claims Reads.Pre Reads.Post
 
-abbrev S : Read-one → List ℕ
+abbrev S : ReadOne → List ℕ
 S c = c.args.s.now
 
-first : (c : Read-one) → let p = c.in-End.next in (ends (text (S c) c.args.at) ≡ ok p p) × Within c.args.at (End p) (length (S c))
+first : (c : ReadOne) → let p = c.in-End.next in (ends (text (S c) c.args.at) ≡ ok p p) × Within c.args.at (End p) (length (S c))
 first c =
     let t = rw c.in-End.is at c.text_end-first.ensures in
     (sym t.0, t.1)

@@ -52,17 +52,17 @@ returns-in_default c =
 abbrev One : Type 0
 One = Lts.Past-After-known_told Tie.the-claims Reads.Pre Reads.Post goal.the-invariant-loop-pos goal.the-decreases-loop-pos
 
-next-at : (o : One) → ends (layout_at (S o.before.before.before) (Pos o.before.before.before)) ≡ ok o.in-End.next o.in-End.next
-next-at o = sym o.layout_end.ensures.0 ∙ ap says o.in-End.is
+next_at : (o : One) → ends (layout_at (S o.before.before.before) (Pos o.before.before.before)) ≡ ok o.in-End.next o.in-End.next
+next_at o = sym o.layout_end.ensures.0 ∙ ap says o.in-End.is
 
 pub u32_at-number-requires : goal.u32_at-number-requires
 u32_at-number-requires c =
-    (layout_number (S c.before.before.before.before) (Pos c.before.before.before.before) (ended (layout_at (S c.before.before.before.before) (Pos c.before.before.before.before)) _ (next-at c.before)).1).0
+    (layout_number (S c.before.before.before.before) (Pos c.before.before.before.before) (ended (layout_at (S c.before.before.before.before) (Pos c.before.before.before.before)) _ (next_at c.before)).1).0
 
 pub returns-then-is_among : goal.returns-then-is_among
 returns-then-is_among c =
     sym
-    (met_again (S c.before.before.before.before.before.before.before.before) (Seen c.before.before.before.before.before.before.before.before) (K c.before.before.before.before.before.before.before.before) (Pos c.before.before.before.before.before.before.before.before) (Before c.before.before.before.before.before.before.before.before) c.loop-pos-test.true c.if-k-ge-MOST_LAYOUTS.false _ c.u32_at-number.result (next-at c.before.before.before.before.before) c.u32_at-number.ensures
+    (met_again (S c.before.before.before.before.before.before.before.before) (Seen c.before.before.before.before.before.before.before.before) (K c.before.before.before.before.before.before.before.before) (Pos c.before.before.before.before.before.before.before.before) (Before c.before.before.before.before.before.before.before.before) c.loop-pos-test.true c.if-k-ge-MOST_LAYOUTS.false _ c.u32_at-number.result (next_at c.before.before.before.before.before) c.u32_at-number.ensures
     (sym c.is_among.ensures ∙ c.if-is_among.true))
 
 pub loop-pos-preserved : goal.loop-pos-preserved
@@ -72,7 +72,7 @@ loop-pos-preserved c =
       (rw c.in-End.is at c.layout_end.ensures.1).1,
       omega (arith, few),
       simp length-set long,
-      met_on (S c.before.before.before.before.before.before.before.before) (Seen c.before.before.before.before.before.before.before.before) (K c.before.before.before.before.before.before.before.before) (Pos c.before.before.before.before.before.before.before.before) (Before c.before.before.before.before.before.before.before.before) c.loop-pos-test.true few _ c.u32_at-number.result (next-at c.before.before.before.before.before) c.u32_at-number.ensures (omega (arith, few, long))
+      met_on (S c.before.before.before.before.before.before.before.before) (Seen c.before.before.before.before.before.before.before.before) (K c.before.before.before.before.before.before.before.before) (Pos c.before.before.before.before.before.before.before.before) (Before c.before.before.before.before.before.before.before.before) c.loop-pos-test.true few _ c.u32_at-number.result (next_at c.before.before.before.before.before) c.u32_at-number.ensures (omega (arith, few, long))
           (sym c.is_among.ensures ∙ c.if-is_among.false),
     )
 

@@ -33,8 +33,8 @@ module _ (k : Lts.After-shared_slice_known3 Tie.the-claims Reads.Pre Reads.Post)
   long = length-append Front Last
 
   -- What the look has found, whichever answer it gave.
-  looked-up : (n : ℕ) (book : Book) (x : Looked) → Looks S n book k.args.looked → k.args.looked ≡ x → Looks S n book x
-  looked-up n book x w q = subst (Looks S n book) q w
+  looked_up : (n : ℕ) (book : Book) (x : Looked) → Looks S n book k.args.looked → k.args.looked ≡ x → Looks S n book x
+  looked_up n book x w q = subst (Looks S n book) q w
 
 pub same_runs-requires : goal.same_runs-requires
 same_runs-requires c =
@@ -43,31 +43,31 @@ same_runs-requires c =
 
 pub returns-then-k-ge-MOST_LAYOUTS : goal.returns-then-k-ge-MOST_LAYOUTS
 returns-then-k-ge-MOST_LAYOUTS c = λ book n w.
-    let v = looked-up c.before.before.before n book _ w c.in-Missing.is in
+    let v = looked_up c.before.before.before n book _ w c.in-Missing.is in
     sym (learning_many book (Used c.before.before.before) n (Front c.before.before.before ++ Last c.before.before.before) v.0 (omega (arith, v.1, c.if-k-ge-MOST_LAYOUTS.true)))
 
 pub returns-then-left-front : goal.returns-then-left-front
 returns-then-left-front c = λ book n w.
-    let v = looked-up c.before.before.before.before n book _ w c.in-Missing.is in
+    let v = looked_up c.before.before.before.before n book _ w c.in-Missing.is in
     sym (learning_long book (Used c.before.before.before.before) n (Front c.before.before.before.before ++ Last c.before.before.before.before) v.0 (omega (arith, v.1, c.if-k-ge-MOST_LAYOUTS.false)) (omega (arith, long c.before.before.before.before, c.if-left-front.true, c.requires.1)))
 
 pub returns-then-left-front-2 : goal.returns-then-left-front-2
 returns-then-left-front-2 c = λ book n w.
-    let v = looked-up c.before.before.before.before.before n book _ w c.in-Missing.is in
+    let v = looked_up c.before.before.before.before.before n book _ w c.in-Missing.is in
     sym (learning_long book (Used c.before.before.before.before.before) n (Front c.before.before.before.before.before ++ Last c.before.before.before.before.before) v.0 (omega (arith, v.1, c.if-k-ge-MOST_LAYOUTS.false)) (omega (arith, long c.before.before.before.before.before, c.if-left-front.false, c.if-left-front-2.true, c.requires.1)))
 
 pub returns-then-same_runs : goal.returns-then-same_runs
 returns-then-same_runs c = λ book n w.
-    let v = looked-up c.before.before.before.before n book _ w c.in-There.is in
+    let v = looked_up c.before.before.before.before n book _ w c.in-There.is in
     sym (learning_same book (Used c.before.before.before.before) n (Front c.before.before.before.before ++ Last c.before.before.before.before) v.layout v.found (sym (c.same_runs.ensures v.layout v.next v.reads) ∙ c.if-same_runs.true))
 
 pub returns-else-same_runs : goal.returns-else-same_runs
 returns-else-same_runs c = λ book n w.
-    let v = looked-up c.before.before.before.before n book _ w c.in-There.is in
+    let v = looked_up c.before.before.before.before n book _ w c.in-There.is in
     sym (learning_other book (Used c.before.before.before.before) n (Front c.before.before.before.before ++ Last c.before.before.before.before) v.layout v.found (sym (c.same_runs.ensures v.layout v.next v.reads) ∙ c.if-same_runs.false))
 
 pub returns-else-left-front-2 : goal.returns-else-left-front-2
 returns-else-left-front-2 c = λ book n w.
-    let v = looked-up c.before.before.before.before.before n book _ w c.in-Missing.is in
+    let v = looked_up c.before.before.before.before.before n book _ w c.in-Missing.is in
     sym (learning_new book (Used c.before.before.before.before.before) n (Front c.before.before.before.before.before ++ Last c.before.before.before.before.before) v.0 (omega (arith, v.1, c.if-k-ge-MOST_LAYOUTS.false)) (omega (arith, long c.before.before.before.before.before, c.if-left-front.false, c.if-left-front-2.false, c.requires.1))
     ∙ ap New (ap (λ (z : ℕ). Used c.before.before.before.before.before + z) (long c.before.before.before.before.before) ∙ sym (add_assoc (Used c.before.before.before.before.before) (length (Front c.before.before.before.before.before)) (length (Last c.before.before.before.before.before)))))

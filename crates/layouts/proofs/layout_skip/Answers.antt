@@ -35,19 +35,19 @@ Pos t = t.loop-i.pos
 abbrev Left : Turn → ℕ
 Left t = t.u32_at-k.result - (t.loop-i.i + 1)
 
-run-from : (t : Turn) → ends (layout_at (S t) t.args.at) ≡ ends (run (attribute_at (S t)) (suc (Left t)) (Pos t))
-run-from t =
+run_from : (t : Turn) → ends (layout_at (S t) t.args.at) ≡ ends (run (attribute_at (S t)) (suc (Left t)) (Pos t))
+run_from t =
     t.loop-i.invariant.1
     ∙ ap (λ (n : ℕ). ends (run (attribute_at (S t)) n (Pos t))) (left_suc t.u32_at-k.result t.loop-i.i t.loop-i-test.true)
 
 accepted : (t : Turn) → is_ok (attribute_at (S t) (Pos t)) ≡ true
 accepted t =
     run_first (attribute_at (S t)) (Pos t) (Left t)
-    (sym (ok_alike (layout_at (S t) t.args.at) (run (attribute_at (S t)) (suc (Left t)) (Pos t)) (run-from t)) ∙ t.requires.1)
+    (sym (ok_alike (layout_at (S t) t.args.at) (run (attribute_at (S t)) (suc (Left t)) (Pos t)) (run_from t)) ∙ t.requires.1)
 
 pub loop-i-preserved : goal.loop-i-preserved
 loop-i-preserved c =
-    (omega (arith, c.loop-i-test.true), run-from c.before.before ∙ run_on (attribute_at (S c.before.before)) (Pos c.before.before) (Left c.before.before) c.attribute_skip-pos.result c.attribute_skip-pos.ensures)
+    (omega (arith, c.loop-i-test.true), run_from c.before.before ∙ run_on (attribute_at (S c.before.before)) (Pos c.before.before) (Left c.before.before) c.attribute_skip-pos.result c.attribute_skip-pos.ensures)
 
 pub returns : goal.returns
 returns c =

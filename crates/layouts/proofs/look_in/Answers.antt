@@ -45,18 +45,18 @@ pub returns-then-u32_at-number : goal.returns-then-u32_at-number
 returns-then-u32_at-number c = λ book i.
     here_stands (S c.before.before.before) (Number c.before.before.before) book (Pos c.before.before.before) (K c.before.before.before) (here_in c.before.before.before book i) (sym c.u32_at.ensures ∙ c.if-u32_at-number.true)
 
-next-at : (f : Lts.After-layout_skip Tie.the-claims Reads.Pre Reads.Post goal.the-invariant-loop-pos goal.the-decreases-loop-pos) (book : Book) → Here (S f.before.before.before) (Number f.before.before.before) book (Pos f.before.before.before) (K f.before.before.before)
+next_at : (f : Lts.After-layout_skip Tie.the-claims Reads.Pre Reads.Post goal.the-invariant-loop-pos goal.the-decreases-loop-pos) (book : Book) → Here (S f.before.before.before) (Number f.before.before.before) book (Pos f.before.before.before) (K f.before.before.before)
     → (Pos f.before.before.before < f.layout_skip-pos.result) × (f.layout_skip-pos.result ≤ length (S f.before.before.before)) × Left (S f.before.before.before) (Number f.before.before.before) book f.layout_skip-pos.result (K f.before.before.before + 1)
-next-at f book h =
+next_at f book h =
     here_on (S f.before.before.before) (Number f.before.before.before) book (Pos f.before.before.before) (K f.before.before.before) h f.layout_skip-pos.result f.layout_skip-pos.ensures (λ e. f.if-u32_at-number.false (f.u32_at.ensures ∙ e))
 
 pub loop-pos-smaller : goal.loop-pos-smaller
-loop-pos-smaller c = let w = next-at c.before _ (held c.before.before.before.before) in omega (arith, w.0, w.1)
+loop-pos-smaller c = let w = next_at c.before _ (held c.before.before.before.before) in omega (arith, w.0, w.1)
 
 pub loop-pos-preserved : goal.loop-pos-preserved
 loop-pos-preserved c =
-    let w = next-at c.before _ (held c.before.before.before.before) in
-    (w.1, omega (arith, w.0, c.loop-pos.invariant.1), λ book i. (next-at c.before book (here_in c.before.before.before.before book i)).2)
+    let w = next_at c.before _ (held c.before.before.before.before) in
+    (w.1, omega (arith, w.0, c.loop-pos.invariant.1), λ book i. (next_at c.before book (here_in c.before.before.before.before book i)).2)
 
 pub returns : goal.returns
 returns c = λ book i.

@@ -1,5 +1,4 @@
 -- `lines::behind` meets its contract. Assumes nothing.
-use borrow.Author.Rules.{rules}
 use Rattle.printing.proofs.Puts.{then}
 use Rattle.lines.proofs.behind.Goals as goal
 

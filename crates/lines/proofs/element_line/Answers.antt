@@ -1,5 +1,4 @@
 -- `lines::element_line` meets its contract, by the element that the answer tells. Assumes nothing.
-use borrow.Author.Rules.{rules}
 use mathlib.Core.Path.{sym, ap, ◌∙◌}
 use mir.Syntax.{w64}
 use mir.Facts.{to_z-of_z}

@@ -1,5 +1,4 @@
 -- `lines::end_line` meets its contract. Assumes nothing.
-use borrow.Author.Rules.{rules}
 use mathlib.Core.Path.{ap}
 use mir.Facts.{to_z-of_z}
 use Rattle.printing.specs.Text.{spelt, decimal}

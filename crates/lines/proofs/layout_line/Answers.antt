@@ -1,5 +1,4 @@
 -- `lines::layout_line` meets its contract. Assumes nothing.
-use borrow.Author.Rules.{rules}
 use Rattle.printing.specs.Text.{spelt, decimal}
 use Rattle.printing.proofs.Puts.{then}
 use Rattle.lines.proofs.Words.{word_then}

@@ -1,5 +1,4 @@
 -- `lines::numbered` meets its contract. Assumes nothing.
-use borrow.Author.Rules.{rules}
 use mathlib.Core.Path.{ap, ◌∙◌}
 use mir.Syntax.{w32}
 use Rattle.printing.specs.Text.{decimal, signed}

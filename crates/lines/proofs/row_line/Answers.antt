@@ -1,17 +1,13 @@
 -- `lines::row_line` meets its contract. The invariant: the fields passed are printed. The measure is the fields left. Assumes nothing.
-use borrow.Author.Rules.{rules}
 use native.Mathlib.Omega.{arith}
 use mathlib.Core.Path.{◌≡◌, refl, sym, ap, ◌∙◌}
-use Prim.Native.Nat.{ℕ, ◌-◌, ◌≤◌}
+use Prim.Native.Nat.{ℕ}
 use lib.ListN.{length, take}
 use lib.Seq.{take-length}
-use Rattle.octets.specs.Reading.{ok}
 use Rattle.octets.specs.Writing.{images}
-use Rattle.rows.specs.Row.{Row}
-use Rattle.questions.specs.Questions.{row_asked}
 use Rattle.octets.proofs.Asked.{nth_some}
 use Rattle.questions.proofs.Asked.{field_asked_lem}
-use Rattle.printing.specs.Text.{Prints, spelt}
+use Rattle.printing.specs.Text.{spelt}
 use Rattle.printing.proofs.Puts.{then, says, nothing, images_none}
 use Rattle.lines.specs.Lines.{numbered, field_text}
 use Rattle.lines.proofs.Words.{one_more}

@@ -1,5 +1,4 @@
 -- `lines::value_word` meets its contract, by the value. Assumes nothing.
-use borrow.Author.Rules.{rules}
 use mathlib.Core.Path.{◌≡◌, refl, sym}
 use mathlib.Core.Bool.{Bool, true, false, ◌||◌, false≢true}
 use mathlib.Core.Logic.{inl, inr}
@@ -20,14 +19,14 @@ use borrow.Enum.Refused.{opened}
 use Rattle.lines.proofs.value_word.Goals as goal
 
 -- What is one of an arm's keys is found among them.
-or-true : (b : Bool) → (b || true) ≡ true
-or-true true = refl
-or-true false = refl
+or_true : (b : Bool) → (b || true) ≡ true
+or_true true = refl
+or_true false = refl
 
 found : (x k : ℕ) (ks : List ℕ) → OneOf (k ∷ ks) x → has_key (k ∷ ks) x ≡ true
 found x k [] e = rw (eq-eqb k x (sym e)) refl
 found x k (j ∷ ks) (inl e) = rw (eq-eqb k x (sym e)) refl
-found x k (j ∷ ks) (inr h) = rw (found x j ks h) (or-true (eqb k x))
+found x k (j ∷ ks) (inr h) = rw (found x j ks h) (or_true (eqb k x))
 
 abbrev more : List ℕ
 more = 1 ∷ 2 ∷ 3 ∷ 4 ∷ 5 ∷ 8 ∷ 9 ∷ 10 ∷ 11 ∷ 12 ∷ []

@@ -1,5 +1,4 @@
 -- `listing::document` meets its contract: the listing of the document. Assumes nothing.
-use borrow.Author.Rules.{rules}
 use mathlib.Core.Path.{◌≡◌, sym, ap, ◌∙◌, subst}
 use mathlib.Core.List.{List, []}
 use Prim.Native.Nat.{ℕ, ◌≤◌}
@@ -29,18 +28,17 @@ returns-in-Refused c =
 
 -- The header is accepted.
 abbrev Told : Type 0
-Told = Lts.After-known_told2 Tie.the-claims Reads.Pre Reads.Post
+Told = Lts.Past-After-known_told2 Tie.the-claims Reads.Pre Reads.Post
 
 module _ (k : Told) where
-
   abbrev doc : List ℕ
   doc = k.args.doc.now
 
   abbrev head : Head
-  head = k.headed-in-Is-1.given.0.0
+  head = k.in-Is.head
 
   told : (h : Header) × (next : ℕ) × (header_at doc ≡ ok h next) × (head_of h next ≡ head)
-  told = headed_as (header_at doc) head (sym k.header-headed.ensures ∙ k.headed-in-Is-1.given.1)
+  told = headed_as (header_at doc) head (sym k.header-headed.ensures ∙ k.in-Is.is)
 
   place : (head.next ≤ length doc) × (length doc ≤ longest)
   place =

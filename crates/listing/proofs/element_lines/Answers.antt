@@ -1,8 +1,7 @@
 -- `listing::element_lines` meets its contract. The invariant: the lines of the items passed are printed, over octets that carry the book that they left.
 -- The measure is what is left of the document: an item goes on. Assumes nothing.
-use borrow.Author.Rules.{rules}
 use native.Mathlib.Omega.{arith}
-use Prim.Native.Nat.{ℕ, ◌-◌, ◌≤◌}
+use Prim.Native.Nat.{ℕ, ◌≤◌}
 use mathlib.Core.Path.{◌≡◌, refl, sym, ap, ◌∙◌, subst}
 use mathlib.Core.List.{List}
 use mir.Syntax.{w64}
@@ -82,79 +81,70 @@ module _ (v : Answered) where
   went x e = subst On e (v.go_on-moved.ensures (held v.before.before.before.before.before.before.before) (passed_bears (passed v.before.before.before.before.before.before.before)))
 
 -- Not over a row.
-never : (k : Lts.After-known_told Tie.the-claims Reads.Pre Reads.Post goal.the-invariant-loop-next goal.the-decreases-loop-next) → ⊥
-never k = let (some, none) = went k.before.before.before.before _ k.moved-1.given.1 in omega (arith, none.few)
+never : (k : Lts.Past-After-known_told Tie.the-claims Reads.Pre Reads.Post goal.the-invariant-loop-next goal.the-decreases-loop-next) → ⊥
+never k = let (some, none) = went k.before.before _ k.in-Rows.is in omega (arith, none.few)
 
 pub returns-in-Rows : goal.returns-in-Rows
 returns-in-Rows c = absurd (never c.before)
 
 pub returns-in-Refused : goal.returns-in-Refused
 returns-in-Refused c =
-    let m.before.before.before.before = c.before.before.before.before.before in
-    let v = m.before.before.before.before.before.before.before.before in
-    let t = v.before.before.before.before.before.before.before in
-    passed_refused (passed t) (octets t) (short t) _ _ (sym (went v _ m.before.before.before.before.before.moved2.given.1).is) c.refused_line.ensures
+    passed_refused (passed c.before.before.before.before.before.before.before.before.before.before.before.before.before.before) (octets c.before.before.before.before.before.before.before.before.before.before.before.before.before.before) (short c.before.before.before.before.before.before.before.before.before.before.before.before.before.before) _ _ (sym (went c.before.before.before.before.before.before.before _ c.in-Refused.is).is) c.refused_line.ensures
 
 pub returns-in-End : goal.returns-in-End
 returns-in-End c =
-    let m.before.before.before.before = c.before.before.before.before.before in
-    let v = m.before.before.before.before.before.before.before.before in
-    let t = v.before.before.before.before.before.before.before in
-    let exact = to_z-of_z {w = w64} (record { sfits = m.before.before.before.before.known-told3.given.1.0.1 }) in
-    passed_end (passed t) (octets t) (short t) _ _ _ (sym (went v _ m.before.before.before.before.before.moved3.given.1).is) (says (ap (end_text t.loop.pos _) exact) c.end_line.ensures)
+    let exact = to_z-of_z {w = w64} (record { sfits = c.in-End.known_told-in-End-1-own.given.1.0.1 }) in
+    passed_end (passed c.before.before.before.before.before.before.before.before.before.before.before.before.before.before) (octets c.before.before.before.before.before.before.before.before.before.before.before.before.before.before) (short c.before.before.before.before.before.before.before.before.before.before.before.before.before.before) _ _ _ (sym (went c.before.before.before.before.before.before.before _ c.in-End.is).is) (says (ap (end_text c.loop-next.pos _) exact) c.end_line.ensures)
 
 -- An item, by names.
 abbrev Item : Type 0
-Item = Lts.After-known_told4 Tie.the-claims Reads.Pre Reads.Post goal.the-invariant-loop-next goal.the-decreases-loop-next
+Item = Lts.Past-After-known_told4 Tie.the-claims Reads.Pre Reads.Post goal.the-invariant-loop-next goal.the-decreases-loop-next
 
 module _ (m : Item) where
-
   abbrev by : Turn
-  by = m.before.before.before.before.before.before.before.before.before.before.before
+  by = m.before.before.before.before.before.before.before.before.before
 
   abbrev gone : Gone
-  gone = m.moved-in-Item-1.given.0.0
+  gone = m.in-Item.gone
 
   goes : Goes (passed by) (octets by) (short by) gone
-  goes = passed_item (passed by) (octets by) (short by) gone (sym (went m.before.before.before.before _ m.moved-in-Item-1.given.1).is)
+  goes = passed_item (passed by) (octets by) (short by) gone (sym (went m.before.before _ m.in-Item.is).is)
 
 -- Its line.
 abbrev Lined : Type 0
 Lined = Lts.After-element_line Tie.the-claims Reads.Pre Reads.Post goal.the-invariant-loop-next goal.the-decreases-loop-next
 
 module _ (line : Lined) where
-
-  put : let l = (by line.before.before.before).loop in Prints l.out l.to (element_text l.pos (goes line.before.before.before).stepped.element) line.element_line-to.new.out line.element_line-to.result
+  put : let l = (by line.before.before.before).loop-next in Prints l.out l.to (element_text l.pos (goes line.before.before.before).stepped.element) line.element_line-to.new.out line.element_line-to.result
   put = let k = goes line.before.before.before in line.element_line-to.ensures k.stepped (gone line.before.before.before).next k.reads k.met
 
-  out-long : length line.element_line-to.new.out ≡ length (by line.before.before.before).before.before.before.before.args.out.now
-  out-long = line.element_line-to.auto.out ∙ (by line.before.before.before).loop.inv.0
+  out_long : length line.element_line-to.new.out ≡ length (by line.before.before.before).before.before.before.before.args.out.now
+  out_long = line.element_line-to.auto.out ∙ (by line.before.before.before).loop-next.invariant.0
 
 -- One whose layout is new.
 abbrev Grew : Type 0
 Grew = Lts.Then1 Tie.the-claims Reads.Pre Reads.Post goal.the-invariant-loop-next goal.the-decreases-loop-next
 
 module _ (g : Grew) where
-
   abbrev turn : Turn
   turn = by g.before.before.before.before.before.before.before
 
-  grown : Grown (passed turn) (octets turn) (short turn) (gone g.before.before.before.before.before.before.before) (element_text turn.loop.pos (goes g.before.before.before.before.before.before.before).stepped.element)
+  grown : Grown (passed turn) (octets turn) (short turn) (gone g.before.before.before.before.before.before.before) (element_text turn.loop-next.pos (goes g.before.before.before.before.before.before.before).stepped.element)
   grown = (goes g.before.before.before.before.before.before.before).new g.if-used-gone.true
 
 pub keep-tally-requires : goal.keep-tally-requires
 keep-tally-requires c =
     let k = (passed (turn c.before.before.before.before.before.before.before)).carried.kept in
-    let (known, start, end) = tally_bounds (turn c.before.before.before.before.before.before.before).loop.tally (held (turn c.before.before.before.before.before.before.before)) k.tally in
+    let (known, start, end) = tally_bounds (turn c.before.before.before.before.before.before.before).loop-next.tally (held (turn c.before.before.before.before.before.before.before)) k.tally in
     (short (turn c.before.before.before.before.before.before.before), ap is_ok (grown c.before.before.before.before.before.before.before).reads, k.planned.long, omega (arith, (grown c.before.before.before.before.before.before.before).few), start, end, omega (arith, (passed_lent (passed (turn c.before.before.before.before.before.before.before))).most))
 
 pub loop-next-preserved-then-used-gone : goal.loop-next-preserved-then-used-gone
 loop-next-preserved-then-used-gone c =
     let new = grown c.before.before.before.before.before.before.before.before in
-    (out-long c.before.before.before.before.before.before.before.before.before.before.before.before, new.on (put c.before.before.before.before.before.before.before.before.before.before.before.before) c.grow.auto.book c.grow.ensures (c.keep-tally.ensures new.layout _ new.reads), words_long (m.before.before.before.before (line.before.before.before c.before.before.before.before.before.before.before.before.before.before.before.before)))
+    (out_long c.before.before.before.before.before.before.before.before.before.before.before.before, new.on (put c.before.before.before.before.before.before.before.before.before.before.before.before) c.grow.auto.book c.grow.ensures (c.keep-tally.ensures new.layout _ new.reads), words_long c.before.before.before.before.before.before.before.before.before.before.before.before.before.before.before.before.before)
 
 pub loop-next-preserved : goal.loop-next-preserved
-loop-next-preserved c = (out-long c.before.before.before.before.before, (goes c.before.before.before.before.before.before.before.before).old c.if-used-gone.false (put c.before.before.before.before.before), words_long (m.before.before.before.before c.before.before.before.before.before.before.before.before))
+loop-next-preserved c = (out_long c.before.before.before.before.before, (goes c.before.before.before.before.before.before.before.before).old c.if-used-gone.false (put c.before.before.before.before.before), words_long c.before.before.before.before.before.before.before.before.before.before)
 
 pub slice_bounds-go_on-end : goal.slice_bounds-go_on-end
 slice_bounds-go_on-end c = sym (shelf c.before.before)
@@ -175,10 +165,13 @@ pub grow-requires : goal.grow-requires
 grow-requires c = let t = turn c.before.before in (short t, (passed t).carried.is, (grown c.before.before).grows)
 
 pub overflow_add-pos : goal.overflow_add-pos
-overflow_add-pos c = omega (arith, (goes (line.before.before.before c.before.before.before.before.before.before.before.before)).further, short (turn c.before.before.before.before))
+overflow_add-pos c = omega (arith, (goes c.before.before.before.before.before.before.before.before.before.before.before).further, short (turn c.before.before.before.before))
 
 pub loop-next-smaller-then-used-gone : goal.loop-next-smaller-then-used-gone
-loop-next-smaller-then-used-gone c = omega (arith, (goes (line.before.before.before c.before.before.before.before.before.before.before.before.before.before.before.before)).further)
+loop-next-smaller-then-used-gone c = omega (arith, (goes c.before.before.before.before.before.before.before.before.before.before.before.before.before.before.before).further)
 
 pub loop-next-smaller : goal.loop-next-smaller
 loop-next-smaller c = omega (arith, (goes c.before.before.before.before.before.before.before.before).further)
+
+pub slice_bounds-book-end : goal.slice_bounds-book-end
+slice_bounds-book-end c = fits c.before

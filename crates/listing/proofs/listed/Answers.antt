@@ -1,5 +1,4 @@
 -- `listing::listed` meets its contract, by the input's length. Assumes nothing.
-use borrow.Author.Rules.{rules}
 use borrow.Author.Tests.{le-leb, lt-leb}
 use lib.ListN.{length}
 use Rattle.listing.specs.Listing.{too_long_text}

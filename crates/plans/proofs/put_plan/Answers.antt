@@ -44,16 +44,16 @@ Doc t = t.args.doc.now
 abbrev More : Turn → ℕ
 More t = t.args.count - (t.loop-i.i + 1)
 
-next-of : (t : Turn) (xs : List Attribute) (last : ℕ) (e : run (attribute_at (Doc t)) t.args.count t.args.first ≡ ok xs last)
+next_of : (t : Turn) (xs : List Attribute) (last : ℕ) (e : run (attribute_at (Doc t)) t.args.count t.args.first ≡ ok xs last)
     → (m : Making (Doc t) t.loop-i.steps xs last t.args.from (suc (More t)) t.loop-i.place t.loop-i.j t.loop-i.sum)
     × Next (Doc t) xs last t.args.from t.loop-i.steps (More t) t.loop-i.place t.loop-i.j t.loop-i.sum m
-next-of t xs last e =
+next_of t xs last e =
     let m = subst (λ (k : ℕ). Making (Doc t) t.loop-i.steps xs last t.args.from k t.loop-i.place t.loop-i.j t.loop-i.sum)
     (left_suc t.args.count t.loop-i.i t.loop-i-test.true) (t.loop-i.invariant.6 xs last e) in
     (m, making_next (Doc t) xs last t.args.from t.loop-i.steps (More t) t.loop-i.place t.loop-i.j t.loop-i.sum m)
 
 accepted : (t : Turn) → is_ok (attribute_at (Doc t) t.loop-i.place) ≡ true
-accepted t = let r = t.requires.5 in ap is_ok (next-of t r.list r.end r.reads).1.reads
+accepted t = let r = t.requires.5 in ap is_ok (next_of t r.list r.end r.reads).1.reads
 
 -- The mark of the attribute here, and the place behind it.
 abbrev Marked : Type 0
@@ -65,14 +65,14 @@ Kind s = s.text_skip-kind.result
 described : (s : Marked) (a : Attribute) (next : ℕ) → attribute_at (Doc s.before.before.before) s.loop-i.place ≡ ok a next → Described (Doc s.before.before.before) s.loop-i.place a next (Kind s)
 described s a next e = attribute_fields (Doc s.before.before.before) s.loop-i.place (Kind s) s.text_skip-kind.ensures.0 e
 
-is-mark : (s : Marked) (a : Attribute) (next : ℕ) → attribute_at (Doc s.before.before.before) s.loop-i.place ≡ ok a next → mark (form_of a.kind) ≡ s.mark_of-more.result
-is-mark s a next e = sym (s.mark_of-more.ensures.0 ∙ ap mark (s.form_here-form.ensures.0 a.kind next (described s a next e).kind))
+is_mark : (s : Marked) (a : Attribute) (next : ℕ) → attribute_at (Doc s.before.before.before) s.loop-i.place ≡ ok a next → mark (form_of a.kind) ≡ s.mark_of-more.result
+is_mark s a next e = sym (s.mark_of-more.ensures.0 ∙ ap mark (s.form_here-form.ensures.0 a.kind next (described s a next e).kind))
 
-is-place : (s : Marked) (a : Attribute) (next : ℕ) → attribute_at (Doc s.before.before.before) s.loop-i.place ≡ ok a next → next ≡ Kind s + 4
-is-place s a next e = (described s a next e).place
+is_place : (s : Marked) (a : Attribute) (next : ℕ) → attribute_at (Doc s.before.before.before) s.loop-i.place ≡ ok a next → next ≡ Kind s + 4
+is_place s a next e = (described s a next e).place
 
-sum-small : (s : Marked) → s.loop-i.sum + s.mark_of-more.result ≤ 2080
-sum-small s =
+sum_small : (s : Marked) → s.loop-i.sum + s.mark_of-more.result ≤ 2080
+sum_small s =
     let l = s.loop-i.invariant in
     omega (arith, l.0, l.3, s.requires.1, s.mark_of-more.ensures.1, s.loop-i-test.true)
 
@@ -86,11 +86,11 @@ loop-i-preserved-then-more-eq0 c =
       l.4,
       l.5,
       λ xs last e.
-          let (m, n) = next-of c.before.before.before.before.before xs last e in
-          let q = is-mark c.before.before n.attribute n.next n.reads in
+          let (m, n) = next_of c.before.before.before.before.before xs last e in
+          let q = is_mark c.before.before n.attribute n.next n.reads in
           subst (λ (x : ℕ). Making (Doc c.before.before.before.before.before) c.loop-i.steps xs last c.args.from (More c.before.before.before.before.before) (Kind c.before.before + 4) c.loop-i.j (c.loop-i.sum + x)) q
           (subst (λ (p : ℕ). Making (Doc c.before.before.before.before.before) c.loop-i.steps xs last c.args.from (More c.before.before.before.before.before) p c.loop-i.j (c.loop-i.sum + mark (form_of n.attribute.kind)))
-          (is-place c.before.before n.attribute n.next n.reads) (n.on (ap (λ (x : ℕ). x % 4) q ∙ c.if-more-eq0.true))),
+          (is_place c.before.before n.attribute n.next n.reads) (n.on (ap (λ (x : ℕ). x % 4) q ∙ c.if-more-eq0.true))),
     )
 
 -- The steps do not hold the one that the attribute here closes.
@@ -98,7 +98,7 @@ pub returns-then-to-j : goal.returns-then-to-j
 returns-then-to-j c =
     let l = c.loop-i in (
       λ xs last e.
-          making_full (Doc c.before.before.before.before.before.before) xs last c.args.from l.steps (suc (More c.before.before.before.before.before.before)) l.place l.j l.sum c.args.to (next-of c.before.before.before.before.before.before xs last e).0 c.if-to-j.true,
+          making_full (Doc c.before.before.before.before.before.before) xs last c.args.from l.steps (suc (More c.before.before.before.before.before.before)) l.place l.j l.sum c.args.to (next_of c.before.before.before.before.before.before xs last e).0 c.if-to-j.true,
       l.invariant.5,
       l.invariant.4,
     )
@@ -113,11 +113,11 @@ loop-i-preserved c =
       simp length-set l.4,
       take-set-le c.args.from c.loop-i.steps c.loop-i.j (c.loop-i.sum + c.mark_of-more.result) l.2 ∙ l.5,
       λ xs last e.
-          let (m, n) = next-of c.before.before.before.before.before.before.before xs last e in
-          let q = is-mark c.before.before.before.before n.attribute n.next n.reads in
+          let (m, n) = next_of c.before.before.before.before.before.before.before xs last e in
+          let q = is_mark c.before.before.before.before n.attribute n.next n.reads in
           subst (λ (x : ℕ). Making (Doc c.before.before.before.before.before.before.before) (set c.loop-i.steps c.loop-i.j (c.loop-i.sum + x)) xs last c.args.from (More c.before.before.before.before.before.before.before) (Kind c.before.before.before.before + 4) (c.loop-i.j + 1) 0) q
           (subst (λ (p : ℕ). Making (Doc c.before.before.before.before.before.before.before) (set c.loop-i.steps c.loop-i.j (c.loop-i.sum + mark (form_of n.attribute.kind))) xs last c.args.from (More c.before.before.before.before.before.before.before) p (c.loop-i.j + 1) 0)
-          (is-place c.before.before.before.before n.attribute n.next n.reads) (n.close (λ z. c.if-more-eq0.false (sym (ap (λ (x : ℕ). x % 4) q) ∙ z)) (omega (arith, c.if-to-j.false, l.4, c.requires.3)))),
+          (is_place c.before.before.before.before n.attribute n.next n.reads) (n.close (λ z. c.if-more-eq0.false (sym (ap (λ (x : ℕ). x % 4) q) ∙ z)) (omega (arith, c.if-to-j.false, l.4, c.requires.3)))),
     )
 
 -- Behind the last attribute.
@@ -167,13 +167,13 @@ pub overflow_add-i : goal.overflow_add-i
 overflow_add-i c = omega (arith, c.loop-i-test.true)
 
 pub overflow_add-sum : goal.overflow_add-sum
-overflow_add-sum c = omega (arith, sum-small c.before.before)
+overflow_add-sum c = omega (arith, sum_small c.before.before)
 
 pub loop-i-smaller-then-more-eq0 : goal.loop-i-smaller-then-more-eq0
 loop-i-smaller-then-more-eq0 c = omega (arith, c.loop-i-test.true)
 
 pub overflow_add-steps : goal.overflow_add-steps
-overflow_add-steps c = omega (arith, sum-small c.before.before.before)
+overflow_add-steps c = omega (arith, sum_small c.before.before.before)
 
 pub offset_bounds-steps-j : goal.offset_bounds-steps-j
 offset_bounds-steps-j c = omega (arith, c.if-to-j.false, c.requires.3)

@@ -1,5 +1,4 @@
 -- `printing::digit` meets its contract. Assumes nothing.
-use borrow.Author.Rules.{rules}
 use mathlib.Core.Path.{refl}
 use borrow.Author.Tests.{lt-ltb, le-ltb}
 use Rattle.printing.proofs.digit.Goals as goal

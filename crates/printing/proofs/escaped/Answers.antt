@@ -1,5 +1,4 @@
 -- `printing::escaped` meets its contract. Assumes nothing.
-use borrow.Author.Rules.{rules}
 use mathlib.Core.Path.{sym, ◌∙◌}
 use Rattle.printing.proofs.Puts.{then}
 use Rattle.printing.proofs.escaped.Goals as goal

@@ -1,5 +1,4 @@
 -- `printing::flush` meets its contract, and the part that is written lies in the buffer. Assumes nothing.
-use borrow.Author.Rules.{rules}
 use native.Mathlib.Omega.{arith}
 use mathlib.Core.Path.{sym}
 use lib.Seq.{length-take-le}

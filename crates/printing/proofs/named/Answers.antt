@@ -1,5 +1,4 @@
 -- `printing::named` meets its contract. Assumes nothing.
-use borrow.Author.Rules.{rules}
 use Rattle.printing.proofs.Puts.{then}
 use Rattle.printing.proofs.named.Goals as goal
 

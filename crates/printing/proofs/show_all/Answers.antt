@@ -2,10 +2,10 @@
 use borrow.Author.Rules.{rules}
 use native.Mathlib.Omega.{arith}
 use mathlib.Core.Path.{◌≡◌, refl, sym, ap, ◌∙◌}
-use Prim.Native.Nat.{ℕ, ◌-◌, ◌≤◌}
+use Prim.Native.Nat.{ℕ}
 use lib.ListN.{length, take}
 use lib.Seq.{take-length}
-use Rattle.printing.specs.Text.{Prints, shown, showing}
+use Rattle.printing.specs.Text.{shown, showing}
 use Rattle.printing.proofs.Puts.{then, says, nothing, images_none, images_more}
 use Rattle.printing.proofs.show_all.Goals as goal
 

@@ -1,12 +1,8 @@
 -- `printing::show_all` meets its contract. The invariant: what was passed is printed. The measure is what is left. Assumes nothing.
-use borrow.Author.Rules.{rules}
-use native.Mathlib.Omega.{arith}
-use mathlib.Core.Path.{◌≡◌, refl, sym, ap, ◌∙◌}
-use Prim.Native.Nat.{ℕ, ◌-◌, ◌≤◌}
+use mathlib.Core.Path.{◌≡◌}
+use Prim.Native.Nat.{◌-◌, ◌≤◌}
 use lib.ListN.{length, take}
-use lib.Seq.{take-length}
-use Rattle.printing.specs.Text.{Prints, shown, showing}
-use Rattle.printing.proofs.Puts.{then, says, nothing, images_none, images_more}
+use Rattle.printing.specs.Text.{Prints, showing}
 use Rattle.printing.proofs.show_all.Given as goal
 
 abbrev pub invariant-loop-i : goal.invariant-loop-i

@@ -1,5 +1,4 @@
 -- `printing::show_one` meets its contract, by cases on how the octet is to be shown. Assumes nothing.
-use borrow.Author.Rules.{rules}
 use mathlib.Core.Path.{sym, ap}
 use Rattle.printing.specs.Text.{shown}
 use Rattle.printing.specs.declared.Show.{Show}

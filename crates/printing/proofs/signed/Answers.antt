@@ -1,5 +1,4 @@
 -- `printing::signed` meets its contract, by the number's sign. Assumes nothing.
-use borrow.Author.Rules.{rules}
 use mir.Syntax.{w64}
 use Rattle.kinds.proofs.Unsigned.{above_cast, below_fits, below_cast}
 use Rattle.printing.proofs.Puts.{then, says}

@@ -3,8 +3,8 @@
 use native.Mathlib.Omega.{arith}
 use mathlib.Core.Path.{◌≡◌, sym, ap, ◌∙◌}
 use mathlib.Core.List.{List, ◌++◌, append-nil}
-use Prim.Native.Nat.{ℕ, ◌≤◌}
-use lib.ListN.{length, drop, length-set, drop_of_length-le}
+use Prim.Native.Nat.{ℕ}
+use lib.ListN.{drop, length-set, drop_of_length-le}
 use Rattle.printing.specs.Text.{digits}
 use Rattle.printing.proofs.Spelling.{last_digit, more_digits}
 use Rattle.printing.proofs.spell.Goals as goal

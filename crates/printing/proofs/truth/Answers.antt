@@ -1,5 +1,4 @@
 -- `printing::truth` meets its contract. Assumes nothing.
-use borrow.Author.Rules.{rules}
 use Rattle.printing.proofs.truth.Goals as goal
 
 pub returns-then-b : goal.returns-then-b

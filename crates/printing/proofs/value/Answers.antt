@@ -1,5 +1,4 @@
 -- `printing::value` meets its contract, by cases on the value's type. Assumes nothing.
-use borrow.Author.Rules.{rules}
 use mathlib.Core.Path.{◌≡◌, sym, ap}
 use mathlib.Core.List.{List}
 use Prim.Native.Nat.{ℕ}

@@ -1,5 +1,4 @@
 -- `questions::asked_refusal` meets its contract: the refusal of what is lent, else what the kind answers. Assumes nothing.
-use borrow.Author.Rules.{rules}
 use Prim.Native.Nat.{◌≤◌}
 use mathlib.Core.Path.{sym, ◌∙◌}
 use lib.ListN.{length}

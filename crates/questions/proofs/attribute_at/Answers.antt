@@ -1,5 +1,4 @@
 -- `questions::attribute_at` meets its contract: the layout's refusal, 18 where it has no attribute n, else that attribute's place. Assumes nothing.
-use borrow.Author.Rules.{rules}
 use native.Mathlib.Omega.{arith}
 use mathlib.Core.Path.{◌≡◌, ap}
 use lib.ListN.{length}

@@ -1,5 +1,4 @@
 -- `questions::field` meets its contract: the type of the attribute where it stands in the book, and the value of that type where it stands in the document. Assumes nothing.
-use borrow.Author.Rules.{rules}
 use native.Mathlib.Omega.{arith}
 use mathlib.Core.Path.{◌≡◌, sym, ap, ◌∙◌}
 use Rattle.octets.specs.Reading.{is_ok}
@@ -27,7 +26,6 @@ found k = rw k.in-At.is at k.field_at-spot.ensures
 
 -- Its type, and its value of that type.
 module _ (t : Lts.After-kind_behind Tie.the-claims Reads.Pre Reads.Post) where
-
   kind : t.kind_behind-kind.result ≡ (found t.before).0.field.attribute.kind
   kind = let p = (found t.before).0 in t.kind_behind-kind.ensures p.field.attribute p.last p.names
 

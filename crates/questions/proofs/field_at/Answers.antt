@@ -1,5 +1,4 @@
 -- `questions::field_at` meets its contract: what stands before the question, then the field over the book's used octets. Assumes nothing.
-use borrow.Author.Rules.{rules}
 use mathlib.Core.Path.{sym}
 use Rattle.layouts.specs.Book.{book_in}
 use Rattle.questions.specs.Places.{Opened}

@@ -1,5 +1,4 @@
 -- `questions::field_name` meets its contract: the name of the attribute where it stands in the book. Assumes nothing.
-use borrow.Author.Rules.{rules}
 use native.Mathlib.Omega.{arith}
 use mathlib.Core.Path.{sym, ap, ◌∙◌}
 use lib.ListN.{take}

@@ -1,5 +1,4 @@
 -- `questions::field_octets` meets its contract: the octets behind their length where the type has any, else none. Assumes nothing.
-use borrow.Author.Rules.{rules}
 use native.Mathlib.Omega.{arith}
 use mathlib.Core.Path.{◌≡◌, sym, ap, ◌∙◌}
 use mathlib.Core.Bool.{Bool, true, false}
@@ -32,7 +31,6 @@ found k = rw k.in-At.is at k.field_at-spot.ensures
 
 -- Whether its type has octets.
 module _ (t : Lts.After-is_held Tie.the-claims Reads.Pre Reads.Post) where
-
   held : (b : Bool) → t.is_held.result ≡ b → is_held (form_of (found t.before.before).0.field.attribute.kind) ≡ b
   held b q =
       let p = (found t.before.before).0 in

@@ -1,5 +1,4 @@
 -- `questions::kind_refusal` meets its contract: each answer by the law of the kind at that outcome. Assumes nothing.
-use borrow.Author.Rules.{rules}
 use native.Mathlib.Omega.{arith}
 use mathlib.Core.Path.{sym, ap, ◌∙◌}
 use Rattle.octets.specs.Asked.{refusal_of}

@@ -1,5 +1,4 @@
 -- `questions::layout_here` meets its contract: the layout is read to its last type, then judged by the book; nothing is put. Assumes nothing.
-use borrow.Author.Rules.{rules}
 use Prim.Native.Nat.{ℕ, ◌+◌}
 use mathlib.Core.Path.{◌≡◌, sym, ap, ◌∙◌}
 use mathlib.Core.List.{List}
@@ -23,7 +22,6 @@ abbrev Layed : Type 0
 Layed = Lts.Past-After-known_told2 Tie.the-claims Reads.Pre Reads.Post
 
 module _ (k : Layed) where
-
   abbrev doc : List ℕ
   doc = k.args.doc.now
 
@@ -33,16 +31,16 @@ module _ (k : Layed) where
   abbrev next : ℕ
   next = k.in-End.next
 
-  read-to : ends (layout_at doc (at + 4)) ≡ ok next next
-  read-to = sym k.layout_end-end.ensures.0 ∙ ap says k.in-End.is
+  read_to : ends (layout_at doc (at + 4)) ≡ ok next next
+  read_to = sym k.layout_end-end.ensures.0 ∙ ap says k.in-End.is
 
   layout : (l : Layout) × (layout_at doc (at + 4) ≡ ok l next)
-  layout = ended (layout_at doc (at + 4)) next read-to
+  layout = ended (layout_at doc (at + 4)) next read_to
 
 pub judge-judged-requires : goal.judge-judged-requires
 judge-judged-requires c =
     let w = rw c.in-End.is at c.layout_end-end.ensures.1 in
-    (w.0, w.1, read-to c.before, c.requires.small, c.requires.holds)
+    (w.0, w.1, read_to c.before, c.requires.small, c.requires.holds)
 
 -- What the book says of it.
 pub returns-in-Refused-judged : goal.returns-in-Refused-judged

@@ -1,5 +1,4 @@
 -- `questions::layout_refusal` meets its contract, by where the layout stands. Assumes nothing.
-use borrow.Author.Rules.{rules}
 use mathlib.Core.Path.{◌∙◌}
 use Rattle.octets.proofs.Asked.{refusal_stands}
 use Rattle.layouts.specs.Layout.{layout_at}

@@ -1,5 +1,4 @@
 -- `questions::row_refusal` meets its contract: field n was found, or is refused. Assumes nothing.
-use borrow.Author.Rules.{rules}
 use mathlib.Core.Path.{sym, ap}
 use Rattle.octets.specs.Asked.{refusal_of}
 use Rattle.questions.proofs.row_refusal.Goals as goal

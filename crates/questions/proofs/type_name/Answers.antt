@@ -1,5 +1,4 @@
 -- `questions::type_name` meets its contract: the type name of the layout where it stands in the document. Assumes nothing.
-use borrow.Author.Rules.{rules}
 use mathlib.Core.Path.{sym, ap, ◌∙◌}
 use Rattle.octets.specs.Reading.{is_ok}
 use Rattle.octets.specs.Asked.{part_of, Standing}

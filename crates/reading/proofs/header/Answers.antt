@@ -1,5 +1,4 @@
 -- `reading::header` meets its contract: the header's refusal, or the numbers that stand at its places. Assumes nothing.
-use borrow.Author.Rules.{rules}
 use Prim.Native.Nat.{ℕ}
 use mathlib.Core.Path.{◌≡◌, sym, ap, ◌∙◌, subst}
 use mathlib.Core.List.{List}

@@ -1,5 +1,4 @@
 -- `reading::step` meets its contract: what stands before every step, which leaves the book; then what the element answers and leaves. Assumes nothing.
-use borrow.Author.Rules.{rules}
 use Prim.Native.Nat.{◌≤◌}
 use mathlib.Core.Path.{sym, ap, ◌∙◌}
 use lib.ListN.{length}

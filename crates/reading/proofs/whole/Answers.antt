@@ -1,5 +1,4 @@
 -- `reading::whole` meets its contract: the header's refusal, or what is counted behind the header. Assumes nothing.
-use borrow.Author.Rules.{rules}
 use Prim.Native.Nat.{ℕ}
 use mathlib.Core.Path.{◌≡◌, sym, ap, ◌∙◌, subst}
 use mathlib.Core.List.{List}

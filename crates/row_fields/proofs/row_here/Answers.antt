@@ -21,35 +21,35 @@ returns-then-doc-at c = λ b i. let a = c.args in row_unnumbered a.doc.now a.at 
 abbrev Found : Type 0
 Found = Lts.After-look_in Tie.the-claims Reads.Pre Reads.Post
 
-looked-up : (f : Found) (b : Book) → Image f.args.book.now b → (x : Looked) → f.look_in-looked.result ≡ x
+looked_up : (f : Found) (b : Book) → Image f.args.book.now b → (x : Looked) → f.look_in-looked.result ≡ x
     → Looks f.args.book.now (be 4 f.args.doc.now f.args.at) b x
-looked-up f b i x q =
+looked_up f b i x q =
     subst (λ (n : ℕ). Looks f.args.book.now n b x) f.u32_at.ensures
     (subst (λ (y : Looked). Looks f.args.book.now f.u32_at.result b y) q (f.look_in-looked.ensures b i))
 
 pub returns-in-Missing : goal.returns-in-Missing
 returns-in-Missing c = λ b i.
     let a = c.args in
-    row_unknown a.doc.now a.at b (omega arith) (looked-up c.before.before b i _ c.in-Missing.is).0
+    row_unknown a.doc.now a.at b (omega arith) (looked_up c.before.before b i _ c.in-Missing.is).0
 
 -- The layout that was found stands in the book.
 pub row_end-row-requires : goal.row_end-row-requires
 row_end-row-requires c =
     let h = c.requires.3 in
-    let w = looked-up c.before.before h.book h.image _ c.in-There.is in
+    let w = looked_up c.before.before h.book h.image _ c.in-There.is in
     (omega arith, c.requires.1, omega (arith, c.requires.2), record { layout = w.layout; next = w.next; reads = w.reads })
 
 pub returns-in-Refused : goal.returns-in-Refused
 returns-in-Refused c = λ b i.
     let a = c.args in
-    let w = looked-up c.before.before.before.before b i _ c.in-There.is in
+    let w = looked_up c.before.before.before.before b i _ c.in-There.is in
     row_unshaped a.doc.now a.at b w.layout (omega arith) w.found _ _
     (sym (c.row_end-row.ensures.0 _ w.layout w.next w.reads) ∙ ap row_says c.in-Refused.is)
 
 pub returns-in-Row : goal.returns-in-Row
 returns-in-Row c = λ b i.
     let a = c.args in
-    let w = looked-up c.before.before.before.before b i _ c.in-There.is in
+    let w = looked_up c.before.before.before.before b i _ c.in-There.is in
     let t = row_taken a.doc.now a.at b w.layout (omega arith) w.found _ _ _ (sym (c.row_end-row.ensures.0 _ w.layout w.next w.reads) ∙ ap row_says c.in-Row.is)
     (each_octet a.doc.now c.type_inv.doc) in
     record {

@@ -54,14 +54,14 @@ abbrev More : Turn → ℕ
 More t = t.args.count - (t.loop-i.i + 1)
 
 -- The attribute here, of any that are read and of those that are required.
-next-of : (t : Turn) (xs : List Attribute) (last : ℕ) → run (attribute_at (Book t)) t.args.count t.args.first ≡ ok xs last
+next_of : (t : Turn) (xs : List Attribute) (last : ℕ) → run (attribute_at (Book t)) t.args.count t.args.first ≡ ok xs last
     → Next (Book t) (Doc t) (In t) xs t.args.at last (More t) (Place t) (Pos t)
-next-of t xs last e =
+next_of t xs last e =
     left_next (Book t) (Doc t) (In t) xs t.args.at last (More t) (Place t) (Pos t)
     (subst (λ (k : ℕ). Left (Book t) (Doc t) (In t) xs t.args.at last k (Place t) (Pos t)) (left_suc t.args.count t.loop-i.i t.loop-i-test.true) (t.loop-i.invariant.3 xs last e))
 
 accepted : (t : Turn) → is_ok (attribute_at (Book t) (Place t)) ≡ true
-accepted t = let r = t.requires.4 in ap is_ok (next-of t r.list r.end r.reads).reads
+accepted t = let r = t.requires.4 in ap is_ok (next_of t r.list r.end r.reads).reads
 
 -- The value here, by the form that was found.
 abbrev Answered : Type 0
@@ -81,7 +81,7 @@ loop-i-preserved c =
       omega (arith, w, c.loop-i.invariant.1),
       w.1,
       λ xs last e.
-          let n = next-of c.before.before.before.before.before xs last e in
+          let n = next_of c.before.before.before.before.before xs last e in
           let m = c.text_skip-kind in
           let place : n.next ≡ m.result + 4 = (attribute_fields (Book c.before.before.before.before.before) (Place c.before.before.before.before.before) m.result m.ensures.0 n.reads).place in
           subst (λ (p : ℕ). Left (Book c.before.before.before.before.before) (Doc c.before.before.before.before.before) (In c.before.before.before.before.before) xs c.args.at last (More c.before.before.before.before.before) p c.in-End.next) place
@@ -91,7 +91,7 @@ loop-i-preserved c =
 pub returns-in-Refused : goal.returns-in-Refused
 returns-in-Refused c = (
   λ xs last e.
-      let n = next-of c.before.before.before.before.before xs last e in
+      let n = next_of c.before.before.before.before.before xs last e in
       sym (n.stops _ _ (answered c.before.before _ c.in-Refused.is n.attribute n.next n.reads)),
   tt,
 )

@@ -16,28 +16,28 @@ use Rattle.rows.proofs.values_end.Reads
 use Rattle.rows.proofs.values_end.Tie
 
 -- The room is the one that the length at the place gives.
-is-room : (l : Lts.After-length_room Tie.the-claims Reads.Pre Reads.Post) → let a = l.args in l.length_room-room.result ≡ length_room a.at (be 4 a.doc.now a.at)
-is-room l =
+is_room : (l : Lts.After-length_room Tie.the-claims Reads.Pre Reads.Post) → let a = l.args in l.length_room-room.result ≡ length_room a.at (be 4 a.doc.now a.at)
+is_room l =
     let a = l.args in
     l.length_room-room.ensures ∙ ap (length_room a.at) l.u32_at.ensures
 
 pub returns-then-doc-reach : goal.returns-then-doc-reach
 returns-then-doc-reach c =
     let a = c.args in
-    let far = ap (λ (x : Room). reach x a.doc.now) (is-room c.before.before.before) in
+    let far = ap (λ (x : Room). reach x a.doc.now) (is_room c.before.before.before) in
     (λ xs last e. sym (ap ends (values_far a.doc.now a.at _ xs (omega (arith, far, c.reach.ensures, c.if-doc-reach.true)))), tt)
 
 pub fields_end-requires : goal.fields_end-requires
 fields_end-requires c =
     let a = c.args in
-    let far = ap (λ (x : Room). reach x a.doc.now) (is-room c.before.before.before) in
+    let far = ap (λ (x : Room). reach x a.doc.now) (is_room c.before.before.before) in
     (omega (arith, far, room_behind a.doc.now a.at (be 4 a.doc.now a.at) c.requires.0), omega (arith, c.reach.ensures, c.if-doc-reach.false), c.requires.1, c.requires.2, c.requires.3)
 
 pub returns : goal.returns
 returns c =
     let a = c.args in
     let doc = a.doc.now in
-    let room = is-room c.before.before.before.before.before in
+    let room = is_room c.before.before.before.before.before in
     let far = ap (λ (x : Room). reach x doc) room in
     let inside : reach (length_room a.at (be 4 doc a.at)) doc ≤ length doc = omega (arith, far, c.reach.ensures, c.if-doc-reach.false) in (
       λ xs last e.

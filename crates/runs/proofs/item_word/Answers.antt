@@ -1,5 +1,4 @@
 -- `runs::item_word` meets its contract: by what is told. Assumes nothing.
-use borrow.Author.Rules.{rules}
 use mathlib.Core.Path.{sym, ap, ◌∙◌}
 use Rattle.elements.specs.declared.Met.{Met}
 use Rattle.runs.specs.Answers.{met_word}

@@ -1,6 +1,5 @@
 -- `runs::items` meets its contract. The invariant: the run's way over the lent octets and its words, with the book in them kept.
 -- The measure is the items to come. Assumes nothing.
-use borrow.Author.Rules.{rules}
 use native.Mathlib.Omega.{arith}
 use Prim.Native.Nat.{ℕ, zero, suc, ◌+◌, ◌-◌, ◌≤◌, ◌<◌}
 use mathlib.Core.Path.{◌≡◌, refl, sym, ap, ◌∙◌, subst}
@@ -74,7 +73,7 @@ loop-n-init c =
       };
       inside = c.requires.0;
       few = omega (arith, c.requires.2);
-      book-long = refl;
+      book_long = refl;
       words_long = refl;
     }
 
@@ -83,7 +82,6 @@ abbrev Round : Type 0
 Round = Lts.In-loop Tie.the-claims Reads.Pre Reads.Post goal.the-invariant-loop-n goal.the-decreases-loop-n
 
 module _ (t : Round) where
-
   abbrev doc : List ℕ
   doc = t.args.doc.now
 
@@ -145,8 +143,8 @@ module _ (t : Round) where
   short : length doc ≤ longest
   short = t.requires.1
 
-  doc-octets : Each Octet doc
-  doc-octets = each_octet doc t.shared_slice_known-1.given
+  doc_octets : Each Octet doc
+  doc_octets = each_octet doc t.shared_slice_known-1.given
 
   going : Going doc at rows entry used lent octets words numbers places steps tally pos passed filled n
   going = t.loop-n.invariant
@@ -160,8 +158,8 @@ module _ (t : Round) where
   shelf_long : length (take filled octets) ≡ filled
   shelf_long = length-take-le filled octets (omega (arith, held.room, held.most))
 
-  words-full : length words ≡ 4096
-  words-full = going.words_long ∙ t.requires.4
+  words_full : length words ≡ 4096
+  words_full = going.words_long ∙ t.requires.4
 
   room : n < 4096
   room = t.loop-n-test.true
@@ -213,35 +211,34 @@ module _ (v : Answered) where
   abbrev words₁ : List ℕ
   words₁ = put_mid (n (Of v)) (length (words (Of v)) - n (Of v)) (words (Of v)) put
 
-  abbrev GoesOn-by : Moved → Type 0
-  GoesOn-by x = let t = Of v in GoesOn (doc t) (spot_at (pos t) (passed t) (book t)) (numbers t) (tally t).known (numbers t) v.reach-most.result rest put x
+  abbrev GoesOnBy : Moved → Type 0
+  GoesOnBy x = let t = Of v in GoesOn (doc t) (spot_at (pos t) (passed t) (book t)) (numbers t) (tally t).known (numbers t) v.reach-most.result rest put x
 
-  went : (x : Moved) → v.go_on-moved.result ≡ x → GoesOn-by x
-  went x e = subst GoesOn-by e (v.go_on-moved.ensures (book (Of v)) (bears (Of v)))
+  went : (x : Moved) → v.go_on-moved.result ≡ x → GoesOnBy x
+  went x e = subst GoesOnBy e (v.go_on-moved.ensures (book (Of v)) (bears (Of v)))
 
-  words-long₁ : length words₁ ≡ length (lent (Of v))
-  words-long₁ = same_len_mid (n (Of v)) (length (words (Of v)) - n (Of v)) (words (Of v)) put v.go_on-moved.auto.words ∙ (going (Of v)).words_long
+  words_long₁ : length words₁ ≡ length (lent (Of v))
+  words_long₁ = same_len_mid (n (Of v)) (length (words (Of v)) - n (Of v)) (words (Of v)) put v.go_on-moved.auto.words ∙ (going (Of v)).words_long
 
   -- By a turn: no word is put.
   still : put ≡ rest → words₁ ≡ words (Of v)
   still e = let t = Of v in ap (put_mid (n t) (length (words t) - n t) (words t)) e ∙ put_same (n t) (length (words t) - n t) (words t)
 
-  run-still : put ≡ rest → let t = Of v in OnRun (doc t) (first t) (lent t) words₁ (n t) (here t)
-  run-still e = let t = Of v in subst (λ (ws : List ℕ). OnRun (doc t) (first t) (lent t) ws (n t) (here t)) (sym (still e)) (going t).run
+  run_still : put ≡ rest → let t = Of v in OnRun (doc t) (first t) (lent t) words₁ (n t) (here t)
+  run_still e = let t = Of v in subst (λ (ws : List ℕ). OnRun (doc t) (first t) (lent t) ws (n t) (here t)) (sym (still e)) (going t).run
 
 -- Over rows.
 abbrev Strode : Type 0
 Strode = Lts.Past-After-known_told Tie.the-claims Reads.Pre Reads.Post goal.the-invariant-loop-n goal.the-decreases-loop-n
 
 module _ (k : Strode) where
-
   abbrev next : ℕ
   next = k.in-Rows.next
 
   abbrev count : ℕ
   count = k.in-Rows.count
 
-  over : GoesOn-by k.before.before.before (moved.Rows next count)
+  over : GoesOnBy k.before.before.before (moved.Rows next count)
   over = went k.before.before.before _ k.in-Rows.is
 
   bounds : (0 < count) × (n (Of k.before.before.before) + count ≤ 4096) × (passed (Of k.before.before.before) + count ≤ most_rows + 1)
@@ -255,8 +252,8 @@ loop-n-preserved-in-Rows c =
     let y : Spot = spot_at (next c.before) (passed t + length h.seen) (book t) in
     let all : rows_of (placed_all h.seen) ≡ length h.seen = omega (arith, path_rows (doc t) h.seen x y h.path) in
     let over = over_rows (doc t) (short t) (octets t) (filled t) (carried t).is (carried t).octets_are h.seen (pos t) (passed t) (next c.before) (λ _. omega (arith, h.is_count, bounds c.before)) all h.path in
-    let said = words_same (numbers t) (book t) h.seen (path_way (doc t) (short t) (doc-octets t) h.seen x y (going t).inside h.path).good all h.planned in
-    let long : n t ≤ length (words t) = omega (arith, words-full t, room t) in
+    let said = words_same (numbers t) (book t) h.seen (path_way (doc t) (short t) (doc_octets t) h.seen x y (going t).inside h.path).good all h.planned in
+    let long : n t ≤ length (words t) = omega (arith, words_full t, room t) in
     let put : words₁ c.before.before.before.before ≡ laid (n t) (words_of h.seen) (words t) =
     ap (put_mid (n t) (length (words t) - n t) (words t)) (h.put ∙ ap (λ (ws : List ℕ). laid 0 ws (rest c.before.before.before.before)) said) ∙ laid_part (n t) (words_of h.seen) (words t) long in
     let run = run_path (doc t) (first t) (lent t) (going t).run h.seen (lent_at (next c.before) (passed t + length h.seen) (octets t) (filled t)) over (omega (arith, h.is_count, bounds c.before)) in
@@ -265,17 +262,17 @@ loop-n-preserved-in-Rows c =
           subst (λ (ws : List ℕ). OnRun (doc t) (first t) (lent t) ws (n t + count c.before) (lent_at (next c.before) (passed t + count c.before) (octets t) (filled t))) (sym put)
           (subst (λ (k : ℕ). OnRun (doc t) (first t) (lent t) (laid (n t) (words_of h.seen) (words t)) (n t + k) (lent_at (next c.before) (passed t + k) (octets t) (filled t))) h.is_count run);
       carried = carried t;
-      inside = over-inside c.before;
+      inside = over_inside c.before;
       few = (bounds c.before).2;
-      book-long = (going t).book-long;
-      words_long = words-long₁ c.before.before.before.before;
+      book_long = (going t).book_long;
+      words_long = words_long₁ c.before.before.before.before;
     }
   where
-    over-inside : (k : Strode) → next k ≤ length (doc (Of k.before.before.before))
-    over-inside k = (over k).1.inside
+    over_inside : (k : Strode) → next k ≤ length (doc (Of k.before.before.before))
+    over_inside k = (over k).1.inside
 
 -- A turn that stops.
-refuses : (v : Answered) (m p : ℕ) → GoesOn-by v (moved.Refused m p) → turn_over (doc (Of v)) (here (Of v)) ≡ stops (refused m p)
+refuses : (v : Answered) (m p : ℕ) → GoesOnBy v (moved.Refused m p) → turn_over (doc (Of v)) (here (Of v)) ≡ stops (refused m p)
 refuses v m p e =
     let t = Of v in
     over_stops (doc t) (short t) (octets t) (filled t) (carried t).is (pos t) (passed t) (few v.before.before.before.before.before.before) (refused m p) (moved_refused (turn_at (doc t) (spot_at (pos t) (passed t) (book t))) m p (sym e.is))
@@ -284,13 +281,13 @@ pub returns-then-n-eq0 : goal.returns-then-n-eq0
 returns-then-n-eq0 c =
     let t = Of c.before.before.before.before.before in
     let e = went c.before.before.before.before.before _ c.in-Refused.is in
-    went_refused (doc t) (first t) (lent t) (run-still c.before.before.before.before.before e.kept) _ _ (refuses c.before.before.before.before.before _ _ e) c.if-n-eq0.true
+    went_refused (doc t) (first t) (lent t) (run_still c.before.before.before.before.before e.kept) _ _ (refuses c.before.before.before.before.before _ _ e) c.if-n-eq0.true
 
 pub returns-in-Refused : goal.returns-in-Refused
 returns-in-Refused c =
     let t = Of c.before.before.before.before.before in
     let e = went c.before.before.before.before.before _ c.in-Refused.is in
-    let run = run-still c.before.before.before.before.before e.kept in
+    let run = run_still c.before.before.before.before.before e.kept in
     went_some (doc t) (first t) (lent t) run (omega (arith, c.if-n-eq0.false)) _ (run_stops (doc t) (first t) (lent t) run _ (refuses c.before.before.before.before.before _ _ e) (room t))
 
 pub returns-in-End : goal.returns-in-End
@@ -298,7 +295,7 @@ returns-in-End c =
     let t = Of c.before.before.before.before in
     let e = went c.before.before.before.before _ c.in-End.is in
     let (u, is, _) = moved_end (turn_at (doc t) (spot_at (pos t) (passed t) (book t))) _ _ _ (sym e.is) in
-    went_end (doc t) (first t) (lent t) (run-still c.before.before.before.before e.kept) _ u _
+    went_end (doc t) (first t) (lent t) (run_still c.before.before.before.before e.kept) _ u _
     (over_stops (doc t) (short t) (octets t) (filled t) (carried t).is (pos t) (passed t) (few c.before.before.before.before.before.before.before.before.before.before) _ is) (room t)
 
 pub returns : goal.returns
@@ -314,14 +311,13 @@ abbrev Item : Type 0
 Item = Lts.Past-After-known_told4 Tie.the-claims Reads.Pre Reads.Post goal.the-invariant-loop-n goal.the-decreases-loop-n
 
 module _ (k : Item) where
-
   abbrev within : Round
   within = Of k.before.before.before
 
   abbrev gone : Gone
   gone = k.in-Item.gone
 
-  turned : GoesOn-by k.before.before.before (moved.Item gone)
+  turned : GoesOnBy k.before.before.before (moved.Item gone)
   turned = went k.before.before.before _ k.in-Item.is
 
   met : let t = within in (p : Seen) × (y : Spot) × (turn_at (doc t) (spot_at (pos t) (passed t) (book t)) ≡ goes p y) × (gone_of p y ≡ gone)
@@ -334,7 +330,7 @@ module _ (k : Item) where
   y = met.1
 
   moves : (pos within + 4 ≤ p.next) × (p.next ≤ length (doc within))
-  moves = let t = within in item_moves (doc t) (doc-octets t) (short t) (pos t) (passed t) (book t) p y met.2
+  moves = let t = within in item_moves (doc t) (doc_octets t) (short t) (pos t) (passed t) (book t) p y met.2
 
   near : gone.next ≤ longest
   near = subst (λ (g : Gone). g.next ≤ longest) met.3 (omega (arith, moves, short within))
@@ -346,42 +342,41 @@ module _ (k : Item) where
 abbrev Worded : Type 0
 Worded = Lts.After-item_word Tie.the-claims Reads.Pre Reads.Post goal.the-invariant-loop-n goal.the-decreases-loop-n
 
-word-met : (i : element.Item) (next : ℕ) → met_word (met_of (element.item i)) next ≡ item_word i next
-word-met (element.layout l) next = refl
-word-met (element.row r) next = refl
+word_met : (i : element.Item) (next : ℕ) → met_word (met_of (element.item i)) next ≡ item_word i next
+word_met (element.layout l) next = refl
+word_met (element.row r) next = refl
 
 module _ (w : Worded) where
-
-  abbrev in-round : Round
-  in-round = within w.before
+  abbrev in_round : Round
+  in_round = within w.before
 
   abbrev words₂ : List ℕ
-  words₂ = set (words₁ w.before.before.before.before) (n in-round) w.item_word.result
+  words₂ = set (words₁ w.before.before.before.before) (n in_round) w.item_word.result
 
   word_is : w.item_word.result ≡ item_word (p w.before).which (p w.before).next
-  word_is = w.item_word.ensures ∙ (sym (ap (λ (g : Gone). met_word g.met g.next) (met w.before).3) ∙ word-met (p w.before).which (p w.before).next)
+  word_is = w.item_word.ensures ∙ (sym (ap (λ (g : Gone). met_word g.met g.next) (met w.before).3) ∙ word_met (p w.before).which (p w.before).next)
 
   -- The run behind it.
   abbrev After : List ℕ → List ℕ → List ℕ → List ℕ → Tally → Gone → Type 0
   After book₁ numbers₁ places₁ steps₁ tally₁ g =
-      let t = in-round in Going (doc t) (at t) (rows t) (entry t) (used t) (lent t) book₁ words₂ numbers₁ places₁ steps₁ tally₁ g.next g.rows g.used (n t + 1)
+      let t = in_round in Going (doc t) (at t) (rows t) (entry t) (used t) (lent t) book₁ words₂ numbers₁ places₁ steps₁ tally₁ g.next g.rows g.used (n t + 1)
 
-  on : (book₁ numbers₁ places₁ steps₁ : List ℕ) (tally₁ : Tally) → book₁ ≡ holding (y w.before).book (octets in-round) → length book₁ ≡ length (octets in-round)
+  on : (book₁ numbers₁ places₁ steps₁ : List ℕ) (tally₁ : Tally) → book₁ ≡ holding (y w.before).book (octets in_round) → length book₁ ≡ length (octets in_round)
       → Carried book₁ (length (book_image (y w.before).book)) numbers₁ places₁ steps₁ tally₁ → After book₁ numbers₁ places₁ steps₁ tally₁ (gone w.before)
   on book₁ numbers₁ places₁ steps₁ tally₁ left long c =
-      let t = in-round in
+      let t = in_round in
       let over = over_goes (doc t) (short t) (octets t) (filled t) (carried t).is (pos t) (passed t) (few w.before.before.before.before.before.before.before.before.before.before) (p w.before) (y w.before) (met w.before).2 in
       subst (After book₁ numbers₁ places₁ steps₁ tally₁) (met w.before).3
       (record {
         run =
             subst (λ (xs : List ℕ). OnRun (doc t) (first t) (lent t) words₂ (n t + 1) (lent_at (p w.before).next (y w.before).rows xs (length (book_image (y w.before).book)))) (sym left)
             (subst (λ (z : ℕ). OnRun (doc t) (first t) (lent t) (set (words₁ w.before.before.before.before) (n t) z) (n t + 1) (left_by (octets t) (p w.before) (y w.before))) (sym word_is)
-            (run_item (doc t) (first t) (lent t) (run-still w.before.before.before.before (turned w.before).kept) (p w.before) (left_by (octets t) (p w.before) (y w.before)) over (room t)));
+            (run_item (doc t) (first t) (lent t) (run_still w.before.before.before.before (turned w.before).kept) (p w.before) (left_by (octets t) (p w.before) (y w.before)) over (room t)));
         carried = c;
         inside = (moves w.before).1;
         few = counted w.before;
-        book-long = long ∙ (going t).book-long;
-        words_long = length-set (words₁ w.before.before.before.before) (n t) w.item_word.result ∙ words-long₁ w.before.before.before.before;
+        book_long = long ∙ (going t).book_long;
+        words_long = length-set (words₁ w.before.before.before.before) (n t) w.item_word.result ∙ words_long₁ w.before.before.before.before;
       })
 
 pub item_word-requires : goal.item_word-requires
@@ -389,13 +384,13 @@ item_word-requires c = omega (arith, near c.before)
 
 -- There is room for it.
 pub bounds-words-n : goal.bounds-words-n
-bounds-words-n c = let t = within c.before.before in omega (arith, words-long₁ c.before.before.before.before.before, c.requires.4, room t)
+bounds-words-n c = let t = within c.before.before in omega (arith, words_long₁ c.before.before.before.before.before, c.requires.4, room t)
 
 -- An item whose layout is not new.
 pub loop-n-preserved : goal.loop-n-preserved
 loop-n-preserved c =
-    let t = in-round c.before.before.before in
-    let (same, left, long) = carried_old (octets t) (filled t) (numbers t) (places t) (steps t) (tally t) (carried t) (doc t) (doc-octets t) (short t) (pos t) (passed t) (p c.before.before.before.before) (y c.before.before.before.before) (met c.before.before.before.before).2
+    let t = in_round c.before.before.before in
+    let (same, left, long) = carried_old (octets t) (filled t) (numbers t) (places t) (steps t) (tally t) (carried t) (doc t) (doc_octets t) (short t) (pos t) (passed t) (p c.before.before.before.before) (y c.before.before.before.before) (met c.before.before.before.before).2
     (subst (λ (g : Gone). g.used ≤ filled t) (sym (met c.before.before.before.before).3) c.if-filled-gone.false) in
     on c.before.before.before (octets t) (numbers t) (places t) (steps t) (tally t) (sym left) refl
     (subst (λ (m : ℕ). Carried (octets t) m (numbers t) (places t) (steps t) (tally t)) (sym long) (carried t))
@@ -405,31 +400,30 @@ abbrev Grew : Type 0
 Grew = Lts.Then3 Tie.the-claims Reads.Pre Reads.Post goal.the-invariant-loop-n goal.the-decreases-loop-n
 
 module _ (g : Grew) where
+  more : filled (in_round g.before.before) < length (book_image (y g.before.before.before).book)
+  more = subst (λ (x : Gone). filled (in_round g.before.before) < x.used) (sym (met g.before.before.before).3) g.if-filled-gone.true
 
-  more : filled (in-round g.before.before) < length (book_image (y g.before.before.before).book)
-  more = subst (λ (x : Gone). filled (in-round g.before.before) < x.used) (sym (met g.before.before.before).3) g.if-filled-gone.true
-
-  newly : let t = in-round g.before.before in Newly (doc t) (pos t) (p g.before.before.before).next (book t) (y g.before.before.before).book
+  newly : let t = in_round g.before.before in Newly (doc t) (pos t) (p g.before.before.before).next (book t) (y g.before.before.before).book
   newly =
-      let t = in-round g.before.before in
-      carried_newly (octets t) (filled t) (numbers t) (places t) (steps t) (tally t) (carried t) (doc t) (doc-octets t) (short t) (pos t) (passed t) (p g.before.before.before) (y g.before.before.before) (met g.before.before.before).2 more
+      let t = in_round g.before.before in
+      carried_newly (octets t) (filled t) (numbers t) (places t) (steps t) (tally t) (carried t) (doc t) (doc_octets t) (short t) (pos t) (passed t) (p g.before.before.before) (y g.before.before.before) (met g.before.before.before).2 more
 
 pub grow-requires : goal.grow-requires
 grow-requires c =
-    let t = in-round c.before.before.before.before in
+    let t = in_round c.before.before.before.before in
     let k = c.before.before.before.before.before in (
       short t,
       (carried t).is,
       subst (λ (x : Gone). Grows (doc t) (pos t) x.next (book t)) (met k).3
-          (carried_grows (octets t) (filled t) (numbers t) (places t) (steps t) (tally t) (carried t) (doc t) (doc-octets t) (short t) (pos t) (passed t) (p k) (y k) (met k).2 (more c.before.before)),
+          (carried_grows (octets t) (filled t) (numbers t) (places t) (steps t) (tally t) (carried t) (doc t) (doc_octets t) (short t) (pos t) (passed t) (p k) (y k) (met k).2 (more c.before.before)),
     )
 
 pub overflow_add-pos : goal.overflow_add-pos
-overflow_add-pos c = omega (arith, moves c.before.before.before.before.before.before.before.before, short (in-round c.before.before.before.before.before.before.before))
+overflow_add-pos c = omega (arith, moves c.before.before.before.before.before.before.before.before, short (in_round c.before.before.before.before.before.before.before))
 
 pub keep-tally-requires : goal.keep-tally-requires
 keep-tally-requires c =
-    let t = in-round c.before.before.before.before.before.before.before.before.before.before in
+    let t = in_round c.before.before.before.before.before.before.before.before.before.before in
     let k = (carried t).kept in
     let (known, start, end) = tally_bounds (tally t) (book t) k.tally in
     let n = newly c.before.before.before.before.before.before.before.before in
@@ -438,24 +432,24 @@ keep-tally-requires c =
 pub loop-n-preserved-then-filled-gone : goal.loop-n-preserved-then-filled-gone
 unfolding newly
 loop-n-preserved-then-filled-gone c =
-    let t = in-round c.before.before.before.before.before.before.before.before.before.before.before in
+    let t = in_round c.before.before.before.before.before.before.before.before.before.before.before in
     let n = newly c.before.before.before.before.before.before.before.before.before in
     let exit = c.grow.new.book in
     let left : exit ≡ holding (y c.before.before.before.before.before.before.before.before.before.before.before.before).book (octets t) =
-    item_left (doc t) (doc-octets t) (short t) (pos t) (passed t) (book t) (p c.before.before.before.before.before.before.before.before.before.before.before.before) (y c.before.before.before.before.before.before.before.before.before.before.before.before) (met c.before.before.before.before.before.before.before.before.before.before.before.before).2 (omega (arith, more c.before.before.before.before.before.before.before.before.before, (bears t).size)) (octets t) exit
+    item_left (doc t) (doc_octets t) (short t) (pos t) (passed t) (book t) (p c.before.before.before.before.before.before.before.before.before.before.before.before) (y c.before.before.before.before.before.before.before.before.before.before.before.before) (met c.before.before.before.before.before.before.before.before.before.before.before.before).2 (omega (arith, more c.before.before.before.before.before.before.before.before.before, (bears t).size)) (octets t) exit
     (λ rows st e. c.grow.ensures rows st (e ∙ ap (λ (x : Gone). ok st x.next) (met c.before.before.before.before.before.before.before.before.before.before.before.before).3)) in
     let h = c.keep-tally.ensures n.layout (p c.before.before.before.before.before.before.before.before.before.before.before.before).next n.reads in
     on c.before.before.before.before.before.before.before.before.before.before.before exit _ _ _ _ left c.grow.auto.book
-    (carried_new (octets t) (filled t) (numbers t) (places t) (steps t) (tally t) (carried t) (doc t) (doc-octets t) (short t) (pos t) (passed t) (p c.before.before.before.before.before.before.before.before.before.before.before.before) (y c.before.before.before.before.before.before.before.before.before.before.before.before) (met c.before.before.before.before.before.before.before.before.before.before.before.before).2 (more c.before.before.before.before.before.before.before.before.before) exit left h).0
+    (carried_new (octets t) (filled t) (numbers t) (places t) (steps t) (tally t) (carried t) (doc t) (doc_octets t) (short t) (pos t) (passed t) (p c.before.before.before.before.before.before.before.before.before.before.before.before) (y c.before.before.before.before.before.before.before.before.before.before.before.before) (met c.before.before.before.before.before.before.before.before.before.before.before.before).2 (more c.before.before.before.before.before.before.before.before.before) exit left h).0
 
 -- The part of the words lies within them.
 lies : (r : Reached) → n r.before.before ≤ length (words r.before.before)
-lies r = omega (arith, words-full r.before.before, room r.before.before)
+lies r = omega (arith, words_full r.before.before, room r.before.before)
 
 -- Book and words come back as long as they were lent, from a refusal and from the end.
 module _ (v : Answered) where
   book_back : length (octets (Of v)) ≡ length (entry (Of v))
-  book_back = (going (Of v)).book-long
+  book_back = (going (Of v)).book_long
 
 pub slice_bounds-index-end : goal.slice_bounds-index-end
 slice_bounds-index-end c = let l = held_at c.before.before in omega (arith, l.room, l.most)
@@ -464,7 +458,7 @@ pub slice_bounds-index-end-2 : goal.slice_bounds-index-end-2
 slice_bounds-index-end-2 c = let l = held_at c.before.before in let a = c.args in sym (length-take-le a.used a.book.now (omega (arith, l.room, l.most)))
 
 pub shape_of-book-then-passed-gt-MOST_ROWS : goal.shape_of-book-then-passed-gt-MOST_ROWS
-shape_of-book-then-passed-gt-MOST_ROWS c = (going c.before.before).book-long
+shape_of-book-then-passed-gt-MOST_ROWS c = (going c.before.before).book_long
 
 pub shape_of-words-then-passed-gt-MOST_ROWS : goal.shape_of-words-then-passed-gt-MOST_ROWS
 shape_of-words-then-passed-gt-MOST_ROWS c = (going c.before.before).words_long
@@ -500,34 +494,34 @@ pub shape_of-book-then-n-eq0 : goal.shape_of-book-then-n-eq0
 shape_of-book-then-n-eq0 c = book_back c.before.before.before.before.before
 
 pub shape_of-words-then-n-eq0 : goal.shape_of-words-then-n-eq0
-shape_of-words-then-n-eq0 c = words-long₁ c.before.before.before.before.before
+shape_of-words-then-n-eq0 c = words_long₁ c.before.before.before.before.before
 
 pub shape_of-book-in-Refused : goal.shape_of-book-in-Refused
 shape_of-book-in-Refused c = book_back c.before.before.before.before.before
 
 pub shape_of-words-in-Refused : goal.shape_of-words-in-Refused
-shape_of-words-in-Refused c = words-long₁ c.before.before.before.before.before
+shape_of-words-in-Refused c = words_long₁ c.before.before.before.before.before
 
 pub shape_of-book-in-End : goal.shape_of-book-in-End
 shape_of-book-in-End c = book_back c.before.before.before.before
 
 pub shape_of-words-in-End : goal.shape_of-words-in-End
-shape_of-words-in-End c = words-long₁ c.before.before.before.before
+shape_of-words-in-End c = words_long₁ c.before.before.before.before
 
 pub offset_bounds-words-n-in-Item : goal.offset_bounds-words-n-in-Item
-offset_bounds-words-n-in-Item c = omega (arith, room (in-round c.before))
+offset_bounds-words-n-in-Item c = omega (arith, room (in_round c.before))
 
 pub overflow_add-n-in-Item : goal.overflow_add-n-in-Item
-overflow_add-n-in-Item c = omega (arith, room (in-round c.before))
+overflow_add-n-in-Item c = omega (arith, room (in_round c.before))
 
 pub loop-n-smaller-then-filled-gone : goal.loop-n-smaller-then-filled-gone
-loop-n-smaller-then-filled-gone c = omega (arith, room (in-round c.before.before.before.before.before.before.before.before.before.before.before))
+loop-n-smaller-then-filled-gone c = omega (arith, room (in_round c.before.before.before.before.before.before.before.before.before.before.before))
 
 pub loop-n-smaller : goal.loop-n-smaller
-loop-n-smaller c = omega (arith, room (in-round c.before.before.before))
+loop-n-smaller c = omega (arith, room (in_round c.before.before.before))
 
 pub shape_of-book : goal.shape_of-book
-shape_of-book c = c.loop-n.invariant.book-long
+shape_of-book c = c.loop-n.invariant.book_long
 
 pub shape_of-words : goal.shape_of-words
 shape_of-words c = c.loop-n.invariant.words_long

@@ -1,5 +1,4 @@
 -- `runs::run` meets its contract: what stands before every step, and 1 past the end, each leaving book and words; then the run over a good book. Assumes nothing.
-use borrow.Author.Rules.{rules}
 use native.Mathlib.Omega.{arith}
 use Prim.Native.Nat.{◌≤◌}
 use mathlib.Core.Path.{◌∙◌, sym, ap}

@@ -94,13 +94,13 @@ by_turn e book b r is =
     }
 
 -- Where the number behind the kind was looked up.
-abbrev Looked-up : Type 0
-Looked-up = Lts.After-looked_at Tie.the-claims Reads.Pre Reads.Post
+abbrev LookedUp : Type 0
+LookedUp = Lts.After-looked_at Tie.the-claims Reads.Pre Reads.Post
 
-abbrev By : Looked-up → Strode
+abbrev By : LookedUp → Strode
 By l = l.before.before.before.before.before.before.before
 
-looks : (l : Looked-up) (book : Book) → Kept (By l) book → Looks (shelf (By l)) l.number_behind.result book l.looked_at-looked.result
+looks : (l : LookedUp) (book : Book) → Kept (By l) book → Looks (shelf (By l)) l.number_behind.result book l.looked_at-looked.result
 looks l book b =
     l.looked_at-looked.ensures (shelf (By l)) (numbers (By l)) l.number_behind.result book b.planned.numbered b.shelved
     (l.position_of-position.ensures book b.planned.numbered)

@@ -48,17 +48,17 @@ layout_skip-pos-requires c = (c.requires.0, (held c.before.before.before.before.
 abbrev Skipped : Type 0
 Skipped = Lts.After-layout_skip Tie.the-claims Reads.Pre Reads.Post goal.the-invariant-loop-pos goal.the-decreases-loop-pos
 
-next-at : (f : Skipped) (book : Book) → Image (S f.before.before.before.before.before) book → (f.loop-pos.pos < f.layout_skip-pos.result)
+next_at : (f : Skipped) (book : Book) → Image (S f.before.before.before.before.before) book → (f.loop-pos.pos < f.layout_skip-pos.result)
     × Met (S f.before.before.before.before.before) f.keep-tally.new.numbers f.keep-tally.new.places f.keep-tally.new.steps f.layout_skip-pos.result f.keep-tally.result book
-next-at f book image =
+next_at f book image =
     let k = f.keep-tally in
     (here_in f.before.before.before.before.before book image).on k.new.numbers k.new.places k.new.steps k.result f.layout_skip-pos.result k.ensures f.layout_skip-pos.ensures
 
 pub loop-pos-smaller : goal.loop-pos-smaller
-loop-pos-smaller c = omega (arith, (next-at c.before c.requires.4.book c.requires.4.image).0, c.loop-pos-test.true)
+loop-pos-smaller c = omega (arith, (next_at c.before c.requires.4.book c.requires.4.image).0, c.loop-pos-test.true)
 
 pub loop-pos-preserved : goal.loop-pos-preserved
-loop-pos-preserved c = λ book image. (next-at c.before book image).1
+loop-pos-preserved c = λ book image. (next_at c.before book image).1
 
 pub returns : goal.returns
 returns c = λ book image.

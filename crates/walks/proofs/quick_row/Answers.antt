@@ -75,8 +75,8 @@ module _ (x : Indexed) where
   small =
       omega (arith, (word_be 4 doc (at + 4) (each_octet doc x.shared_slice_known-1.given) (omega (arith, room))).0)
 
-  has-plan : (book : Book) → Planned numbers steps x.args.known book → Marked steps 0 book (be 4 doc (at + 4)) I
-  has-plan book p = plan_at numbers steps x.args.known book p I (be 4 doc (at + 4)) found.0 small found.1
+  has_plan : (book : Book) → Planned numbers steps x.args.known book → Marked steps 0 book (be 4 doc (at + 4)) I
+  has_plan book p = plan_at numbers steps x.args.known book p I (be 4 doc (at + 4)) found.0 small found.1
 
   few : I < 64
   few = let k = x.requires.3.planned.numbered in omega (arith, found.0, k.count, k.good.few)
@@ -93,7 +93,7 @@ stands_here w m =
 pub values_to-passed-requires : goal.values_to-passed-requires
 values_to-passed-requires c =
     let p = c.requires.3 in
-    let m = has-plan c.before.before.before.before p.book p.planned in
+    let m = has_plan c.before.before.before.before p.book p.planned in
     (omega (arith, room c.before.before.before.before), c.requires.1, record { long = p.planned.long; attributes = m.layout.attributes; stands = stands_here c.before m })
 
 -- The values that were passed.
@@ -102,13 +102,13 @@ lasts v y e = subst (Lasts (doc v.before.before.before.before) (at v.before.befo
 
 pub returns-in-Unsure : goal.returns-in-Unsure
 returns-in-Unsure c = λ book p i h n k.
-    let m = has-plan c.before.before.before.before.before.before book p in
+    let m = has_plan c.before.before.before.before.before.before book p in
     row_refused (doc c.before.before.before.before.before.before) (at c.before.before.before.before.before.before + 4) (at c.before.before.before.before.before.before + 8) book (omega arith) m.layout (omega (arith, room c.before.before.before.before.before.before)) m.found
     (lasts c.before.before _ c.in-Unsure.is m.layout.attributes (stands_here c.before.before.before m))
 
 pub returns-in-To : goal.returns-in-To
 returns-in-To c = λ book p.
-    let m = has-plan c.before.before.before.before.before.before book p in
+    let m = has_plan c.before.before.before.before.before.before book p in
     let values = lasts c.before.before _ c.in-To.is m.layout.attributes (stands_here c.before.before.before m) in
     let r = row_passed (doc c.before.before.before.before.before.before) (at c.before.before.before.before.before.before + 4) (at c.before.before.before.before.before.before + 8) _ book m.layout (omega arith) (omega (arith, room c.before.before.before.before.before.before)) m.found values in
     record {

@@ -45,7 +45,7 @@ loop-next-init c =
       length-replicate {A = ℕ} 1 0,
     )
 
--- The turn m.before.before.before.before.before names.
+-- The turn by names.
 abbrev Turn : Type 0
 Turn = Lts.At-loop Tie.the-claims Reads.Pre Reads.Post goal.the-invariant-loop-next goal.the-decreases-loop-next
 
@@ -63,7 +63,7 @@ go_on-moved-requires c =
       record { book = w.book; bears = way_bears a.doc.now o short (spot_at a.at 0 []) _ a.doc.now _ _ _ _ _ _ _ w },
     )
 
--- How the walk went on, m.before.before.before.before.before names.
+-- How the walk went on, by names.
 abbrev Answered : Type 0
 Answered = Lts.After-go_on Tie.the-claims Reads.Pre Reads.Post goal.the-invariant-loop-next goal.the-decreases-loop-next
 
@@ -160,7 +160,7 @@ pub returns-in-End : goal.returns-in-End
 returns-in-End c =
     sym (stopped c.before.before.before _ (moved_end (turn_at (doc c.before.before.before) (here c.before.before.before)) _ _ _ (sym (went c.before.before.before _ c.in-End.is).is)).1)
 
--- An item, m.before.before.before.before.before names.
+-- An item, by names.
 abbrev Item : Type 0
 Item = Lts.After-struct_known Tie.the-claims Reads.Pre Reads.Post goal.the-invariant-loop-next goal.the-decreases-loop-next
 

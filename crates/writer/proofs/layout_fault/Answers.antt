@@ -1,5 +1,4 @@
 -- `writer::layout_fault` meets its contract: what was found. Assumes nothing.
-use borrow.Author.Rules.{rules}
 use mathlib.Core.Path.{◌≡◌, refl, subst}
 use lib.ListN.{take}
 use Rattle.layouts.specs.Book.{book_in}

@@ -1,5 +1,4 @@
 -- `writer::suits_number` meets its contract, by each form. Assumes nothing.
-use borrow.Author.Rules.{rules}
 use mathlib.Core.Path.{refl, sym, ◌∙◌}
 use Rattle.writer.proofs.suits_number.Goals as goal
 

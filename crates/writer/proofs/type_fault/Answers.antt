@@ -1,5 +1,4 @@
 -- `writer::type_fault` meets its contract: what the type number means. Assumes nothing.
-use borrow.Author.Rules.{rules}
 use mathlib.Core.Path.{refl, sym, ap, ◌∙◌}
 use Rattle.kinds.specs.Answers.{kinds}
 use Rattle.writer.proofs.type_fault.Goals as goal

@@ -1,5 +1,4 @@
 -- `writer::value_breach` meets its contract, by each form. Assumes nothing.
-use borrow.Author.Rules.{rules}
 use mathlib.Core.Path.{sym, ap, ◌∙◌}
 use Rattle.kinds.specs.declared.Form.{Form}
 use Rattle.kinds.specs.Forms.{held}

@@ -1,5 +1,4 @@
 -- `writer::width_of` meets its contract, by each form. Assumes nothing.
-use borrow.Author.Rules.{rules}
 use native.Mathlib.Omega.{arith}
 use mathlib.Core.Path.{sym, ap, ◌∙◌}
 use Rattle.writer.specs.Own.{width_of}

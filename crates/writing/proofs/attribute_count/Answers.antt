@@ -1,5 +1,4 @@
 -- `writing::attribute_count` meets its contract: its number is given as the call says. Assumes nothing.
-use borrow.Author.Rules.{rules}
 use mathlib.Core.Path.{ap}
 use Rattle.octets.specs.Writing.{word}
 use Rattle.writing_parts.specs.declared.Fault.{Fault}

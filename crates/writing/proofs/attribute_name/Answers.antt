@@ -1,5 +1,4 @@
 -- `writing::attribute_name` meets its contract: its string is given as the call says. Assumes nothing.
-use borrow.Author.Rules.{rules}
 use Rattle.writer.specs.Writer.{does}
 use Rattle.writer.specs.Answers.{call_leaves}
 use Rattle.writing.proofs.attribute_name.Goals as goal

@@ -1,5 +1,4 @@
 -- `writing::attribute_type` meets its contract: its number is given as the call says, with one less to come. Assumes nothing.
-use borrow.Author.Rules.{rules}
 use mathlib.Core.Path.{◌≡◌, refl}
 use Prim.Native.Nat.{ℕ, ◌+◌}
 use Rattle.octets.specs.Writing.{word}

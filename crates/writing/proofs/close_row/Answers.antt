@@ -1,5 +1,4 @@
 -- `writing::close_row` meets its contract: 17 and 20 first, then the fault, or the length laid where it stands. Assumes nothing.
-use borrow.Author.Rules.{rules}
 use borrow.Author.Tests.{le-leb}
 use native.Mathlib.Omega.{arith}
 use Prim.Native.Nat.{ℕ, ◌+◌, ◌-◌, ◌≤◌}

@@ -1,5 +1,4 @@
 -- `writing::document_id` meets its contract: its octets are the length's, the id's and the four octets FF. Assumes nothing.
-use borrow.Author.Rules.{rules}
 use mathlib.Core.Path.{◌≡◌, refl, sym}
 use mathlib.Core.List.{List, ◌∷◌, [], ◌++◌, append_assoc}
 use Prim.Native.Nat.{ℕ}

@@ -1,5 +1,4 @@
 -- `writing::finish` meets its contract: its octets are the kind's, the count's and the time's. Assumes nothing.
-use borrow.Author.Rules.{rules}
 use mathlib.Core.Path.{refl, ap, ◌∙◌}
 use mathlib.Core.List.{List, ◌++◌}
 use Prim.Native.Nat.{ℕ}

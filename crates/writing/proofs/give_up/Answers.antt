@@ -1,5 +1,4 @@
 -- `writing::give_up` meets its contract: 17 and 20 first, then the zeros laid. Assumes nothing.
-use borrow.Author.Rules.{rules}
 use borrow.Author.Tests.{le-leb}
 use native.Mathlib.Omega.{arith}
 use Prim.Native.Nat.{ℕ, ◌+◌, ◌-◌, ◌≤◌}
@@ -48,28 +47,28 @@ module _ (s : State) (b l : List ℕ) (used : ℕ) (r : Fault) (is : r ≡ early
         ∙ leaves_put s b l used (does s b (book_in l used) give_up) refl refl (le-leb (s.start + length (replicate (s.place - s.start) 0)) (room (length b)) (omega arith))))
 
 -- What was asked about 17 and 20: whether an element is open.
-first-is : (r : Lts.After-ready Tie.the-claims Reads.Pre Reads.Post) → r.ready-first.result ≡ early r.args.s (length r.args.buf.now) r.args.book.now
+first_is : (r : Lts.After-ready Tie.the-claims Reads.Pre Reads.Post) → r.ready-first.result ≡ early r.args.s (length r.args.buf.now) r.args.book.now
     r.args.used (is_open r.args.s.turn)
-first-is r =
+first_is r =
     let a = r.args in
     r.ready-first.ensures ∙ ap (λ (mine : Bool). early a.s (length a.buf.now) a.book.now a.used mine) r.is_open-mine.ensures
 
 pub returns-in-Refused : goal.returns-in-Refused
 returns-in-Refused c =
     let a = c.args in
-    first a.s a.buf.now a.book.now a.used c.ready-first.result (first-is c.before.before) c.in-Refused.n c.in-Refused.is
+    first a.s a.buf.now a.book.now a.used c.ready-first.result (first_is c.before.before) c.in-Refused.n c.in-Refused.is
 
 pub overflow_sub-place : goal.overflow_sub-place
 overflow_sub-place c =
     let a = c.args in
-    (within a.s a.buf.now a.book.now a.used c.ready-first.result (first-is c.before.before.before) c.in_default.is).0
+    (within a.s a.buf.now a.book.now a.used c.ready-first.result (first_is c.before.before.before) c.in_default.is).0
 
 pub lay_zeros-requires : goal.lay_zeros-requires
 lay_zeros-requires c =
     let a = c.args in
-    inside a.s a.buf.now a.book.now a.used c.ready-first.result (first-is c.before.before.before) c.in_default.is
+    inside a.s a.buf.now a.book.now a.used c.ready-first.result (first_is c.before.before.before) c.in_default.is
 
 pub returns : goal.returns
 returns c =
     let a = c.args in
-    done a.s a.buf.now a.book.now a.used c.ready-first.result (first-is c.before.before.before.before.before.before) c.in_default.is c.lay_zeros.ensures
+    done a.s a.buf.now a.book.now a.used c.ready-first.result (first_is c.before.before.before.before.before.before) c.in_default.is c.lay_zeros.ensures

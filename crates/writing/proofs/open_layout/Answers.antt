@@ -1,5 +1,4 @@
 -- `writing::open_layout` meets its contract: its octets are the kind's and the number's. Assumes nothing.
-use borrow.Author.Rules.{rules}
 use mathlib.Core.Path.{refl}
 use mathlib.Core.List.{append-nil}
 use Rattle.writer.specs.declared.Wanted.TheVariants as wants

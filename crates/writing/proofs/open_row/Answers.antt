@@ -1,5 +1,4 @@
 -- `writing::open_row` meets its contract: 17 and 20 first, then the layout looked up and the octets put. Assumes nothing.
-use borrow.Author.Rules.{rules}
 use Prim.Native.Nat.{ℕ, ◌≤◌}
 use mathlib.Core.Path.{◌≡◌, refl, sym, ap, ◌∙◌}
 use mathlib.Core.Bool.{Bool}

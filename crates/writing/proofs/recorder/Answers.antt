@@ -1,5 +1,4 @@
 -- `writing::recorder` meets its contract: its octets are the version's and the string's. Assumes nothing.
-use borrow.Author.Rules.{rules}
 use mathlib.Core.Path.{refl}
 use mathlib.Core.List.{append_assoc}
 use lib.ListN.{length}

@@ -1,5 +1,4 @@
 -- `writing::service_count` meets its contract: its count is given as the call says. Assumes nothing.
-use borrow.Author.Rules.{rules}
 use Rattle.writer.specs.Writer.{does}
 use Rattle.writer.specs.Answers.{call_leaves}
 use Rattle.writing.proofs.service_count.Goals as goal

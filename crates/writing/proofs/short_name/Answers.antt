@@ -1,5 +1,4 @@
 -- `writing::short_name` meets its contract: its string is given as the call says, with one less to come. Assumes nothing.
-use borrow.Author.Rules.{rules}
 use Rattle.writer.specs.Writer.{does}
 use Rattle.writer.specs.Answers.{call_leaves}
 use Rattle.writing.proofs.short_name.Goals as goal

@@ -1,5 +1,4 @@
 -- `writing::start_time` meets its contract: its bits are given as the call says. Assumes nothing.
-use borrow.Author.Rules.{rules}
 use mathlib.Core.Path.{ap, ◌∙◌}
 use mir.Facts.{to_z-of_z}
 use Rattle.kinds.specs.Kinds.{unsigned}

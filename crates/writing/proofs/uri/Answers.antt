@@ -1,5 +1,4 @@
 -- `writing::uri` meets its contract: its string is given as the call says. Assumes nothing.
-use borrow.Author.Rules.{rules}
 use Rattle.writer.specs.Writer.{does}
 use Rattle.writer.specs.Answers.{call_leaves}
 use Rattle.writing.proofs.uri.Goals as goal

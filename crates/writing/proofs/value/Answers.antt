@@ -1,5 +1,4 @@
 -- `writing::value` meets its contract: its octets are given where its type has those, else its number. Assumes nothing.
-use borrow.Author.Rules.{rules}
 use native.Mathlib.Omega.{arith}
 use Prim.Native.Nat.{ℕ}
 use mathlib.Core.Path.{◌≡◌, refl, sym, ap, ◌∙◌}
@@ -16,10 +15,10 @@ use Rattle.writer.specs.Writer.{value, suits, in_form, value_call}
 use Rattle.writer.specs.Answers.{call_leaves}
 use Rattle.writing.proofs.value.Goals as goal
 
-of-octets : (f : Form) (n : ℕ) (xs : List ℕ) → suits f (held xs) ≡ true → held xs ≡ in_form f n xs
-of-octets (form.Fixed w) n xs e = let z : ◌≡◌ {A = ℕ} 0 1 = cc in absurd (omega arith)
-of-octets form.Truth n xs e = let z : ◌≡◌ {A = ℕ} 0 1 = cc in absurd (omega arith)
-of-octets (form.Led rule) n xs e = refl
+of_octets : (f : Form) (n : ℕ) (xs : List ℕ) → suits f (held xs) ≡ true → held xs ≡ in_form f n xs
+of_octets (form.Fixed w) n xs e = let z : ◌≡◌ {A = ℕ} 0 1 = cc in absurd (omega arith)
+of_octets form.Truth n xs e = let z : ◌≡◌ {A = ℕ} 0 1 = cc in absurd (omega arith)
+of_octets (form.Led rule) n xs e = refl
 
 of_number : (f : Form) (n : ℕ) (xs : List ℕ) → suits f (held xs) ≡ false → bits n ≡ in_form f n xs
 of_number (form.Fixed w) n xs e = refl
@@ -30,11 +29,11 @@ module _ (v : declared.Value) (xs : List ℕ) (b : Basic) (is : b ≡ basic_of_v
   typed : {n : ℕ} → n ≡ bits_of_value v → value b (in_form (form_by b) n xs) ≡ value_call v xs
   typed m = rw (is, m) refl
 
-  octets-given : suits (form_by b) (held xs) ≡ true → value b (held xs) ≡ value_call v xs
-  octets-given e = ap (value b) (of-octets (form_by b) (bits_of_value v) xs e) ∙ typed refl
+  octets_given : suits (form_by b) (held xs) ≡ true → value b (held xs) ≡ value_call v xs
+  octets_given e = ap (value b) (of_octets (form_by b) (bits_of_value v) xs e) ∙ typed refl
 
-  number-given : {n : ℕ} → n ≡ bits_of_value v → suits (form_by b) (held xs) ≡ false → value b (bits n) ≡ value_call v xs
-  number-given {n} m e = ap (value b) (of_number (form_by b) n xs e) ∙ typed m
+  number_given : {n : ℕ} → n ≡ bits_of_value v → suits (form_by b) (held xs) ≡ false → value b (bits n) ≡ value_call v xs
+  number_given {n} m e = ap (value b) (of_number (form_by b) n xs e) ∙ typed m
 
 pub returns-then-suits_octets : goal.returns-then-suits_octets
 returns-then-suits_octets c =
@@ -42,7 +41,7 @@ returns-then-suits_octets c =
     let xs = a.xs.now in
     c.value_octets.ensures
     ∙ ap (call_leaves a.s a.buf.now a.book.now a.used)
-    (octets-given a.v xs c.basic_of_value-b.result c.basic_of_value-b.ensures (sym (c.suits_octets.ensures xs) ∙ c.if-suits_octets.true))
+    (octets_given a.v xs c.basic_of_value-b.result c.basic_of_value-b.ensures (sym (c.suits_octets.ensures xs) ∙ c.if-suits_octets.true))
 
 pub returns : goal.returns
 returns c =
@@ -50,4 +49,4 @@ returns c =
     let xs = a.xs.now in
     c.value_number.ensures
     ∙ ap (call_leaves a.s a.buf.now a.book.now a.used)
-    (number-given a.v xs c.basic_of_value-b.result c.basic_of_value-b.ensures c.bits_of_value.ensures (sym (c.suits_octets.ensures xs) ∙ c.if-suits_octets.false))
+    (number_given a.v xs c.basic_of_value-b.result c.basic_of_value-b.ensures c.bits_of_value.ensures (sym (c.suits_octets.ensures xs) ∙ c.if-suits_octets.false))

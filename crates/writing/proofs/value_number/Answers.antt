@@ -1,5 +1,4 @@
 -- `writing::value_number` meets its contract: the last of its eight octets are its image. Assumes nothing.
-use borrow.Author.Rules.{rules}
 use mathlib.Core.Path.{◌∙◌}
 use mathlib.Core.List.{append-nil}
 use Rattle.kinds.specs.Kinds.{form_by}

@@ -1,5 +1,4 @@
 -- `writing_parts::enter` meets its contract: a new layout is laid, and nothing of any other. Assumes nothing.
-use borrow.Author.Rules.{rules}
 use native.Mathlib.Omega.{arith}
 use native.Mathlib.Nat.{add-zero}
 use Prim.Native.Nat.{ℕ, ◌+◌, ◌≤◌}

@@ -1,5 +1,4 @@
 -- `writing_parts::first_fault` meets its contract, by the first fault. Assumes nothing.
-use borrow.Author.Rules.{rules}
 use mathlib.Core.Path.{refl}
 use Rattle.writing_parts.proofs.first_fault.Goals as goal
 

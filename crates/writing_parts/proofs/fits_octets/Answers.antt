@@ -1,5 +1,4 @@
 -- `writing_parts::fits_octets` meets its contract. The invariant: the number fits where what is left fits in the octets to come. The measure is these. Assumes nothing.
-use borrow.Author.Rules.{rules}
 use borrow.Author.Tests.{ltb-true, ltb-false, eqb-true, eqb-false, lt-ltb, le-ltb}
 use native.Mathlib.Omega.{arith}
 use native.Mathlib.Nat.{pow-suc}

@@ -1,13 +1,7 @@
 -- `writing_parts::fits_octets` meets its contract. The invariant: the number fits where what is left fits in the octets to come. The measure is these. Assumes nothing.
-use borrow.Author.Rules.{rules}
-use borrow.Author.Tests.{ltb-true, ltb-false, eqb-true, eqb-false, lt-ltb, le-ltb}
-use native.Mathlib.Omega.{arith}
-use native.Mathlib.Nat.{pow-suc}
-use Prim.Native.Nat.{ℕ, suc, ◌+◌, ◌-◌, ◌*◌, ◌/◌, ◌^◌, ◌≤◌}
-use mathlib.Core.Path.{◌≡◌, refl, sym, ap, ◌∙◌}
-use mathlib.Core.Bool.{Bool, true, false}
-use lib.Dec.{ltb, eqb}
-use Rattle.octets.proofs.Ends.{left_suc, none_left, sub_none}
+use Prim.Native.Nat.{◌-◌, ◌^◌, ◌≤◌}
+use mathlib.Core.Path.{◌≡◌}
+use lib.Dec.{ltb}
 use Rattle.writing_parts.proofs.fits_octets.Given as goal
 
 abbrev pub invariant-loop-i : goal.invariant-loop-i

@@ -1,5 +1,4 @@
 -- `writing_parts::lay_length` meets its contract: what stands tells whether the length is stated. Assumes nothing.
-use borrow.Author.Rules.{rules}
 use mathlib.Core.Path.{refl}
 use Rattle.writing_parts.proofs.lay_length.Goals as goal
 

@@ -1,5 +1,4 @@
 -- `writing_parts::lay_zeros` meets its contract: what the rest holds, said of the whole. Assumes nothing.
-use borrow.Author.Rules.{rules}
 use Prim.Native.Nat.{ℕ}
 use lib.ListN.{replicate, length-replicate}
 use Rattle.octets.proofs.Copies.{laid}

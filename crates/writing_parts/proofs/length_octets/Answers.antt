@@ -1,5 +1,4 @@
 -- `writing_parts::length_octets` meets its contract: the test is the definition's. Assumes nothing.
-use borrow.Author.Rules.{rules}
 use mathlib.Core.Path.{refl}
 use Rattle.octets.specs.Writing.{word}
 use Rattle.writing_parts.proofs.length_octets.Goals as goal

@@ -1,5 +1,4 @@
 -- `writing_parts::meet` meets its contract: the two runs are judged by where the number that they begin with was looked up. Assumes nothing.
-use borrow.Author.Rules.{rules}
 use Prim.Native.Nat.{ℕ}
 use mathlib.Core.Path.{◌≡◌, sym, ◌∙◌, subst}
 use mathlib.Core.List.{List, ◌++◌}

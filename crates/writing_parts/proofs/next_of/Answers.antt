@@ -1,5 +1,4 @@
 -- `writing_parts::next_of` meets its contract: the field of the layout found. Assumes nothing.
-use borrow.Author.Rules.{rules}
 use mathlib.Core.Path.{◌≡◌, refl, sym, subst}
 use lib.ListN.{length, take}
 use Rattle.octets.specs.Writing.{Each, Octet}

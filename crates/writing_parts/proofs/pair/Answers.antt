@@ -1,5 +1,4 @@
 -- `writing_parts::pair` meets its contract: one word is put, and the other laid behind it. Assumes nothing.
-use borrow.Author.Rules.{rules}
 use mathlib.Core.Path.{refl}
 use Rattle.octets.specs.Writing.{word, over}
 use Rattle.writing_parts.proofs.pair.Goals as goal

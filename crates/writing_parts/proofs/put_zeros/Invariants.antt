@@ -1,11 +1,8 @@
 -- `writing_parts::put_zeros` meets its contract. The invariant: the first i octets are zero, the others as they were. The measure is what is left to do. Assumes nothing.
-use borrow.Author.Rules.{rules}
-use borrow.Author.Fill.{fill_none, fill_more}
-use native.Mathlib.Omega.{arith}
-use Prim.Native.Nat.{ℕ, ◌+◌, ◌-◌, ◌≤◌, ◌<◌}
-use mathlib.Core.Path.{◌≡◌, refl}
-use mathlib.Core.List.{List, ◌++◌}
-use lib.ListN.{length, drop, set, replicate, length-set}
+use Prim.Native.Nat.{◌-◌, ◌≤◌}
+use mathlib.Core.Path.{◌≡◌}
+use mathlib.Core.List.{◌++◌}
+use lib.ListN.{length, drop, replicate}
 use Rattle.writing_parts.proofs.put_zeros.Given as goal
 
 abbrev pub invariant-loop-i : goal.invariant-loop-i

@@ -1,5 +1,4 @@
 -- `writing_parts::refusal_of` meets its contract, by each answer. Assumes nothing.
-use borrow.Author.Rules.{rules}
 use mathlib.Core.Path.{sym, ap}
 use Rattle.writing_parts.specs.Answers.{refusal}
 use Rattle.writing_parts.proofs.refusal_of.Goals as goal

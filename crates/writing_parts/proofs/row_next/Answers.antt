@@ -1,5 +1,4 @@
 -- `writing_parts::row_next` meets its contract: by the number that stands in the row. Assumes nothing.
-use borrow.Author.Rules.{rules}
 use mathlib.Core.Path.{ap, ◌∙◌}
 use Prim.Native.Nat.{ℕ}
 use Rattle.layouts.specs.Book.{find, book_in}

@@ -1,5 +1,4 @@
 -- `writing_parts::word8` meets its contract: the word is put over the whole array. Assumes nothing.
-use borrow.Author.Rules.{rules}
 use mathlib.Core.Path.{◌∙◌}
 use mathlib.Core.List.{append-nil}
 use Rattle.octets.specs.Writing.{word}
