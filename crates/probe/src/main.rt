@@ -6,6 +6,7 @@ use printing::Show;
 use probe_input::{Args, Fed, Feed, Given};
 use probe_reads::Asked;
 use probe_writes::{Pen, Penned};
+use std::rt::Stdin;
 
 // A command's letter, its arguments and what is to be taken behind it.
 #[derive(Clone, Copy)]
@@ -97,11 +98,11 @@ fn turn(
 }
 
 // The next command, its octets put into a lent slice.
-fn command_at(buf: &mut [u8; 4096], feed: Feed, given: &mut [u8]) -> Command {
-    let Fed::Is(letter, rest) = probe_input::letter(buf, feed) else {
+fn command_at(input: Stdin, buf: &mut [u8; 4096], feed: Feed, given: &mut [u8]) -> Command {
+    let Fed::Is(letter, rest) = probe_input::letter(input, buf, feed) else {
         return Command::End;
     };
-    let arguments = probe_input::arguments(letter, buf, rest, given);
+    let arguments = probe_input::arguments(letter, input, buf, rest, given);
     match arguments {
         Given::Bad => Command::Bad,
         Given::Is(a, n, behind) => Command::Is(letter, a, n as usize, behind),
@@ -114,7 +115,8 @@ fn bad_input(out: &mut [u8], n: usize) -> usize {
 }
 
 // Commands until the input ends or is bad.
-fn main() {
+fn main(rt: HostRuntime) {
+    let input = rt.stdin();
     let mut doc = [0u8; 65600];
     let mut book = [0u8; 40000];
     let mut lent = [0usize; 2];
@@ -130,7 +132,7 @@ fn main() {
     let mut turns = u64::MAX;
     while 0 < turns {
         turns -= 1;
-        let is = command_at(&mut buf, feed, &mut given);
+        let is = command_at(input, &mut buf, feed, &mut given);
         match is {
             Command::End => {
                 turns = 0;

@@ -8,6 +8,8 @@ ghost use Rattle.printing.specs.Text.{Prints};
 ghost use Rattle.probe_input.specs.Words.{checksum, part_text, sum_text};
 
 use printing::Show;
+use std::io::Read;
+use std::rt::Stdin;
 
 // Which octets of the buffer are still to be taken.
 #[derive(Clone, Copy)]
@@ -58,10 +60,10 @@ pub enum Most {
     None,
 }
 
-// The octets that a read brings.
-fn more(buf: &mut [u8; 4096]) -> Fed {
-    let got = libc::read(0, buf);
-    let n = io::count(got, buf);
+// The octets that one read brings. A failed read counts as the end.
+fn more(input: Stdin, buf: &mut [u8; 4096]) -> Fed {
+    let mut from = input;
+    let n = from.read(buf).unwrap_or(0);
     if n == 0 {
         return Fed::End;
     }
@@ -69,14 +71,14 @@ fn more(buf: &mut [u8; 4096]) -> Fed {
 }
 
 // The next octet.
-pub fn letter(buf: &mut [u8; 4096], feed: Feed) -> Fed {
+pub fn letter(input: Stdin, buf: &mut [u8; 4096], feed: Feed) -> Fed {
     let at = feed.at;
     let filled = feed.filled;
     if filled <= at {
-        return more(buf);
+        return more(input, buf);
     }
     if 4096 <= at {
-        return more(buf);
+        return more(input, buf);
     }
     Fed::Is(buf[at], Feed { at: at + 1, filled })
 }
@@ -88,11 +90,11 @@ fn store(to: &mut [u8], i: usize, x: u8) {
 }
 
 // So many octets, of which a lent slice takes as many as it has room for.
-fn fill(buf: &mut [u8; 4096], feed: Feed, to: &mut [u8], n: u64) -> Filling {
+fn fill(input: Stdin, buf: &mut [u8; 4096], feed: Feed, to: &mut [u8], n: u64) -> Filling {
     let mut at = feed;
     let mut i: u64 = 0;
     while i < n {
-        let Fed::Is(x, rest) = letter(buf, at) else {
+        let Fed::Is(x, rest) = letter(input, buf, at) else {
             return Filling::Cut;
         };
         store(to, i as usize, x);
@@ -103,9 +105,9 @@ fn fill(buf: &mut [u8; 4096], feed: Feed, to: &mut [u8], n: u64) -> Filling {
 }
 
 // A number of eight octets.
-fn number(buf: &mut [u8; 4096], feed: Feed) -> Drawn {
+fn number(input: Stdin, buf: &mut [u8; 4096], feed: Feed) -> Drawn {
     let mut eight = [0u8; 8];
-    let filling = fill(buf, feed, &mut eight, 8);
+    let filling = fill(input, buf, feed, &mut eight, 8);
     match filling {
         Filling::Cut => Drawn::Cut,
         Filling::Done(rest) => Drawn::Is(octets::u64_at(&eight, 0), rest),
@@ -113,11 +115,11 @@ fn number(buf: &mut [u8; 4096], feed: Feed) -> Drawn {
 }
 
 // The first numbers of five, as many as are wanted.
-fn numbers(buf: &mut [u8; 4096], feed: Feed, to: &mut [u64; 5], n: usize) -> Filling {
+fn numbers(input: Stdin, buf: &mut [u8; 4096], feed: Feed, to: &mut [u64; 5], n: usize) -> Filling {
     let mut at = feed;
     let mut i: usize = 0;
     while i < n {
-        let Drawn::Is(x, rest) = number(buf, at) else {
+        let Drawn::Is(x, rest) = number(input, buf, at) else {
             return Filling::Cut;
         };
         if i < 5 {
@@ -188,25 +190,25 @@ fn text_most(letter: u8) -> Most {
 }
 
 // Octets behind their length, at most so many.
-fn take(buf: &mut [u8; 4096], feed: Feed, to: &mut [u8], most: u64) -> Drawn {
-    let Drawn::Is(n, rest) = number(buf, feed) else {
+fn take(input: Stdin, buf: &mut [u8; 4096], feed: Feed, to: &mut [u8], most: u64) -> Drawn {
+    let Drawn::Is(n, rest) = number(input, buf, feed) else {
         return Drawn::Cut;
     };
     if most < n {
         return Drawn::Cut;
     }
-    let Filling::Done(behind) = fill(buf, rest, to, n) else {
+    let Filling::Done(behind) = fill(input, buf, rest, to, n) else {
         return Drawn::Cut;
     };
     Drawn::Is(n, behind)
 }
 
 // The octets of a command, if it has any.
-fn octets_of(letter: u8, buf: &mut [u8; 4096], feed: Feed, to: &mut [u8]) -> Drawn {
+fn octets_of(letter: u8, input: Stdin, buf: &mut [u8; 4096], feed: Feed, to: &mut [u8]) -> Drawn {
     let most = most_of(letter);
     match most {
         Most::None => Drawn::Is(0, feed),
-        Most::Octets(n) => take(buf, feed, to, n),
+        Most::Octets(n) => take(input, buf, feed, to, n),
     }
 }
 
@@ -219,15 +221,21 @@ fn behind(letter: u8) -> usize {
 }
 
 // The arguments of a command: its numbers, and its octets in a lent slice.
-pub fn arguments(letter: u8, buf: &mut [u8; 4096], feed: Feed, to: &mut [u8]) -> Given {
+pub fn arguments(
+    letter: u8,
+    input: Stdin,
+    buf: &mut [u8; 4096],
+    feed: Feed,
+    to: &mut [u8],
+) -> Given {
     let mut five = [0u64; 5];
-    let Filling::Done(one) = numbers(buf, feed, &mut five, before(letter)) else {
+    let Filling::Done(one) = numbers(input, buf, feed, &mut five, before(letter)) else {
         return Given::Bad;
     };
-    let Drawn::Is(n, two) = octets_of(letter, buf, one, to) else {
+    let Drawn::Is(n, two) = octets_of(letter, input, buf, one, to) else {
         return Given::Bad;
     };
-    let Filling::Done(three) = numbers(buf, two, &mut five, behind(letter)) else {
+    let Filling::Done(three) = numbers(input, buf, two, &mut five, behind(letter)) else {
         return Given::Bad;
     };
     let is = Args {

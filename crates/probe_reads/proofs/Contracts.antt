@@ -1,7 +1,7 @@
 -- The contract of the first word of a line itself: one count of what waits and one content of the buffer. Assumes nothing.
 use mathlib.Core.Path.{refl}
 use Rattle.octets.specs.OfContracts.{Once}
-use Rattle.octets.proofs.Alike.{_also_}
+use Rattle.octets.proofs.Alike.{◌also◌}
 use Rattle.printing.proofs.Waits.{one_print}
 use Rattle.probe_reads.proofs.head as head
 
