@@ -48,19 +48,19 @@ returns-then-kind-eq2 c =
     subst (λ k. Closes a.doc.now a.at a.end k c.truth_close.result) (sym c.if-kind-eq2.true) c.truth_close.ensures
 
 -- What the test said, by the rule.
-told : (u : Lts.After-is_utf8 Tie.the-claims Reads.Pre Reads.Post) (b : Bool) → u.is_utf8.result ≡ b → holds (rule_at u.args.kind) (part (Doc u.before.before.before) (u.args.at + 4) (u.in-End.next - (u.args.at + 4))) ≡ b
-told u b e =
-    string_rule u.args.kind _ u.if-kind-eq3.true ∙ (sym u.is_utf8.ensures ∙ e)
+told : (u : Lts.After-is_utf8 Tie.the-claims Reads.Pre Reads.Post) → u.args.kind ≡ 3 → (b : Bool) → u.is_utf8.result ≡ b → holds (rule_at u.args.kind) (part (Doc u.before.before.before) (u.args.at + 4) (u.in-End.next - (u.args.at + 4))) ≡ b
+told u k b e =
+    string_rule u.args.kind _ k ∙ (sym u.is_utf8.ensures ∙ e)
 
 pub returns-then-not-is_utf8 : goal.returns-then-not-is_utf8
-returns-then-not-is_utf8 c = broken c.before.before.before.before.before _ c.in-End.is (told c.before.before false c.if-not-is_utf8.true)
+returns-then-not-is_utf8 c = broken c.before.before.before.before.before _ c.in-End.is (told c.before.before c.if-kind-eq3.true false c.if-not-is_utf8.true)
 
 pub returns-in-Refused : goal.returns-in-Refused
 returns-in-Refused c =
     closes c.before.before (Refused _ _) (answers_none _ _ (Doc c.before.before) c.args.at _ _ c.in-Refused.is c.octets_end-there.ensures.0)
 
 pub returns-else-not-is_utf8 : goal.returns-else-not-is_utf8
-returns-else-not-is_utf8 c = kept c.before.before.before.before.before _ c.in-End.is (told c.before.before true c.if-not-is_utf8.false)
+returns-else-not-is_utf8 c = kept c.before.before.before.before.before _ c.in-End.is (told c.before.before c.if-kind-eq3.true true c.if-not-is_utf8.false)
 
 pub returns-else-kind-eq3 : goal.returns-else-kind-eq3
 returns-else-kind-eq3 c = kept c.before.before.before _ c.in-End.is (free_rule c.args.kind _ c.if-kind-eq3.false)
