@@ -89,6 +89,9 @@ def main(look):
             part = parts[i]
 
             def turn(m):
+                line = part[: m.start()].rsplit("\n", 1)[-1].lstrip()
+                if line.startswith(("--", "//")) and into.get(m[0], "").endswith("_lem"):
+                    return m[0]
                 if part[: m.start()].endswith("."):
                     return snake(m[0]) if m[0] in own else m[0]
                 return "same_turn_lem" if lemmas and m[0] == "same_turn" else into.get(m[0], m[0])

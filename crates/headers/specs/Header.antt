@@ -18,7 +18,7 @@ pub record Header : Type 0 where
   pub services : List (List ℕ)
   pub id : List ℕ
 
--- One of the other namespaces: a URI string, then a short_name_lem string.
+-- One of the other namespaces: a URI string, then a short-name string.
 unfoldable pub namespace_at : List ℕ → ℕ → Read Namespace
 namespace_at s at = text s at then λ uri next. text s next then λ short end. ok (record { uri = uri; short = short }) end
 

@@ -26,7 +26,7 @@ use Rattle.layouts.proofs.is_book as is_book
 use Rattle.layouts.proofs.judge as judge
 use Rattle.layouts.proofs.layout_number as layout_number
 use Rattle.layouts.proofs.type_name as type_name
-use Rattle.layouts.proofs.attribute_count as attribute_count_lem
+use Rattle.layouts.proofs.attribute_count as attribute_count
 use Rattle.layouts.proofs.kind_behind as kind_behind
 use Rattle.layouts.proofs.attribute_kind as attribute_kind
 
@@ -41,7 +41,7 @@ pub record Contracts : Type 0 where
   pub of_judge : Once judge.Kinds.ps judge.Kinds.r judge.Reads.Pre judge.Reads.Post
   pub of_layout_number : Once layout_number.Kinds.ps layout_number.Kinds.r layout_number.Reads.Pre layout_number.Reads.Post
   pub of_type_name : OnceSeen type_name.Kinds.ps type_name.Kinds.r (λ κs x. x.now) type_name.Reads.Pre type_name.Reads.Post
-  pub of_attribute_count : Once attribute_count_lem.Kinds.ps attribute_count_lem.Kinds.r attribute_count_lem.Reads.Pre attribute_count_lem.Reads.Post
+  pub of_attribute_count : Once attribute_count.Kinds.ps attribute_count.Kinds.r attribute_count.Reads.Pre attribute_count.Reads.Post
   pub of_kind_behind : Once kind_behind.Kinds.ps kind_behind.Kinds.r kind_behind.Reads.Pre kind_behind.Reads.Post
   pub of_attribute_kind : Once attribute_kind.Kinds.ps attribute_kind.Kinds.r attribute_kind.Reads.Pre attribute_kind.Reads.Post
 

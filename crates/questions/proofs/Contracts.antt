@@ -8,7 +8,7 @@ use Rattle.questions.proofs.field_octets as field_octets
 use Rattle.questions.proofs.layout_refusal as layout_refusal
 use Rattle.questions.proofs.attribute_refusal as attribute_refusal
 use Rattle.questions.proofs.type_name as type_name
-use Rattle.questions.proofs.attribute_name as attribute_name_lem
+use Rattle.questions.proofs.attribute_name as attribute_name
 use Rattle.questions.proofs.attribute_kind as attribute_kind
 
 pub record Contracts : Type 0 where
@@ -19,7 +19,7 @@ pub record Contracts : Type 0 where
   pub of_layout_refusal : Settled layout_refusal.Kinds.ps layout_refusal.Kinds.r layout_refusal.Reads.Pre layout_refusal.Reads.Post
   pub of_attribute_refusal : Settled attribute_refusal.Kinds.ps attribute_refusal.Kinds.r attribute_refusal.Reads.Pre attribute_refusal.Reads.Post
   pub of_type_name : SettledSeen type_name.Kinds.ps type_name.Kinds.r (λ κs x. x.now) type_name.Reads.Pre type_name.Reads.Post
-  pub of_attribute_name : SettledSeen attribute_name_lem.Kinds.ps attribute_name_lem.Kinds.r (λ κs x. x.now) attribute_name_lem.Reads.Pre attribute_name_lem.Reads.Post
+  pub of_attribute_name : SettledSeen attribute_name.Kinds.ps attribute_name.Kinds.r (λ κs x. x.now) attribute_name.Reads.Pre attribute_name.Reads.Post
   pub of_attribute_kind : Settled attribute_kind.Kinds.ps attribute_kind.Kinds.r attribute_kind.Reads.Pre attribute_kind.Reads.Post
 
 pub contracts : Contracts

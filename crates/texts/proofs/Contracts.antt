@@ -4,7 +4,7 @@ use Rattle.octets.specs.OfContracts.{Once, OnceSeen}
 use Rattle.octets.proofs.Contracts.{says_once}
 use Rattle.octets.proofs.Inverse.{ok_place}
 use Rattle.texts.proofs.rule_holds as rule_holds
-use Rattle.texts.proofs.fault_of as fault_of_lem
+use Rattle.texts.proofs.fault_of as fault_of
 use Rattle.texts.proofs.octets_end as octets_end
 use Rattle.texts.proofs.led_end as led_end
 use Rattle.texts.proofs.text_end as text_end
@@ -13,7 +13,7 @@ use Rattle.texts.proofs.led_part as led_part
 
 pub record Contracts : Type 0 where
   pub of_rule_holds : Once rule_holds.Kinds.ps rule_holds.Kinds.r rule_holds.Reads.Pre rule_holds.Reads.Post
-  pub of_fault_of : Once fault_of_lem.Kinds.ps fault_of_lem.Kinds.r fault_of_lem.Reads.Pre fault_of_lem.Reads.Post
+  pub of_fault_of : Once fault_of.Kinds.ps fault_of.Kinds.r fault_of.Reads.Pre fault_of.Reads.Post
   pub of_octets_end : Once octets_end.Kinds.ps octets_end.Kinds.r octets_end.Reads.Pre octets_end.Reads.Post
   pub of_led_end : Once led_end.Kinds.ps led_end.Kinds.r led_end.Reads.Pre led_end.Reads.Post
   pub of_text_end : Once text_end.Kinds.ps text_end.Kinds.r text_end.Reads.Pre text_end.Reads.Post

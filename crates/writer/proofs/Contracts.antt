@@ -6,26 +6,26 @@ use Rattle.writer.proofs.at_most as at_most
 use Rattle.writer.proofs.sixteen as sixteen
 use Rattle.writer.proofs.type_fault as type_fault
 use Rattle.writer.proofs.layout_fault as layout_fault
-use Rattle.writer.proofs.value_fault as value_fault_lem
-use Rattle.writer.proofs.close_fault as close_fault_lem
+use Rattle.writer.proofs.value_fault as value_fault
+use Rattle.writer.proofs.close_fault as close_fault
 use Rattle.writer.proofs.suits_number as suits_number
 use Rattle.writer.proofs.suits_octets as suits_octets
 use Rattle.writer.proofs.breach as breach
-use Rattle.writer.proofs.value_breach as value_breach_lem
-use Rattle.writer.proofs.width_of as width_of_lem
+use Rattle.writer.proofs.value_breach as value_breach
+use Rattle.writer.proofs.width_of as width_of
 
 pub record Contracts : Type 0 where
   pub of_at_most : Once at_most.Kinds.ps at_most.Kinds.r at_most.Reads.Pre at_most.Reads.Post
   pub of_sixteen : Once sixteen.Kinds.ps sixteen.Kinds.r sixteen.Reads.Pre sixteen.Reads.Post
   pub of_type_fault : Once type_fault.Kinds.ps type_fault.Kinds.r type_fault.Reads.Pre type_fault.Reads.Post
   pub of_layout_fault : Once layout_fault.Kinds.ps layout_fault.Kinds.r layout_fault.Reads.Pre layout_fault.Reads.Post
-  pub of_value_fault : Once value_fault_lem.Kinds.ps value_fault_lem.Kinds.r value_fault_lem.Reads.Pre value_fault_lem.Reads.Post
-  pub of_close_fault : Once close_fault_lem.Kinds.ps close_fault_lem.Kinds.r close_fault_lem.Reads.Pre close_fault_lem.Reads.Post
+  pub of_value_fault : Once value_fault.Kinds.ps value_fault.Kinds.r value_fault.Reads.Pre value_fault.Reads.Post
+  pub of_close_fault : Once close_fault.Kinds.ps close_fault.Kinds.r close_fault.Reads.Pre close_fault.Reads.Post
   pub of_suits_number : Once suits_number.Kinds.ps suits_number.Kinds.r suits_number.Reads.Pre suits_number.Reads.Post
   pub of_suits_octets : Once suits_octets.Kinds.ps suits_octets.Kinds.r suits_octets.Reads.Pre suits_octets.Reads.Post
   pub of_breach : Once breach.Kinds.ps breach.Kinds.r breach.Reads.Pre breach.Reads.Post
-  pub of_value_breach : Once value_breach_lem.Kinds.ps value_breach_lem.Kinds.r value_breach_lem.Reads.Pre value_breach_lem.Reads.Post
-  pub of_width_of : Once width_of_lem.Kinds.ps width_of_lem.Kinds.r width_of_lem.Reads.Pre width_of_lem.Reads.Post
+  pub of_value_breach : Once value_breach.Kinds.ps value_breach.Kinds.r value_breach.Reads.Pre value_breach.Reads.Post
+  pub of_width_of : Once width_of.Kinds.ps width_of.Kinds.r width_of.Reads.Pre width_of.Reads.Post
 
 pub contracts : Contracts
 contracts =

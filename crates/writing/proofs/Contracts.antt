@@ -13,49 +13,49 @@ use Rattle.writer.specs.Answers.{Left, left, left_of, deed_leaves, call_leaves, 
 use Rattle.giving.proofs.Contracts.{one_answer}
 use Rattle.writing.proofs.fresh as fresh
 use Rattle.writing.proofs.recorder as recorder
-use Rattle.writing.proofs.start_time as start_time_lem
-use Rattle.writing.proofs.default_namespace as default_namespace_lem
-use Rattle.writing.proofs.namespace_count as namespace_count_lem
+use Rattle.writing.proofs.start_time as start_time
+use Rattle.writing.proofs.default_namespace as default_namespace
+use Rattle.writing.proofs.namespace_count as namespace_count
 use Rattle.writing.proofs.uri as uri
-use Rattle.writing.proofs.short_name as short_name_lem
-use Rattle.writing.proofs.service_count as service_count_lem
+use Rattle.writing.proofs.short_name as short_name
+use Rattle.writing.proofs.service_count as service_count
 use Rattle.writing.proofs.service as service
-use Rattle.writing.proofs.document_id as document_id_lem
-use Rattle.writing.proofs.open_layout as open_layout_lem
+use Rattle.writing.proofs.document_id as document_id
+use Rattle.writing.proofs.open_layout as open_layout
 use Rattle.writing.proofs.type_name as type_name
-use Rattle.writing.proofs.attribute_count as attribute_count_lem
-use Rattle.writing.proofs.attribute_name as attribute_name_lem
-use Rattle.writing.proofs.attribute_type as attribute_type_lem
+use Rattle.writing.proofs.attribute_count as attribute_count
+use Rattle.writing.proofs.attribute_name as attribute_name
+use Rattle.writing.proofs.attribute_type as attribute_type
 use Rattle.writing.proofs.open_row as open_row
-use Rattle.writing.proofs.value_number as value_number_lem
-use Rattle.writing.proofs.value_octets as value_octets_lem
+use Rattle.writing.proofs.value_number as value_number
+use Rattle.writing.proofs.value_octets as value_octets
 use Rattle.writing.proofs.value as value
 use Rattle.writing.proofs.close_row as close_row
-use Rattle.writing.proofs.give_up as give_up_lem
+use Rattle.writing.proofs.give_up as give_up
 use Rattle.writing.proofs.finish as finish
 
 pub record Contracts : Type 0 where
   pub of_fresh : Settled fresh.Kinds.ps fresh.Kinds.r fresh.Reads.Pre fresh.Reads.Post
   pub of_recorder : SettledLent recorder.Kinds.ps recorder.Kinds.r (λ κs s. s) (λ κs. Refuses) recorder.Reads.Pre recorder.Reads.Post
-  pub of_start_time : SettledLent start_time_lem.Kinds.ps start_time_lem.Kinds.r (λ κs s. s) (λ κs. Refuses) start_time_lem.Reads.Pre start_time_lem.Reads.Post
-  pub of_default_namespace : SettledLent default_namespace_lem.Kinds.ps default_namespace_lem.Kinds.r (λ κs s. s) (λ κs. Refuses) default_namespace_lem.Reads.Pre default_namespace_lem.Reads.Post
-  pub of_namespace_count : SettledLent namespace_count_lem.Kinds.ps namespace_count_lem.Kinds.r (λ κs s. s) (λ κs. Refuses) namespace_count_lem.Reads.Pre namespace_count_lem.Reads.Post
+  pub of_start_time : SettledLent start_time.Kinds.ps start_time.Kinds.r (λ κs s. s) (λ κs. Refuses) start_time.Reads.Pre start_time.Reads.Post
+  pub of_default_namespace : SettledLent default_namespace.Kinds.ps default_namespace.Kinds.r (λ κs s. s) (λ κs. Refuses) default_namespace.Reads.Pre default_namespace.Reads.Post
+  pub of_namespace_count : SettledLent namespace_count.Kinds.ps namespace_count.Kinds.r (λ κs s. s) (λ κs. Refuses) namespace_count.Reads.Pre namespace_count.Reads.Post
   pub of_uri : SettledLent uri.Kinds.ps uri.Kinds.r (λ κs s. s) (λ κs. Refuses) uri.Reads.Pre uri.Reads.Post
-  pub of_short_name : SettledLent short_name_lem.Kinds.ps short_name_lem.Kinds.r (λ κs s. s) (λ κs. Refuses) short_name_lem.Reads.Pre short_name_lem.Reads.Post
-  pub of_service_count : SettledLent service_count_lem.Kinds.ps service_count_lem.Kinds.r (λ κs s. s) (λ κs. Refuses) service_count_lem.Reads.Pre service_count_lem.Reads.Post
+  pub of_short_name : SettledLent short_name.Kinds.ps short_name.Kinds.r (λ κs s. s) (λ κs. Refuses) short_name.Reads.Pre short_name.Reads.Post
+  pub of_service_count : SettledLent service_count.Kinds.ps service_count.Kinds.r (λ κs s. s) (λ κs. Refuses) service_count.Reads.Pre service_count.Reads.Post
   pub of_service : SettledLent service.Kinds.ps service.Kinds.r (λ κs s. s) (λ κs. Refuses) service.Reads.Pre service.Reads.Post
-  pub of_document_id : SettledLent document_id_lem.Kinds.ps document_id_lem.Kinds.r (λ κs s. s) (λ κs. Refuses) document_id_lem.Reads.Pre document_id_lem.Reads.Post
-  pub of_open_layout : SettledLent open_layout_lem.Kinds.ps open_layout_lem.Kinds.r (λ κs s. s) (λ κs. Refuses) open_layout_lem.Reads.Pre open_layout_lem.Reads.Post
+  pub of_document_id : SettledLent document_id.Kinds.ps document_id.Kinds.r (λ κs s. s) (λ κs. Refuses) document_id.Reads.Pre document_id.Reads.Post
+  pub of_open_layout : SettledLent open_layout.Kinds.ps open_layout.Kinds.r (λ κs s. s) (λ κs. Refuses) open_layout.Reads.Pre open_layout.Reads.Post
   pub of_type_name : SettledLent type_name.Kinds.ps type_name.Kinds.r (λ κs s. s) (λ κs. Refuses) type_name.Reads.Pre type_name.Reads.Post
-  pub of_attribute_count : SettledLent attribute_count_lem.Kinds.ps attribute_count_lem.Kinds.r (λ κs s. s) (λ κs. Refuses) attribute_count_lem.Reads.Pre attribute_count_lem.Reads.Post
-  pub of_attribute_name : SettledLent attribute_name_lem.Kinds.ps attribute_name_lem.Kinds.r (λ κs s. s) (λ κs. Refuses) attribute_name_lem.Reads.Pre attribute_name_lem.Reads.Post
-  pub of_attribute_type : SettledLent attribute_type_lem.Kinds.ps attribute_type_lem.Kinds.r (λ κs s. s) (λ κs. Refuses) attribute_type_lem.Reads.Pre attribute_type_lem.Reads.Post
+  pub of_attribute_count : SettledLent attribute_count.Kinds.ps attribute_count.Kinds.r (λ κs s. s) (λ κs. Refuses) attribute_count.Reads.Pre attribute_count.Reads.Post
+  pub of_attribute_name : SettledLent attribute_name.Kinds.ps attribute_name.Kinds.r (λ κs s. s) (λ κs. Refuses) attribute_name.Reads.Pre attribute_name.Reads.Post
+  pub of_attribute_type : SettledLent attribute_type.Kinds.ps attribute_type.Kinds.r (λ κs s. s) (λ κs. Refuses) attribute_type.Reads.Pre attribute_type.Reads.Post
   pub of_open_row : SettledLent open_row.Kinds.ps open_row.Kinds.r (λ κs s. s) (λ κs. Refuses) open_row.Reads.Pre open_row.Reads.Post
-  pub of_value_number : SettledLent value_number_lem.Kinds.ps value_number_lem.Kinds.r (λ κs s. s) (λ κs. Refuses) value_number_lem.Reads.Pre value_number_lem.Reads.Post
-  pub of_value_octets : SettledLent value_octets_lem.Kinds.ps value_octets_lem.Kinds.r (λ κs s. s) (λ κs. Refuses) value_octets_lem.Reads.Pre value_octets_lem.Reads.Post
+  pub of_value_number : SettledLent value_number.Kinds.ps value_number.Kinds.r (λ κs s. s) (λ κs. Refuses) value_number.Reads.Pre value_number.Reads.Post
+  pub of_value_octets : SettledLent value_octets.Kinds.ps value_octets.Kinds.r (λ κs s. s) (λ κs. Refuses) value_octets.Reads.Pre value_octets.Reads.Post
   pub of_value : SettledLent value.Kinds.ps value.Kinds.r (λ κs s. s) (λ κs. Refuses) value.Reads.Pre value.Reads.Post
   pub of_close_row : SettledLent close_row.Kinds.ps close_row.Kinds.r (λ κs s. s) (λ κs. Refuses) close_row.Reads.Pre close_row.Reads.Post
-  pub of_give_up : SettledLent give_up_lem.Kinds.ps give_up_lem.Kinds.r (λ κs s. s) (λ κs. Refuses) give_up_lem.Reads.Pre give_up_lem.Reads.Post
+  pub of_give_up : SettledLent give_up.Kinds.ps give_up.Kinds.r (λ κs s. s) (λ κs. Refuses) give_up.Reads.Pre give_up.Reads.Post
   pub of_finish : SettledLent finish.Kinds.ps finish.Kinds.r (λ κs s. s) (λ κs. Refuses) finish.Reads.Pre finish.Reads.Post
 
 -- A refused call leaves buffer and book.

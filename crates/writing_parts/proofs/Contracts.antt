@@ -27,7 +27,7 @@ use Rattle.writing_parts.proofs.row_next as row_next
 use Rattle.writing_parts.proofs.length_octets as length_octets
 use Rattle.writing_parts.proofs.lay_length as lay_length
 use Rattle.writing_parts.proofs.meet as meet
-use Rattle.writing_parts.proofs.refusal_of as refusal_of_lem
+use Rattle.writing_parts.proofs.refusal_of as refusal_of
 use Rattle.writing_parts.proofs.enter as enter
 use Rattle.writing_parts.proofs.complete as complete
 
@@ -47,7 +47,7 @@ pub record Contracts : Type 0 where
   pub of_length_octets : Once length_octets.Kinds.ps length_octets.Kinds.r length_octets.Reads.Pre length_octets.Reads.Post
   pub of_lay_length : Once lay_length.Kinds.ps lay_length.Kinds.r lay_length.Reads.Pre lay_length.Reads.Post
   pub of_meet : Once meet.Kinds.ps meet.Kinds.r meet.Reads.Pre meet.Reads.Post
-  pub of_refusal_of : Once refusal_of_lem.Kinds.ps refusal_of_lem.Kinds.r refusal_of_lem.Reads.Pre refusal_of_lem.Reads.Post
+  pub of_refusal_of : Once refusal_of.Kinds.ps refusal_of.Kinds.r refusal_of.Reads.Pre refusal_of.Reads.Post
   pub of_enter : Once enter.Kinds.ps enter.Kinds.r enter.Reads.Pre enter.Reads.Post
   pub of_complete : Once complete.Kinds.ps complete.Kinds.r complete.Reads.Pre complete.Reads.Post
 

@@ -1,4 +1,4 @@
--- `layouts::layout_end` meets its contract: each arm by what the callee answered, by a law of `layoutAt`. Assumes nothing.
+-- `layouts::layout_end` meets its contract: each arm by what the callee answered, by a law of `layout_at`. Assumes nothing.
 use native.Mathlib.Omega.{arith}
 use mathlib.Core.Path.{sym, ◌∙◌, ap}
 use lib.ListN.{length}

@@ -1,4 +1,4 @@
--- `texts::octets_end` meets its contract: each return by a law of `octetsIn`. Assumes nothing.
+-- `texts::octets_end` meets its contract: each return by a law of `octets_in`. Assumes nothing.
 use native.Mathlib.Omega.{arith}
 use Prim.Native.Nat.{ℕ}
 use mathlib.Core.List.{List}
