@@ -1,5 +1,5 @@
 #!/usr/bin/env python3
-"""Brings the names of this repository's definitions and lemmas to snake case, behind /opt/rattle/port/port.py: in specs/ and proofs/, in the contracts of src/ and in must-fail/.
+"""Brings the names of this repository's definitions and lemmas to snake case, behind the kit's port/port.py: in specs/ and proofs/, in the contracts of src/ and in must-fail/.
 
 usage: python3 tools/port_names.py [--look]     --look: says which names fall together, and writes nothing
 
