@@ -41,9 +41,11 @@ module _ (b : Lts.After-bits64 Tie.the-claims Reads.Pre Reads.Post) where
 
 pub returns-then-bits-gt253402300799999 : goal.returns-then-bits-gt253402300799999
 returns-then-bits-gt253402300799999 c =
-    says (ap (λ (z : ℤ). spelt "@" ++ signed z) (to_z-of_z (fits c.before.before.before.before.before.before.before.before.before.before)) ∙ outside (time c.before.before.before.before.before.before.before.before.before.before) (rw (is c.before.before.before.before.before.before.before.before.before.before) c.if-bits-gt253402300799999.true))
+    let here = c.before.before.before.before.before.before.before.before.before.before in
+    says (ap (λ (z : ℤ). spelt "@" ++ signed z) (to_z-of_z (fits here)) ∙ outside (time here) (rw (is here) c.if-bits-gt253402300799999.true))
     (then c.octet-sign.ensures c.signed.ensures)
 
 pub returns : goal.returns
 returns c =
-    says (ap moment_text (sym (is c.before.before.before.before.before.before)) ∙ inside (time c.before.before.before.before.before.before) (fits c.before.before.before.before.before.before) (rw (is c.before.before.before.before.before.before) c.if-bits-gt253402300799999.false)) c.moment.ensures
+    let here = c.before.before.before.before.before.before in
+    says (ap moment_text (sym (is here)) ∙ inside (time here) (fits here) (rw (is here) c.if-bits-gt253402300799999.false)) c.moment.ensures

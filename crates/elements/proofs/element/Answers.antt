@@ -68,7 +68,9 @@ returns-then-doc-at c =
     (sym (ap tells e), sym (ap (octets_left (lent c.before.before)) e))
 
 pub look_in-looked-requires : goal.look_in-looked-requires
-look_in-looked-requires c = (omega (arith, used_length c.before.before.before, (held c.before.before.before).most), record { book = book c.before.before.before; image = image c.before.before.before })
+look_in-looked-requires c =
+    let known_here = c.before.before.before in
+    (omega (arith, used_length known_here, (held known_here).most), record { book = book known_here; image = image known_here })
 
 -- What was looked up.
 abbrev LookedUp : Type 0
@@ -80,8 +82,9 @@ over l =
 
 pub element_over-one-requires : goal.element_over-one-requires
 element_over-one-requires c =
+    let known_here = c.before.before.before.before in
     let p = c.requires in
-    (omega (arith, c.if-doc-at.false), p.0, p.1, omega (arith, used_length c.before.before.before.before, (held c.before.before.before.before).most), (held c.before.before.before.before).most, stood (take (used c.before.before.before.before) (lent c.before.before.before.before)) (over c.before).number (book c.before.before.before.before) c.look_in-looked.result (over c.before).looks)
+    (omega (arith, c.if-doc-at.false), p.0, p.1, omega (arith, used_length known_here, (held known_here).most), (held known_here).most, stood (take (used known_here) (lent known_here)) (over c.before).number (book known_here) c.look_in-looked.result (over c.before).looks)
 
 -- The element that was read.
 abbrev Answered : Type 0

@@ -68,19 +68,32 @@ returns-in-Refused-default c =
 
 pub returns-in-Refused-others : goal.returns-in-Refused-others
 returns-in-Refused-others c =
-    refused_namespaces (S c.before.before.before.before.before) (start c.before.before.before.before.before) (recorded c.before.before.before.before.before).0 (namespaces c.before.before.before) (named c.before.before.before).0 _ _ (rw c.in-Refused-others.is at c.list_end-others.ensures).0
+    let named_here = c.before.before.before in
+    let recorded_here = c.before.before.before.before.before in
+    refused_namespaces (S recorded_here) (start recorded_here) (recorded recorded_here).0 (namespaces named_here) (named named_here).0 _ _ (rw c.in-Refused-others.is at c.list_end-others.ensures).0
 
 pub returns-in-Refused-listed : goal.returns-in-Refused-listed
 returns-in-Refused-listed c =
-    refused_services (S c.before.before.before.before.before.before.before) (start c.before.before.before.before.before.before.before) (recorded c.before.before.before.before.before.before.before).0 (namespaces c.before.before.before.before.before) (named c.before.before.before.before.before).0 (services c.before.before.before) (spaced c.before.before.before).0 _ _ (rw c.in-Refused-listed.is at c.list_end-listed.ensures).0
+    let spaced_here = c.before.before.before in
+    let named_here = c.before.before.before.before.before in
+    let recorded_here = c.before.before.before.before.before.before.before in
+    refused_services (S recorded_here) (start recorded_here) (recorded recorded_here).0 (namespaces named_here) (named named_here).0 (services spaced_here) (spaced spaced_here).0 _ _ (rw c.in-Refused-listed.is at c.list_end-listed.ensures).0
 
 pub returns-in-Refused-closed : goal.returns-in-Refused-closed
 returns-in-Refused-closed c =
-    refused_close (S c.before.before.before.before.before.before.before.before.before) (start c.before.before.before.before.before.before.before.before.before) (recorded c.before.before.before.before.before.before.before.before.before).0 (namespaces c.before.before.before.before.before.before.before) (named c.before.before.before.before.before.before.before).0 (services c.before.before.before.before.before) (spaced c.before.before.before.before.before).0 (id c.before.before.before) (served c.before.before.before).0 _ _ (rw c.in-Refused-closed.is at c.close_end-closed.ensures).0
+    let served_here = c.before.before.before in
+    let spaced_here = c.before.before.before.before.before in
+    let named_here = c.before.before.before.before.before.before.before in
+    let recorded_here = c.before.before.before.before.before.before.before.before.before in
+    refused_close (S recorded_here) (start recorded_here) (recorded recorded_here).0 (namespaces named_here) (named named_here).0 (services spaced_here) (spaced spaced_here).0 (id served_here) (served served_here).0 _ _ (rw c.in-Refused-closed.is at c.close_end-closed.ensures).0
 
 pub returns-in-End-closed : goal.returns-in-End-closed
 returns-in-End-closed c =
-    accepted (S c.before.before.before.before.before.before.before.before.before) (start c.before.before.before.before.before.before.before.before.before) (recorded c.before.before.before.before.before.before.before.before.before).0 (namespaces c.before.before.before.before.before.before.before) (named c.before.before.before.before.before.before.before).0 (services c.before.before.before.before.before) (spaced c.before.before.before.before.before).0 (id c.before.before.before) (served c.before.before.before).0 c.requires _ (rw c.in-End-closed.is at c.close_end-closed.ensures).0
+    let served_here = c.before.before.before in
+    let spaced_here = c.before.before.before.before.before in
+    let named_here = c.before.before.before.before.before.before.before in
+    let recorded_here = c.before.before.before.before.before.before.before.before.before in
+    accepted (S recorded_here) (start recorded_here) (recorded recorded_here).0 (namespaces named_here) (named named_here).0 (services spaced_here) (spaced spaced_here).0 (id served_here) (served served_here).0 c.requires _ (rw c.in-End-closed.is at c.close_end-closed.ensures).0
 
 pub default_end-default-requires : goal.default_end-default-requires
 default_end-default-requires c = ((recorded c.before).1.1, c.requires)

@@ -41,12 +41,15 @@ abbrev Before : (t : Turn) → Met (S t) (Seen t) (K t) (Pos t)
 Before t = t.loop-pos.invariant.3
 
 pub returns-then-k-ge-MOST_LAYOUTS : goal.returns-then-k-ge-MOST_LAYOUTS
-returns-then-k-ge-MOST_LAYOUTS c = sym (met_full (S c.before.before) (Seen c.before.before) (K c.before.before) (Pos c.before.before) (Before c.before.before) c.loop-pos-test.true c.if-k-ge-MOST_LAYOUTS.true)
+returns-then-k-ge-MOST_LAYOUTS c =
+    let turn_here = c.before.before in
+    sym (met_full (S turn_here) (Seen turn_here) (K turn_here) (Pos turn_here) (Before turn_here) c.loop-pos-test.true c.if-k-ge-MOST_LAYOUTS.true)
 
 pub returns-in_default : goal.returns-in_default
 returns-in_default c =
+    let turn_here = c.before.before.before.before in
     let q = c.in_default.is in
-    sym (met_refused (S c.before.before.before.before) (Seen c.before.before.before.before) (K c.before.before.before.before) (Pos c.before.before.before.before) (Before c.before.before.before.before) c.loop-pos-test.true c.if-k-ge-MOST_LAYOUTS.false _ _ (sym c.layout_end.ensures.0 ∙ ap says q))
+    sym (met_refused (S turn_here) (Seen turn_here) (K turn_here) (Pos turn_here) (Before turn_here) c.loop-pos-test.true c.if-k-ge-MOST_LAYOUTS.false _ _ (sym c.layout_end.ensures.0 ∙ ap says q))
 
 -- The layout at the place ends at the next.
 abbrev One : Type 0
@@ -57,22 +60,25 @@ next_at o = sym o.layout_end.ensures.0 ∙ ap says o.in-End.is
 
 pub u32_at-number-requires : goal.u32_at-number-requires
 u32_at-number-requires c =
-    (layout_number (S c.before.before.before.before) (Pos c.before.before.before.before) (ended (layout_at (S c.before.before.before.before) (Pos c.before.before.before.before)) _ (next_at c.before)).1).0
+    let turn_here = c.before.before.before.before in
+    (layout_number (S turn_here) (Pos turn_here) (ended (layout_at (S turn_here) (Pos turn_here)) _ (next_at c.before)).1).0
 
 pub returns-then-is_among : goal.returns-then-is_among
 returns-then-is_among c =
+    let turn_here = c.before.before.before.before.before.before.before.before in
     sym
-    (met_again (S c.before.before.before.before.before.before.before.before) (Seen c.before.before.before.before.before.before.before.before) (K c.before.before.before.before.before.before.before.before) (Pos c.before.before.before.before.before.before.before.before) (Before c.before.before.before.before.before.before.before.before) c.loop-pos-test.true c.if-k-ge-MOST_LAYOUTS.false _ c.u32_at-number.result (next_at c.before.before.before.before.before) c.u32_at-number.ensures
+    (met_again (S turn_here) (Seen turn_here) (K turn_here) (Pos turn_here) (Before turn_here) c.loop-pos-test.true c.if-k-ge-MOST_LAYOUTS.false _ c.u32_at-number.result (next_at c.before.before.before.before.before) c.u32_at-number.ensures
     (sym c.is_among.ensures ∙ c.if-is_among.true))
 
 pub loop-pos-preserved : goal.loop-pos-preserved
 loop-pos-preserved c =
+    let turn_here = c.before.before.before.before.before.before.before.before in
     let few = c.if-k-ge-MOST_LAYOUTS.false in
     let long = c.loop-pos.invariant.2 in (
       (rw c.in-End.is at c.layout_end.ensures.1).1,
       omega (arith, few),
       simp length-set long,
-      met_on (S c.before.before.before.before.before.before.before.before) (Seen c.before.before.before.before.before.before.before.before) (K c.before.before.before.before.before.before.before.before) (Pos c.before.before.before.before.before.before.before.before) (Before c.before.before.before.before.before.before.before.before) c.loop-pos-test.true few _ c.u32_at-number.result (next_at c.before.before.before.before.before) c.u32_at-number.ensures (omega (arith, few, long))
+      met_on (S turn_here) (Seen turn_here) (K turn_here) (Pos turn_here) (Before turn_here) c.loop-pos-test.true few _ c.u32_at-number.result (next_at c.before.before.before.before.before) c.u32_at-number.ensures (omega (arith, few, long))
           (sym c.is_among.ensures ∙ c.if-is_among.false),
     )
 

@@ -47,27 +47,37 @@ returns-then-k-ge-MOST_LAYOUTS c = λ book n w.
     sym (learning_many book (Used c.before.before.before) n (Front c.before.before.before ++ Last c.before.before.before) v.0 (omega (arith, v.1, c.if-k-ge-MOST_LAYOUTS.true)))
 
 pub returns-then-left-front : goal.returns-then-left-front
-returns-then-left-front c = λ book n w.
-    let v = looked_up c.before.before.before.before n book _ w c.in-Missing.is in
-    sym (learning_long book (Used c.before.before.before.before) n (Front c.before.before.before.before ++ Last c.before.before.before.before) v.0 (omega (arith, v.1, c.if-k-ge-MOST_LAYOUTS.false)) (omega (arith, long c.before.before.before.before, c.if-left-front.true, c.requires.1)))
+returns-then-left-front c =
+    let here = c.before.before.before.before in
+    λ book n w.
+    let v = looked_up here n book _ w c.in-Missing.is in
+    sym (learning_long book (Used here) n (Front here ++ Last here) v.0 (omega (arith, v.1, c.if-k-ge-MOST_LAYOUTS.false)) (omega (arith, long here, c.if-left-front.true, c.requires.1)))
 
 pub returns-then-left-front-2 : goal.returns-then-left-front-2
-returns-then-left-front-2 c = λ book n w.
-    let v = looked_up c.before.before.before.before.before n book _ w c.in-Missing.is in
-    sym (learning_long book (Used c.before.before.before.before.before) n (Front c.before.before.before.before.before ++ Last c.before.before.before.before.before) v.0 (omega (arith, v.1, c.if-k-ge-MOST_LAYOUTS.false)) (omega (arith, long c.before.before.before.before.before, c.if-left-front.false, c.if-left-front-2.true, c.requires.1)))
+returns-then-left-front-2 c =
+    let here = c.before.before.before.before.before in
+    λ book n w.
+    let v = looked_up here n book _ w c.in-Missing.is in
+    sym (learning_long book (Used here) n (Front here ++ Last here) v.0 (omega (arith, v.1, c.if-k-ge-MOST_LAYOUTS.false)) (omega (arith, long here, c.if-left-front.false, c.if-left-front-2.true, c.requires.1)))
 
 pub returns-then-same_runs : goal.returns-then-same_runs
-returns-then-same_runs c = λ book n w.
-    let v = looked_up c.before.before.before.before n book _ w c.in-There.is in
-    sym (learning_same book (Used c.before.before.before.before) n (Front c.before.before.before.before ++ Last c.before.before.before.before) v.layout v.found (sym (c.same_runs.ensures v.layout v.next v.reads) ∙ c.if-same_runs.true))
+returns-then-same_runs c =
+    let here = c.before.before.before.before in
+    λ book n w.
+    let v = looked_up here n book _ w c.in-There.is in
+    sym (learning_same book (Used here) n (Front here ++ Last here) v.layout v.found (sym (c.same_runs.ensures v.layout v.next v.reads) ∙ c.if-same_runs.true))
 
 pub returns-else-same_runs : goal.returns-else-same_runs
-returns-else-same_runs c = λ book n w.
-    let v = looked_up c.before.before.before.before n book _ w c.in-There.is in
-    sym (learning_other book (Used c.before.before.before.before) n (Front c.before.before.before.before ++ Last c.before.before.before.before) v.layout v.found (sym (c.same_runs.ensures v.layout v.next v.reads) ∙ c.if-same_runs.false))
+returns-else-same_runs c =
+    let here = c.before.before.before.before in
+    λ book n w.
+    let v = looked_up here n book _ w c.in-There.is in
+    sym (learning_other book (Used here) n (Front here ++ Last here) v.layout v.found (sym (c.same_runs.ensures v.layout v.next v.reads) ∙ c.if-same_runs.false))
 
 pub returns-else-left-front-2 : goal.returns-else-left-front-2
-returns-else-left-front-2 c = λ book n w.
-    let v = looked_up c.before.before.before.before.before n book _ w c.in-Missing.is in
-    sym (learning_new book (Used c.before.before.before.before.before) n (Front c.before.before.before.before.before ++ Last c.before.before.before.before.before) v.0 (omega (arith, v.1, c.if-k-ge-MOST_LAYOUTS.false)) (omega (arith, long c.before.before.before.before.before, c.if-left-front.false, c.if-left-front-2.false, c.requires.1))
-    ∙ ap New (ap (λ (z : ℕ). Used c.before.before.before.before.before + z) (long c.before.before.before.before.before) ∙ sym (add_assoc (Used c.before.before.before.before.before) (length (Front c.before.before.before.before.before)) (length (Last c.before.before.before.before.before)))))
+returns-else-left-front-2 c =
+    let here = c.before.before.before.before.before in
+    λ book n w.
+    let v = looked_up here n book _ w c.in-Missing.is in
+    sym (learning_new book (Used here) n (Front here ++ Last here) v.0 (omega (arith, v.1, c.if-k-ge-MOST_LAYOUTS.false)) (omega (arith, long here, c.if-left-front.false, c.if-left-front-2.false, c.requires.1))
+    ∙ ap New (ap (λ (z : ℕ). Used here + z) (long here) ∙ sym (add_assoc (Used here) (length (Front here)) (length (Last here)))))

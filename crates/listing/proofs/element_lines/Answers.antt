@@ -61,7 +61,8 @@ module _ (t : Turn) where
 
 pub go_on-moved-requires : goal.go_on-moved-requires
 go_on-moved-requires c =
-    ((passed c.before.before.before.before.before.before.before).inside, short c.before.before.before.before.before.before.before, omega (arith, short c.before.before.before.before.before.before.before, (passed c.before.before.before.before.before.before.before).few, (passed c.before.before.before.before.before.before.before).inside), omega (arith, shelf c.before.before.before.before.before.before.before, (passed_lent (passed c.before.before.before.before.before.before.before)).most), record { book = held c.before.before.before.before.before.before.before; bears = passed_bears (passed c.before.before.before.before.before.before.before) })
+    let turn_here = c.before.before.before.before.before.before.before in
+    ((passed turn_here).inside, short turn_here, omega (arith, short turn_here, (passed turn_here).few, (passed turn_here).inside), omega (arith, shelf turn_here, (passed_lent (passed turn_here)).most), record { book = held turn_here; bears = passed_bears (passed turn_here) })
 
 -- How it went on.
 abbrev Answered : Type 0
@@ -89,12 +90,14 @@ returns-in-Rows c = absurd (never c.before)
 
 pub returns-in-Refused : goal.returns-in-Refused
 returns-in-Refused c =
-    passed_refused (passed c.before.before.before.before.before.before.before.before.before.before.before.before.before.before) (octets c.before.before.before.before.before.before.before.before.before.before.before.before.before.before) (short c.before.before.before.before.before.before.before.before.before.before.before.before.before.before) _ _ (sym (went c.before.before.before.before.before.before.before _ c.in-Refused.is).is) c.refused_line.ensures
+    let turn_here = c.before.before.before.before.before.before.before.before.before.before.before.before.before.before in
+    passed_refused (passed turn_here) (octets turn_here) (short turn_here) _ _ (sym (went c.before.before.before.before.before.before.before _ c.in-Refused.is).is) c.refused_line.ensures
 
 pub returns-in-End : goal.returns-in-End
 returns-in-End c =
+    let turn_here = c.before.before.before.before.before.before.before.before.before.before.before.before.before.before in
     let exact = to_z-of_z {w = w64} (record { sfits = c.in-End.known_told-in-End-1-own.given.1.0.1 }) in
-    passed_end (passed c.before.before.before.before.before.before.before.before.before.before.before.before.before.before) (octets c.before.before.before.before.before.before.before.before.before.before.before.before.before.before) (short c.before.before.before.before.before.before.before.before.before.before.before.before.before.before) _ _ _ (sym (went c.before.before.before.before.before.before.before _ c.in-End.is).is) (says (ap (end_text c.loop-next.pos _) exact) c.end_line.ensures)
+    passed_end (passed turn_here) (octets turn_here) (short turn_here) _ _ _ (sym (went c.before.before.before.before.before.before.before _ c.in-End.is).is) (says (ap (end_text c.loop-next.pos _) exact) c.end_line.ensures)
 
 -- An item, by names.
 abbrev Item : Type 0
@@ -134,17 +137,21 @@ module _ (g : Grew) where
 
 pub keep-tally-requires : goal.keep-tally-requires
 keep-tally-requires c =
-    let k = (passed (turn c.before.before.before.before.before.before.before)).carried.kept in
-    let (known, start, end) = tally_bounds (turn c.before.before.before.before.before.before.before).loop-next.tally (held (turn c.before.before.before.before.before.before.before)) k.tally in
-    (short (turn c.before.before.before.before.before.before.before), ap is_ok (grown c.before.before.before.before.before.before.before).reads, k.planned.long, omega (arith, (grown c.before.before.before.before.before.before.before).few), start, end, omega (arith, (passed_lent (passed (turn c.before.before.before.before.before.before.before))).most))
+    let grew = c.before.before.before.before.before.before.before in
+    let k = (passed (turn grew)).carried.kept in
+    let (known, start, end) = tally_bounds (turn grew).loop-next.tally (held (turn grew)) k.tally in
+    (short (turn grew), ap is_ok (grown grew).reads, k.planned.long, omega (arith, (grown grew).few), start, end, omega (arith, (passed_lent (passed (turn grew))).most))
 
 pub loop-next-preserved-then-used-gone : goal.loop-next-preserved-then-used-gone
 loop-next-preserved-then-used-gone c =
+    let lined = c.before.before.before.before.before.before.before.before.before.before.before.before in
     let new = grown c.before.before.before.before.before.before.before.before in
-    (out_long c.before.before.before.before.before.before.before.before.before.before.before.before, new.on (put c.before.before.before.before.before.before.before.before.before.before.before.before) c.grow.auto.book c.grow.ensures (c.keep-tally.ensures new.layout _ new.reads), words_long c.before.before.before.before.before.before.before.before.before.before.before.before.before.before.before.before.before)
+    (out_long lined, new.on (put lined) c.grow.auto.book c.grow.ensures (c.keep-tally.ensures new.layout _ new.reads), words_long c.before.before.before.before.before.before.before.before.before.before.before.before.before.before.before.before.before)
 
 pub loop-next-preserved : goal.loop-next-preserved
-loop-next-preserved c = (out_long c.before.before.before.before.before, (goes c.before.before.before.before.before.before.before.before).old c.if-used-gone.false (put c.before.before.before.before.before), words_long c.before.before.before.before.before.before.before.before.before.before)
+loop-next-preserved c =
+    let lined = c.before.before.before.before.before in
+    (out_long lined, (goes c.before.before.before.before.before.before.before.before).old c.if-used-gone.false (put lined), words_long c.before.before.before.before.before.before.before.before.before.before)
 
 pub slice_bounds-go_on-end : goal.slice_bounds-go_on-end
 slice_bounds-go_on-end c = sym (shelf c.before.before)

@@ -44,16 +44,22 @@ judge-judged-requires c =
 
 -- What the book says of it.
 pub returns-in-Refused-judged : goal.returns-in-Refused-judged
-returns-in-Refused-judged c = λ b i.
-    over_unlearnt b (doc c.before.before.before) (at c.before.before.before) (layout c.before.before.before).0 (next c.before.before.before) (layout c.before.before.before).1 _ _ (rw c.in-Refused-judged.is at (c.judge-judged.ensures b (layout c.before.before.before).0 i (layout c.before.before.before).1))
+returns-in-Refused-judged c =
+    let layed = c.before.before.before in
+    λ b i.
+    over_unlearnt b (doc layed) (at layed) (layout layed).0 (next layed) (layout layed).1 _ _ (rw c.in-Refused-judged.is at (c.judge-judged.ensures b (layout layed).0 i (layout layed).1))
 
 pub returns-in-Known : goal.returns-in-Known
-returns-in-Known c = λ b i.
-    over_learnt b (doc c.before.before.before) (at c.before.before.before) (layout c.before.before.before).0 (next c.before.before.before) (layout c.before.before.before).1 c.requires.short _ _ (rw c.in-Known.is at (c.judge-judged.ensures b (layout c.before.before.before).0 i (layout c.before.before.before).1))
+returns-in-Known c =
+    let layed = c.before.before.before in
+    λ b i.
+    over_learnt b (doc layed) (at layed) (layout layed).0 (next layed) (layout layed).1 c.requires.short _ _ (rw c.in-Known.is at (c.judge-judged.ensures b (layout layed).0 i (layout layed).1))
 
 pub returns-in-New : goal.returns-in-New
-returns-in-New c = λ b i.
-    over_learnt b (doc c.before.before.before) (at c.before.before.before) (layout c.before.before.before).0 (next c.before.before.before) (layout c.before.before.before).1 c.requires.short _ _ (rw c.in-New.is at (c.judge-judged.ensures b (layout c.before.before.before).0 i (layout c.before.before.before).1)).0
+returns-in-New c =
+    let layed = c.before.before.before in
+    λ b i.
+    over_learnt b (doc layed) (at layed) (layout layed).0 (next layed) (layout layed).1 c.requires.short _ _ (rw c.in-New.is at (c.judge-judged.ensures b (layout layed).0 i (layout layed).1)).0
 
 pub layout_end-end-requires : goal.layout_end-end-requires
 layout_end-end-requires c = let o = c.requires in (o.room, o.short)

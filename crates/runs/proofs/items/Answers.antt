@@ -176,8 +176,9 @@ some_passed t many = go (n t) refl
 
 pub returns-then-passed-gt-MOST_ROWS : goal.returns-then-passed-gt-MOST_ROWS
 returns-then-passed-gt-MOST_ROWS c =
-    went_some (doc c.before.before) (first c.before.before) (lent c.before.before) (going c.before.before).run (some_passed c.before.before c.if-passed-gt-MOST_ROWS.true) _
-    (run_stops (doc c.before.before) (first c.before.before) (lent c.before.before) (going c.before.before).run _ (over_many (doc c.before.before) (short c.before.before) (octets c.before.before) (filled c.before.before) (carried c.before.before).is (pos c.before.before) (passed c.before.before) c.if-passed-gt-MOST_ROWS.true) (room c.before.before))
+    let round_here = c.before.before in
+    went_some (doc round_here) (first round_here) (lent round_here) (going round_here).run (some_passed round_here c.if-passed-gt-MOST_ROWS.true) _
+    (run_stops (doc round_here) (first round_here) (lent round_here) (going round_here).run _ (over_many (doc round_here) (short round_here) (octets round_here) (filled round_here) (carried round_here).is (pos round_here) (passed round_here) c.if-passed-gt-MOST_ROWS.true) (room round_here))
 
 -- How many rows may follow.
 abbrev Reached : Type 0
@@ -191,7 +192,8 @@ bears t = carried_bears (octets t) (filled t) (numbers t) (places t) (steps t) (
 
 pub go_on-moved-requires : goal.go_on-moved-requires
 go_on-moved-requires c =
-    ((going c.before.before.before.before.before.before.before.before).inside, short c.before.before.before.before.before.before.before.before, few c.before.before.before.before.before.before, omega (arith, shelf_long c.before.before.before.before.before.before.before.before, (held c.before.before.before.before.before.before.before.before).most), record { book = book c.before.before.before.before.before.before.before.before; bears = bears c.before.before.before.before.before.before.before.before })
+    let round_here = c.before.before.before.before.before.before.before.before in
+    ((going round_here).inside, short round_here, few c.before.before.before.before.before.before, omega (arith, shelf_long round_here, (held round_here).most), record { book = book round_here; bears = bears round_here })
 
 -- How the run went on.
 abbrev Answered : Type 0
@@ -246,7 +248,8 @@ module _ (k : Strode) where
 
 pub loop-n-preserved-in-Rows : goal.loop-n-preserved-in-Rows
 loop-n-preserved-in-Rows c =
-    let t = Of c.before.before.before.before in
+    let answered = c.before.before.before.before in
+    let t = Of answered in
     let h = (over c.before).1.passage in
     let x : Spot = spot_at (pos t) (passed t) (book t) in
     let y : Spot = spot_at (next c.before) (passed t + length h.seen) (book t) in
@@ -254,8 +257,8 @@ loop-n-preserved-in-Rows c =
     let over = over_rows (doc t) (short t) (octets t) (filled t) (carried t).is (carried t).octets_are h.seen (pos t) (passed t) (next c.before) (λ _. omega (arith, h.is_count, bounds c.before)) all h.path in
     let said = words_same (numbers t) (book t) h.seen (path_way (doc t) (short t) (doc_octets t) h.seen x y (going t).inside h.path).good all h.planned in
     let long : n t ≤ length (words t) = omega (arith, words_full t, room t) in
-    let put : words₁ c.before.before.before.before ≡ laid (n t) (words_of h.seen) (words t) =
-    ap (put_mid (n t) (length (words t) - n t) (words t)) (h.put ∙ ap (λ (ws : List ℕ). laid 0 ws (rest c.before.before.before.before)) said) ∙ laid_part (n t) (words_of h.seen) (words t) long in
+    let put : words₁ answered ≡ laid (n t) (words_of h.seen) (words t) =
+    ap (put_mid (n t) (length (words t) - n t) (words t)) (h.put ∙ ap (λ (ws : List ℕ). laid 0 ws (rest answered)) said) ∙ laid_part (n t) (words_of h.seen) (words t) long in
     let run = run_path (doc t) (first t) (lent t) (going t).run h.seen (lent_at (next c.before) (passed t + length h.seen) (octets t) (filled t)) over (omega (arith, h.is_count, bounds c.before)) in
     record {
       run =
@@ -265,7 +268,7 @@ loop-n-preserved-in-Rows c =
       inside = over_inside c.before;
       few = (bounds c.before).2;
       book_long = (going t).book_long;
-      words_long = words_long₁ c.before.before.before.before;
+      words_long = words_long₁ answered;
     }
   where
     over_inside : (k : Strode) → next k ≤ length (doc (Of k.before.before.before))
@@ -389,10 +392,12 @@ bounds-words-n c = let t = within c.before.before in omega (arith, words_long₁
 -- An item whose layout is not new.
 pub loop-n-preserved : goal.loop-n-preserved
 loop-n-preserved c =
-    let t = in_round c.before.before.before in
-    let (same, left, long) = carried_old (octets t) (filled t) (numbers t) (places t) (steps t) (tally t) (carried t) (doc t) (doc_octets t) (short t) (pos t) (passed t) (p c.before.before.before.before) (y c.before.before.before.before) (met c.before.before.before.before).2
-    (subst (λ (g : Gone). g.used ≤ filled t) (sym (met c.before.before.before.before).3) c.if-filled-gone.false) in
-    on c.before.before.before (octets t) (numbers t) (places t) (steps t) (tally t) (sym left) refl
+    let worded = c.before.before.before in
+    let item_here = c.before.before.before.before in
+    let t = in_round worded in
+    let (same, left, long) = carried_old (octets t) (filled t) (numbers t) (places t) (steps t) (tally t) (carried t) (doc t) (doc_octets t) (short t) (pos t) (passed t) (p item_here) (y item_here) (met item_here).2
+    (subst (λ (g : Gone). g.used ≤ filled t) (sym (met item_here).3) c.if-filled-gone.false) in
+    on worded (octets t) (numbers t) (places t) (steps t) (tally t) (sym left) refl
     (subst (λ (m : ℕ). Carried (octets t) m (numbers t) (places t) (steps t) (tally t)) (sym long) (carried t))
 
 -- One whose layout is new.
@@ -432,15 +437,18 @@ keep-tally-requires c =
 pub loop-n-preserved-then-filled-gone : goal.loop-n-preserved-then-filled-gone
 unfolding newly
 loop-n-preserved-then-filled-gone c =
-    let t = in_round c.before.before.before.before.before.before.before.before.before.before.before in
-    let n = newly c.before.before.before.before.before.before.before.before.before in
+    let grew = c.before.before.before.before.before.before.before.before.before in
+    let worded = c.before.before.before.before.before.before.before.before.before.before.before in
+    let item_here = c.before.before.before.before.before.before.before.before.before.before.before.before in
+    let t = in_round worded in
+    let n = newly grew in
     let exit = c.grow.new.book in
-    let left : exit ≡ holding (y c.before.before.before.before.before.before.before.before.before.before.before.before).book (octets t) =
-    item_left (doc t) (doc_octets t) (short t) (pos t) (passed t) (book t) (p c.before.before.before.before.before.before.before.before.before.before.before.before) (y c.before.before.before.before.before.before.before.before.before.before.before.before) (met c.before.before.before.before.before.before.before.before.before.before.before.before).2 (omega (arith, more c.before.before.before.before.before.before.before.before.before, (bears t).size)) (octets t) exit
-    (λ rows st e. c.grow.ensures rows st (e ∙ ap (λ (x : Gone). ok st x.next) (met c.before.before.before.before.before.before.before.before.before.before.before.before).3)) in
-    let h = c.keep-tally.ensures n.layout (p c.before.before.before.before.before.before.before.before.before.before.before.before).next n.reads in
-    on c.before.before.before.before.before.before.before.before.before.before.before exit _ _ _ _ left c.grow.auto.book
-    (carried_new (octets t) (filled t) (numbers t) (places t) (steps t) (tally t) (carried t) (doc t) (doc_octets t) (short t) (pos t) (passed t) (p c.before.before.before.before.before.before.before.before.before.before.before.before) (y c.before.before.before.before.before.before.before.before.before.before.before.before) (met c.before.before.before.before.before.before.before.before.before.before.before.before).2 (more c.before.before.before.before.before.before.before.before.before) exit left h).0
+    let left : exit ≡ holding (y item_here).book (octets t) =
+    item_left (doc t) (doc_octets t) (short t) (pos t) (passed t) (book t) (p item_here) (y item_here) (met item_here).2 (omega (arith, more grew, (bears t).size)) (octets t) exit
+    (λ rows st e. c.grow.ensures rows st (e ∙ ap (λ (x : Gone). ok st x.next) (met item_here).3)) in
+    let h = c.keep-tally.ensures n.layout (p item_here).next n.reads in
+    on worded exit _ _ _ _ left c.grow.auto.book
+    (carried_new (octets t) (filled t) (numbers t) (places t) (steps t) (tally t) (carried t) (doc t) (doc_octets t) (short t) (pos t) (passed t) (p item_here) (y item_here) (met item_here).2 (more grew) exit left h).0
 
 -- The part of the words lies within them.
 lies : (r : Reached) → n r.before.before ≤ length (words r.before.before)

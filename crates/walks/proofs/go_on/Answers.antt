@@ -81,16 +81,20 @@ returns-then-stretch-gt0 c = λ book b. (c.if-stretch-gt0.true, strides c.before
 abbrev Still : Type 0
 Still = Lts.Else1 Tie.the-claims Reads.Pre Reads.Post
 
-by_turn : (e : Still) (book : Book) → Kept e.before.before.before.before book → (r : Moved) → r ≡ moved_of (turn_at (doc e.before.before.before.before) (spot_at (here e.before.before.before.before) (rows e.before.before.before.before) book))
-    → ByTurn (doc e.before.before.before.before) (spot_at (at e.before.before.before.before) (rows e.before.before.before.before) book) (numbers e.before.before.before.before) (known e.before.before.before.before) e.args.most (entry e.before.before.before.before) (exit e.before.before.before.before) r
+abbrev strode_of : Still → Strode
+strode_of e = e.before.before.before.before
+
+by_turn : (e : Still) (book : Book) → Kept (strode_of e) book → (r : Moved) → r ≡ moved_of (turn_at (doc (strode_of e)) (spot_at (here (strode_of e)) (rows (strode_of e)) book))
+    → ByTurn (doc (strode_of e)) (spot_at (at (strode_of e)) (rows (strode_of e)) book) (numbers (strode_of e)) (known (strode_of e)) e.args.most (entry (strode_of e)) (exit (strode_of e)) r
 by_turn e book b r is =
+    let q = strode_of e in
     let none : e.rows_on-stretch.result.count ≡ 0 = omega (arith, e.if-stretch-gt0.false) in
-    let h = subst (λ (n : ℕ). Strides (doc e.before.before.before.before) (spot_at (at e.before.before.before.before) (rows e.before.before.before.before) book) (numbers e.before.before.before.before) (known e.before.before.before.before) e.args.labels.now e.args.most (entry e.before.before.before.before) (exit e.before.before.before.before) (here e.before.before.before.before) n) none (strides e.before.before.before.before book b) in
-    let (same, kept) = passage_still (doc e.before.before.before.before) (at e.before.before.before.before) (rows e.before.before.before.before) book (numbers e.before.before.before.before) e.args.labels.now (entry e.before.before.before.before) h.passage in
+    let h = subst (λ (n : ℕ). Strides (doc q) (spot_at (at q) (rows q) book) (numbers q) (known q) e.args.labels.now e.args.most (entry q) (exit q) (here q) n) none (strides q book b) in
+    let (same, kept) = passage_still (doc q) (at q) (rows q) book (numbers q) e.args.labels.now (entry q) h.passage in
     record {
-      is = is ∙ ap (λ (k : ℕ). moved_of (turn_at (doc e.before.before.before.before) (spot_at k (rows e.before.before.before.before) book))) same;
+      is = is ∙ ap (λ (k : ℕ). moved_of (turn_at (doc q) (spot_at k (rows q) book))) same;
       kept = kept;
-      stops = λ some. subst (λ (k : ℕ). Refuses (doc e.before.before.before.before) k book (numbers e.before.before.before.before) (known e.before.before.before.before)) same (h.stops some);
+      stops = λ some. subst (λ (k : ℕ). Refuses (doc q) k book (numbers q) (known q)) same (h.stops some);
     }
 
 -- Where the number behind the kind was looked up.

@@ -101,21 +101,25 @@ lasts : (v : Lts.After-values_to Tie.the-claims Reads.Pre Reads.Post) (y : Passe
 lasts v y e = subst (Lasts (doc v.before.before.before.before) (at v.before.before.before.before + 8) (steps v.before.before.before.before) v.wide.result) e v.values_to-passed.ensures
 
 pub returns-in-Unsure : goal.returns-in-Unsure
-returns-in-Unsure c = λ book p i h n k.
-    let m = has_plan c.before.before.before.before.before.before book p in
-    row_refused (doc c.before.before.before.before.before.before) (at c.before.before.before.before.before.before + 4) (at c.before.before.before.before.before.before + 8) book (omega arith) m.layout (omega (arith, room c.before.before.before.before.before.before)) m.found
+returns-in-Unsure c =
+    let indexed = c.before.before.before.before.before.before in
+    λ book p i h n k.
+    let m = has_plan indexed book p in
+    row_refused (doc indexed) (at indexed + 4) (at indexed + 8) book (omega arith) m.layout (omega (arith, room indexed)) m.found
     (lasts c.before.before _ c.in-Unsure.is m.layout.attributes (stands_here c.before.before.before m))
 
 pub returns-in-To : goal.returns-in-To
-returns-in-To c = λ book p.
-    let m = has_plan c.before.before.before.before.before.before book p in
+returns-in-To c =
+    let indexed = c.before.before.before.before.before.before in
+    λ book p.
+    let m = has_plan indexed book p in
     let values = lasts c.before.before _ c.in-To.is m.layout.attributes (stands_here c.before.before.before m) in
-    let r = row_passed (doc c.before.before.before.before.before.before) (at c.before.before.before.before.before.before + 4) (at c.before.before.before.before.before.before + 8) _ book m.layout (omega arith) (omega (arith, room c.before.before.before.before.before.before)) m.found values in
+    let r = row_passed (doc indexed) (at indexed + 4) (at indexed + 8) _ book m.layout (omega arith) (omega (arith, room indexed)) m.found values in
     record {
-      below = (found c.before.before.before.before.before.before).0;
-      plan = (found c.before.before.before.before.before.before).1;
+      below = (found indexed).0;
+      plan = (found indexed).1;
       index = m.index;
-      kind = number_ok (doc c.before.before.before.before.before.before) (at c.before.before.before.before.before.before) 4 (omega (arith, room c.before.before.before.before.before.before)) ∙ ap (λ (n : ℕ). ok n (at c.before.before.before.before.before.before + 4)) (sym c.u32_at.ensures ∙ c.if-u32_at-ne2.false);
+      kind = number_ok (doc indexed) (at indexed) 4 (omega (arith, room indexed)) ∙ ap (λ (n : ℕ). ok n (at indexed + 4)) (sym c.u32_at.ensures ∙ c.if-u32_at-ne2.false);
       row = r.0;
       reads = r.1;
     }

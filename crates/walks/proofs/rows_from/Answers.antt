@@ -134,20 +134,23 @@ abbrev Strode : Type 0
 Strode = Lts.Past-After-known_told Tie.the-claims Reads.Pre Reads.Post goal.the-invariant-loop-next goal.the-decreases-loop-next
 
 module _ (k : Strode) where
+  abbrev answer : Answered
+  answer = k.before.before
+
   abbrev next : ℕ
   next = k.in-Rows.next
 
   abbrev count : ℕ
   count = k.in-Rows.count
 
-  over : (0 < count) × Strides (doc k.before.before) (here k.before.before) (numbers k.before.before) (tally k.before.before).known (numbers k.before.before) most_rows k.loop-next.words (words k.before.before) next count
-  over = went k.before.before _ k.in-Rows.is
+  over : (0 < count) × Strides (doc answer) (here answer) (numbers answer) (tally answer).known (numbers answer) most_rows k.loop-next.words (words answer) next count
+  over = went answer _ k.in-Rows.is
 
-  on : (more : List Seen) × OnWay (doc k.before.before) (first k.before.before) (passed k.before.before ++ more) (doc k.before.before) (numbers k.before.before) (places k.before.before) (steps k.before.before) (tally k.before.before) next (rows k.before.before + count) (used k.before.before) × (pos k.before.before + count ≤ next)
-  on = way_rows (doc k.before.before) (octets k.before.before) (short k.before.before) (first k.before.before) (passed k.before.before) (doc k.before.before) (numbers k.before.before) (places k.before.before) (steps k.before.before) (tally k.before.before) (pos k.before.before) (rows k.before.before) (used k.before.before) (way k.before.before) over.1
+  on : (more : List Seen) × OnWay (doc answer) (first answer) (passed answer ++ more) (doc answer) (numbers answer) (places answer) (steps answer) (tally answer) next (rows answer + count) (used answer) × (pos answer + count ≤ next)
+  on = way_rows (doc answer) (octets answer) (short answer) (first answer) (passed answer) (doc answer) (numbers answer) (places answer) (steps answer) (tally answer) (pos answer) (rows answer) (used answer) (way answer) over.1
 
-  few_rows : rows k.before.before + count ≤ most_rows
-  few_rows = omega (arith, way_few (doc k.before.before) (octets k.before.before) (short k.before.before) (first k.before.before) _ (doc k.before.before) _ _ _ _ _ _ _ on.1, on.1.inside, short k.before.before)
+  few_rows : rows answer + count ≤ most_rows
+  few_rows = omega (arith, way_few (doc answer) (octets answer) (short answer) (first answer) _ (doc answer) _ _ _ _ _ _ _ on.1, on.1.inside, short answer)
 
 pub loop-next-preserved-in-Rows : goal.loop-next-preserved-in-Rows
 loop-next-preserved-in-Rows c = ((passed c.before.before.before ++ (on c.before).0, (on c.before).1), words_long c.before.before.before)
@@ -187,40 +190,47 @@ overflow_add-here c = omega (arith, further c.before.before, short c.before.befo
 abbrev Grew : Type 0
 Grew = Lts.Then1 Tie.the-claims Reads.Pre Reads.Post goal.the-invariant-loop-next goal.the-decreases-loop-next
 
-newly : (g : Grew) → Newly (doc g.before.before.before.before) (pos g.before.before.before.before) (met g.before).0.next (book g.before.before.before.before) (met g.before).1.book
+newly : (g : Grew) → let v = g.before.before.before.before in Newly (doc v) (pos v) (met g.before).0.next (book v) (met g.before).1.book
 newly g =
-    way_newly (doc g.before.before.before.before) (octets g.before.before.before.before) (short g.before.before.before.before) (first g.before.before.before.before) (passed g.before.before.before.before) (doc g.before.before.before.before) (numbers g.before.before.before.before) (places g.before.before.before.before) (steps g.before.before.before.before) (tally g.before.before.before.before) (pos g.before.before.before.before) (rows g.before.before.before.before) (used g.before.before.before.before) (way g.before.before.before.before) (met g.before).0 (met g.before).1 (met g.before).2
-    (subst (λ (x : Gone). used g.before.before.before.before < x.used) (sym (met g.before).3) g.if-used-gone.true)
+    let v = g.before.before.before.before in
+    way_newly (doc v) (octets v) (short v) (first v) (passed v) (doc v) (numbers v) (places v) (steps v) (tally v) (pos v) (rows v) (used v) (way v) (met g.before).0 (met g.before).1 (met g.before).2
+    (subst (λ (x : Gone). used v < x.used) (sym (met g.before).3) g.if-used-gone.true)
 
 pub keep-tally-requires : goal.keep-tally-requires
 keep-tally-requires c =
-    let k = (way c.before.before.before.before.before.before.before.before).kept in
-    let (known, start, end) = tally_bounds (tally c.before.before.before.before.before.before.before.before) (book c.before.before.before.before.before.before.before.before) k.tally in
-    (short c.before.before.before.before.before.before.before.before, ap is_ok (newly c.before.before.before.before).reads, k.planned.long, omega (arith, (newly c.before.before.before.before).few), start, end, omega (arith, further c.before.before.before.before.before, short c.before.before.before.before.before.before.before.before))
+    let grew = c.before.before.before.before in
+    let v = c.before.before.before.before.before.before.before.before in
+    let k = (way v).kept in
+    let (known, start, end) = tally_bounds (tally v) (book v) k.tally in
+    (short v, ap is_ok (newly grew).reads, k.planned.long, omega (arith, (newly grew).few), start, end, omega (arith, further c.before.before.before.before.before, short v))
 
 pub loop-next-preserved-then-used-gone : goal.loop-next-preserved-then-used-gone
 loop-next-preserved-then-used-gone c =
+    let item_here = c.before.before.before.before.before.before in
+    let v = c.before.before.before.before.before.before.before.before.before in
     let k = c.keep-tally in
     let n = newly c.before.before.before.before.before in (
       (
-        passed c.before.before.before.before.before.before.before.before.before ++ (met c.before.before.before.before.before.before).0 ∷ [],
-        subst (Behind c.before.before.before.before.before.before k.new.numbers k.new.places k.new.steps k.result) (met c.before.before.before.before.before.before).3
-            (way_new (doc c.before.before.before.before.before.before.before.before.before) (octets c.before.before.before.before.before.before.before.before.before) (short c.before.before.before.before.before.before.before.before.before) (first c.before.before.before.before.before.before.before.before.before) (passed c.before.before.before.before.before.before.before.before.before) (doc c.before.before.before.before.before.before.before.before.before) (numbers c.before.before.before.before.before.before.before.before.before) (places c.before.before.before.before.before.before.before.before.before) (steps c.before.before.before.before.before.before.before.before.before) (tally c.before.before.before.before.before.before.before.before.before) (pos c.before.before.before.before.before.before.before.before.before) (rows c.before.before.before.before.before.before.before.before.before) (used c.before.before.before.before.before.before.before.before.before) (way c.before.before.before.before.before.before.before.before.before) (met c.before.before.before.before.before.before).0 (met c.before.before.before.before.before.before).1 (met c.before.before.before.before.before.before).2
-            n (pos c.before.before.before.before.before.before.before.before.before + 4) (met c.before.before.before.before.before.before).0.next n.reads (k.ensures n.layout (met c.before.before.before.before.before.before).0.next n.reads)),
+        passed v ++ (met item_here).0 ∷ [],
+        subst (Behind item_here k.new.numbers k.new.places k.new.steps k.result) (met item_here).3
+            (way_new (doc v) (octets v) (short v) (first v) (passed v) (doc v) (numbers v) (places v) (steps v) (tally v) (pos v) (rows v) (used v) (way v) (met item_here).0 (met item_here).1 (met item_here).2
+            n (pos v + 4) (met item_here).0.next n.reads (k.ensures n.layout (met item_here).0.next n.reads)),
       ),
-      words_long c.before.before.before.before.before.before.before.before.before,
+      words_long v,
     )
 
 pub loop-next-preserved : goal.loop-next-preserved
-loop-next-preserved c = (
-  (
-    passed c.before.before.before.before.before ++ (met c.before.before).0 ∷ [],
-    subst (Behind c.before.before (numbers c.before.before.before.before.before) (places c.before.before.before.before.before) (steps c.before.before.before.before.before) (tally c.before.before.before.before.before)) (met c.before.before).3
-        (way_old (doc c.before.before.before.before.before) (octets c.before.before.before.before.before) (short c.before.before.before.before.before) (first c.before.before.before.before.before) (passed c.before.before.before.before.before) (doc c.before.before.before.before.before) (numbers c.before.before.before.before.before) (places c.before.before.before.before.before) (steps c.before.before.before.before.before) (tally c.before.before.before.before.before) (pos c.before.before.before.before.before) (rows c.before.before.before.before.before) (used c.before.before.before.before.before) (way c.before.before.before.before.before) (met c.before.before).0 (met c.before.before).1 (met c.before.before).2
-        (subst (λ (x : Gone). x.used ≤ used c.before.before.before.before.before) (sym (met c.before.before).3) c.if-used-gone.false)),
-  ),
-  words_long c.before.before.before.before.before,
-)
+loop-next-preserved c =
+    let item_here = c.before.before in
+    let v = c.before.before.before.before.before in (
+      (
+        passed v ++ (met item_here).0 ∷ [],
+        subst (Behind item_here (numbers v) (places v) (steps v) (tally v)) (met item_here).3
+            (way_old (doc v) (octets v) (short v) (first v) (passed v) (doc v) (numbers v) (places v) (steps v) (tally v) (pos v) (rows v) (used v) (way v) (met item_here).0 (met item_here).1 (met item_here).2
+            (subst (λ (x : Gone). x.used ≤ used v) (sym (met item_here).3) c.if-used-gone.false)),
+      ),
+      words_long v,
+    )
 
 pub slice_bounds-go_on-end : goal.slice_bounds-go_on-end
 slice_bounds-go_on-end c = sym c.loop-next.invariant.1

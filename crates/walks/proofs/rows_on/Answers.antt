@@ -113,18 +113,20 @@ row_word-requires c = let b = bounds c.before.before.before.before.before in ome
 
 pub loop-n-preserved : goal.loop-n-preserved
 loop-n-preserved c =
+    let row_here = c.before.before.before.before.before.before.before.before.before in
+    let trial = c.before.before.before.before.before.before.before.before.before.before in
     let a = c.args in
     let l = c.loop-n in (
-      (bounds c.before.before.before.before.before.before.before.before.before).1,
+      (bounds row_here).1,
       omega (arith, c.loop-n-test.true),
-      (bounds c.before.before.before.before.before.before.before.before.before).2,
+      (bounds row_here).2,
       c.put_word.auto.words ∙ l.invariant.3,
       λ rows book p.
-          let eight : pos c.before.before.before.before.before.before.before.before.before.before + 8 ≡ pos c.before.before.before.before.before.before.before.before.before.before + 4 + 4 = omega arith in
-          subst (λ (ws : List ℕ). Passage (doc c.before.before.before.before.before.before.before.before.before.before) (spot_at a.at rows book) (numbers c.before.before.before.before.before.before.before.before.before.before) a.labels.now a.words.now ws (Next c.before.before.before.before.before.before.before.before.before) (l.n + 1)) (sym c.put_word.ensures)
-          (passage_more (doc c.before.before.before.before.before.before.before.before.before.before) a.at rows book (numbers c.before.before.before.before.before.before.before.before.before.before) a.labels.now a.words.now l.words (pos c.before.before.before.before.before.before.before.before.before.before) l.n (l.invariant.4 rows book p)
-          (known c.before.before.before.before.before.before.before.before.before.before) (Next c.before.before.before.before.before.before.before.before.before) (I c.before.before.before.before.before.before.before.before.before) c.row_word.result (here c.before.before.before.before.before.before.before.before.before book p)
-          (c.row_word.ensures ∙ ap (λ (k : ℕ). row_word (get_or a.labels.now (I c.before.before.before.before.before.before.before.before.before) 0 % 4294967296) (ltb k 0xffffffff) (Next c.before.before.before.before.before.before.before.before.before)) (c.u32_at-stated.ensures ∙ ap (be 4 (doc c.before.before.before.before.before.before.before.before.before.before)) eight))),
+          let eight : pos trial + 8 ≡ pos trial + 4 + 4 = omega arith in
+          subst (λ (ws : List ℕ). Passage (doc trial) (spot_at a.at rows book) (numbers trial) a.labels.now a.words.now ws (Next row_here) (l.n + 1)) (sym c.put_word.ensures)
+          (passage_more (doc trial) a.at rows book (numbers trial) a.labels.now a.words.now l.words (pos trial) l.n (l.invariant.4 rows book p)
+          (known trial) (Next row_here) (I row_here) c.row_word.result (here row_here book p)
+          (c.row_word.ensures ∙ ap (λ (k : ℕ). row_word (get_or a.labels.now (I row_here) 0 % 4294967296) (ltb k 0xffffffff) (Next row_here)) (c.u32_at-stated.ensures ∙ ap (be 4 (doc trial)) eight))),
     )
 
 pub returns-in-Unsure : goal.returns-in-Unsure

@@ -41,14 +41,16 @@ module _ (k : Lts.After-shared_slice_known3 Tie.the-claims Reads.Pre Reads.Post)
 
 pub judge_runs-requires : goal.judge_runs-requires
 judge_runs-requires c =
+    let here = c.before.before.before in
     let p = c.requires.0 in
-    (used_small (Octets c.before.before.before) (Used c.before.before.before) (octets c.before.before.before) p, (used_room (Octets c.before.before.before) (Used c.before.before.before) (octets c.before.before.before) p).1, stood (take (Used c.before.before.before) (Octets c.before.before.before)) _ (Held c.before.before.before) c.find-looked.result c.find-looked.ensures)
+    (used_small (Octets here) (Used here) (octets here) p, (used_room (Octets here) (Used here) (octets here) p).1, stood (take (Used here) (Octets here)) _ (Held here) c.find-looked.result c.find-looked.ensures)
 
 pub returns : goal.returns
 returns c =
-    let number : c.u32_at.result ≡ be 4 (Front c.before.before.before.before ++ Last c.before.before.before.before) 0 = c.u32_at.ensures ∙ sym (be_front 4 (Front c.before.before.before.before) (Last c.before.before.before.before) 0 c.requires.1) in
-    c.judge_runs.ensures (Held c.before.before.before.before) (be 4 (Front c.before.before.before.before ++ Last c.before.before.before.before) 0)
-    (subst (λ (n : ℕ). Looks (take (Used c.before.before.before.before) (Octets c.before.before.before.before)) n (Held c.before.before.before.before) c.find-looked.result) number c.find-looked.ensures)
+    let here = c.before.before.before.before in
+    let number : c.u32_at.result ≡ be 4 (Front here ++ Last here) 0 = c.u32_at.ensures ∙ sym (be_front 4 (Front here) (Last here) 0 c.requires.1) in
+    c.judge_runs.ensures (Held here) (be 4 (Front here ++ Last here) 0)
+    (subst (λ (n : ℕ). Looks (take (Used here) (Octets here)) n (Held here) c.find-looked.result) number c.find-looked.ensures)
 
 pub slice_bounds-judge_runs-end : goal.slice_bounds-judge_runs-end
 slice_bounds-judge_runs-end c = long c.before.before.before
