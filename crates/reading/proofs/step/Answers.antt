@@ -14,10 +14,6 @@ use Rattle.reading.proofs.step.Lts
 use Rattle.reading.proofs.step.Reads
 use Rattle.reading.proofs.step.Tie
 
--- What stands before the step.
-abbrev Guard : Type 0
-Guard = Lts.After-lent_refusal Tie.the-claims Reads.Pre Reads.Post
-
 pub returns-in-Refused : goal.returns-in-Refused
 returns-in-Refused c =
     let a = c.args in

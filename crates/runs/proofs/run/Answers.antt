@@ -16,10 +16,6 @@ use Rattle.runs.proofs.run.Lts
 use Rattle.runs.proofs.run.Reads
 use Rattle.runs.proofs.run.Tie
 
--- What stands before the first step.
-abbrev Guard : Type 0
-Guard = Lts.After-lent_refusal Tie.the-claims Reads.Pre Reads.Post
-
 good : (c : Lts.Past-After-enum_told Tie.the-claims Reads.Pre Reads.Post) → let a = c.args in (length a.doc.now ≤ longest) × (a.rows ≤ most_rows) × IsBook a.book.now a.used
 good c =
     let a = c.args in

@@ -45,10 +45,6 @@ loop-next-init c =
       length-replicate {A = ℕ} 1 0,
     )
 
--- The turn by names.
-abbrev Turn : Type 0
-Turn = Lts.At-loop Tie.the-claims Reads.Pre Reads.Post goal.the-invariant-loop-next goal.the-decreases-loop-next
-
 pub go_on-moved-requires : goal.go_on-moved-requires
 go_on-moved-requires c =
     let a = c.args in

@@ -37,10 +37,6 @@ loop-n-init c =
     let a = c.args in
     (c.requires.0, omega arith, omega (arith, c.if-known-eq0.false), refl, λ rows book p. passage_none a.doc.now a.at rows book a.numbers.now a.labels.now a.words.now)
 
--- The turn by names.
-abbrev Turn : Type 0
-Turn = Lts.At-loop Tie.the-claims Reads.Pre Reads.Post goal.the-invariant-loop-n goal.the-decreases-loop-n
-
 pub quick_row-quick-requires : goal.quick_row-quick-requires
 quick_row-quick-requires c = (c.loop-n.invariant.0, c.requires.1, c.loop-n.invariant.2, c.requires.2)
 
