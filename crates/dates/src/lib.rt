@@ -3,9 +3,12 @@
 #![tactic(auto)]
 
 ghost use Rattle.std.specs.Prelude.{◌≡◌, ◌∷◌, ◌≤◌};
-ghost use Rattle.printing.specs.Text.{Prints, filled};
+ghost use Rattle.printing.specs.Text.{filled};
+ghost use Rattle.printing.specs.Pages.{Shows};
 ghost use Rattle.dates.specs.Calendar.{leap, year_days, month_days, day_of_year, date_after};
 ghost use Rattle.dates.specs.Times.{day_text, clock_text, moment_text, time_text};
+
+use printing::Page;
 
 // A date: years from 1970 on, months and days from 0 on.
 #[derive(Clone, Copy)]
@@ -19,13 +22,7 @@ pub struct Date {
 fn is_leap(y: u64) -> bool
     ensures { result ≡ leap y }
 {
-    if y % 4 != 0 {
-        return false;
-    }
-    if y % 100 != 0 {
-        return true;
-    }
-    y % 400 == 0
+    y % 4 == 0 && (y % 100 != 0 || y % 400 == 0)
 }
 
 fn year_days(y: u64) -> u64
@@ -59,9 +56,8 @@ fn day_of_year(years: u64, day: u64) -> Date
     requires { years ≤ 8029 }
     ensures { result ≡ day_of_year years day }
 {
-    let mut months: u64 = 0;
     let mut left = day;
-    while months < 11 {
+    for months in 0..11 {
         let here = month_days(1970 + years, months);
         if left < here {
             return Date {
@@ -71,11 +67,10 @@ fn day_of_year(years: u64, day: u64) -> Date
             };
         }
         left -= here;
-        months += 1;
     }
     Date {
         years,
-        months,
+        months: 11,
         days: left,
     }
 }
@@ -84,71 +79,65 @@ fn day_of_year(years: u64, day: u64) -> Date
 fn date_after(days: u64) -> Date
     ensures { result ≡ date_after days }
 {
-    let mut years: u64 = 0;
     let mut left = days;
-    while years < 8029 {
+    for years in 0..8029 {
         let here = year_days(1970 + years);
         if left < here {
             return day_of_year(years, left);
         }
         left -= here;
-        years += 1;
     }
-    day_of_year(years, left)
+    day_of_year(8029, left)
 }
 
 // A sign, and behind it a number in k digits.
-fn behind(out: &mut [u8], n: usize, sign: u8, k: usize, v: u64) -> usize
+fn behind(page: &mut Page, sign: u8, k: usize, v: u64)
     requires { k ≤ 20 }
-    ensures { Prints out.old n (sign ∷ filled k v) out.new result }
+    ensures { Shows page.old (sign ∷ filled k v) page.new }
 {
-    let to = printing::octet(out, n, sign);
-    printing::filled(out, to, k, v)
+    page.octet(sign);
+    page.filled(k, v);
 }
 
 // The year, the month and the day.
-fn day(out: &mut [u8], n: usize, date: Date) -> usize
+fn day(page: &mut Page, date: Date)
     requires { (date.years ≤ 8029) × (date.months ≤ 11) × (date.days ≤ 30) }
-    ensures { Prints out.old n (day_text date) out.new result }
+    ensures { Shows page.old (day_text date) page.new }
 {
-    let years = date.years;
-    let months = date.months;
-    let days = date.days;
-    let year = printing::filled(out, n, 4, 1970 + years);
-    let month = behind(out, year, b'-', 2, months + 1);
-    behind(out, month, b'-', 2, days + 1)
+    page.filled(4, 1970 + date.years);
+    behind(page, b'-', 2, date.months + 1);
+    behind(page, b'-', 2, date.days + 1);
 }
 
 // The hour, the minute and the second of a day.
-fn clock(out: &mut [u8], n: usize, seconds: u64) -> usize
-    ensures { Prints out.old n (clock_text seconds) out.new result }
+fn clock(page: &mut Page, seconds: u64)
+    ensures { Shows page.old (clock_text seconds) page.new }
 {
-    let hour = behind(out, n, b'T', 2, seconds / 3600);
-    let minute = behind(out, hour, b':', 2, seconds / 60 % 60);
-    behind(out, minute, b':', 2, seconds % 60)
+    behind(page, b'T', 2, seconds / 3600);
+    behind(page, b':', 2, seconds / 60 % 60);
+    behind(page, b':', 2, seconds % 60);
 }
 
 // A time that has a date: the day, the time of day and three decimals.
-fn moment(out: &mut [u8], n: usize, t: u64) -> usize
+fn moment(page: &mut Page, t: u64)
     requires { t ≤ 253402300799999 }
-    ensures { Prints out.old n (moment_text t) out.new result }
+    ensures { Shows page.old (moment_text t) page.new }
 {
     let seconds = t / 1000;
-    let date = date_after(seconds / 86400);
-    let to = day(out, n, date);
-    let second = clock(out, to, seconds % 86400);
-    let last = behind(out, second, b'.', 3, t % 1000);
-    printing::octet(out, last, b'Z')
+    day(page, date_after(seconds / 86400));
+    clock(page, seconds % 86400);
+    behind(page, b'.', 3, t % 1000);
+    page.octet(b'Z');
 }
 
 // A time. The bits of one before 1970 are past every date's.
-pub fn time(out: &mut [u8], n: usize, time: i64) -> usize
-    ensures { Prints out.old n (time_text time) out.new result }
+pub fn time(page: &mut Page, time: i64)
+    ensures { Shows page.old (time_text time) page.new }
 {
-    let bits = kinds::bits64(time);
+    let bits = time.cast_unsigned();
     if 253402300799999 < bits {
-        let sign = printing::octet(out, n, b'@');
-        return printing::signed(out, sign, time);
+        page.octet(b'@');
+        return page.signed(time);
     }
-    moment(out, n, bits)
+    moment(page, bits);
 }

@@ -10,8 +10,8 @@ use borrow.Author.Tests.{le-leb, lt-leb, leb-true}
 use Rattle.octets.specs.Limits.{longest, most_rows}
 use Rattle.octets.specs.Reading.{ok, no, is_ok}
 use Rattle.octets.specs.Asked.{refusal_of}
-use Rattle.octets.specs.declared.Refusal.{Refusal}
-use Rattle.octets.specs.declared.Refusal.TheVariants as refusal
+use Rattle.octets.specs.Refusals.{Refusal}
+use Rattle.std.specs.Prelude.{Result, Ok, Err}
 use Rattle.octets.specs.Writing.{Each, Octet}
 use Rattle.octets.proofs.Inverse.{after, chosen}
 use Rattle.octets.proofs.Asked.{unrefused, refused_as}
@@ -52,7 +52,7 @@ module _ (s : List ℕ) (rows : ℕ) (octets : List ℕ) (used : ℕ) where
       (leb-true (length s) longest t, leb-true rows most_rows t₁, good_book octets used o (ap is_ok e₂))
 
   -- What is known where that question is answered by none.
-  pub lent_good : Each Octet octets → refusal_of (lent_book s rows octets used) ≡ refusal.None → (length s ≤ longest) × (rows ≤ most_rows) × IsBook octets used
+  pub lent_good : Each Octet octets → refusal_of (lent_book s rows octets used) ≡ Ok tt → (length s ≤ longest) × (rows ≤ most_rows) × IsBook octets used
   lent_good o e = let (_, _, is) = unrefused (lent_book s rows octets used) e in lent_forth o is
 
   module _ (at : ℕ) where
@@ -68,12 +68,12 @@ module _ (s : List ℕ) (rows : ℕ) (octets : List ℕ) (used : ℕ) where
     step_is short is few = step_read (book_in octets used) used (lent_is short is few)
 
   -- What the guard before a step has answered, to which all of the octets were lent.
-  module _ (r : Refusal) (e : r ≡ refusal_of (lent_book s rows (take (length octets) octets) used)) where
+  module _ (r : Result (Unit {0}) Refusal) (e : r ≡ refusal_of (lent_book s rows (take (length octets) octets) used)) where
     guarded : r ≡ refusal_of (lent_book s rows octets used)
     guarded = e ∙ ap (λ (x : List ℕ). refusal_of (lent_book s rows x used)) (take-length octets)
 
-    pub guard_refused : (at n p : ℕ) → r ≡ refusal.Refused n p → step_at s at rows octets used ≡ no n p
+    pub guard_refused : (at n p : ℕ) → r ≡ Err (record { number = n; place = p }) → step_at s at rows octets used ≡ no n p
     guard_refused at n p q = step_refused at n p (refused_as (lent_book s rows octets used) n p (sym guarded ∙ q))
 
-    pub guard_good : Each Octet octets → r ≡ refusal.None → (length s ≤ longest) × (rows ≤ most_rows) × IsBook octets used
+    pub guard_good : Each Octet octets → r ≡ Ok tt → (length s ≤ longest) × (rows ≤ most_rows) × IsBook octets used
     guard_good o q = lent_good o (sym guarded ∙ q)

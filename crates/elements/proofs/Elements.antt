@@ -11,7 +11,9 @@ use Rattle.octets.specs.Writing.{word, images, Each, Octet}
 use Rattle.layouts.specs.Layout.{Layout, layout_at, layout_image, GoodLayout}
 use Rattle.layouts.specs.Book.{Book, book_image, learning, learn_by, learn}
 use Rattle.layouts.specs.declared.Learning.{Learning}
-use Rattle.layouts.specs.declared.Learning.TheVariants.{Known, New, Refused}
+use Rattle.layouts.specs.declared.Learning.TheVariants.{Known, New}
+use Rattle.octets.specs.declared.Fault.{Fault}
+use Rattle.std.specs.Prelude.{Result, Ok, Err}
 use Rattle.rows.specs.Row.{Row, row_at, row_image}
 use Rattle.elements.specs.Element.{Item, layout, row, Element, item, finish, Stepped, finish_at, element_at}
 use Rattle.elements.specs.Document.{item_image, GoodItems}
@@ -26,10 +28,10 @@ learn_anywhere : (book : Book) (l : Layout) (p q : ℕ) {b : Book} {n : ℕ} →
 unfolding learn
 learn_anywhere book l p q {b} {n} e = go (learning book (length (book_image book)) l.number (layout_image l)) e
   where
-    go : (x : Learning) → learn_by book l p x ≡ ok b n → learn_by book l q x ≡ ok b q
-    go Known r = settle (λ (y : Book) (_ : ℕ). ok book q ≡ ok y q) r refl
-    go (New v) r = settle (λ (y : Book) (_ : ℕ). ok (book ++ l ∷ []) q ≡ ok y q) r refl
-    go (Refused k) r = absurd (no_ok refl r)
+    go : (x : Result Learning Fault) → learn_by book l p x ≡ ok b n → learn_by book l q x ≡ ok b q
+    go (Ok Known) r = settle (λ (y : Book) (_ : ℕ). ok book q ≡ ok y q) r refl
+    go (Ok (New v)) r = settle (λ (y : Book) (_ : ℕ). ok (book ++ l ∷ []) q ≡ ok y q) r refl
+    go (Err f) r = absurd (no_ok refl r)
 
 -- The end's octets.
 abbrev pub end_image : ℕ → ℕ → List ℕ

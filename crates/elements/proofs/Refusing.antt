@@ -20,7 +20,10 @@ use Rattle.kinds.specs.Kinds.{basic_of, form_of, kind_for, kind_at}
 use Rattle.layouts.specs.Layout.{Attribute, Layout, attribute_at, layout_at, layout_image}
 use Rattle.layouts.specs.Book.{Book, find, book_image, as17, layouts_at, book_of, learning, learn_by, learn}
 use Rattle.layouts.specs.declared.Learning.{Learning}
-use Rattle.layouts.specs.declared.Learning.TheVariants.{Known, New, Refused}
+use Rattle.layouts.specs.declared.Learning.TheVariants.{Known, New}
+use Rattle.octets.specs.declared.Fault.{Fault}
+use Rattle.octets.specs.Faults.{number_of}
+use Rattle.std.specs.Prelude.{Result, Ok, Err}
 use Rattle.layouts.proofs.Judging.{Learned, learned}
 use Rattle.headers.specs.Header.{namespace_at, id_at, header_from, header_at}
 use Rattle.rows.specs.Row.{fields_in, filled, values_at, named, row_at}
@@ -193,11 +196,11 @@ module _ (P : ℕ → Type 0) (s : List ℕ) (end : ℕ) (long : length s ≤ en
     unfolding learn
     learn_stays ten eleven book l at b = go (learning book (length (book_image book)) l.number (layout_image l)) (learned book (length (book_image book)) l.number (layout_image l))
       where
-        go : (x : Learning) → Learned book (length (book_image book)) l.number (layout_image l) x → Stays P end (learn_by book l at x)
-        go Known w = b
-        go (New v) w = b
-        go (Refused n) (inl e) = (subst P (sym e) ten, b)
-        go (Refused n) (inr e) = (subst P (sym e) eleven, b)
+        go : (x : Result Learning Fault) → Learned book (length (book_image book)) l.number (layout_image l) x → Stays P end (learn_by book l at x)
+        go (Ok Known) w = b
+        go (Ok (New v)) w = b
+        go (Err f) (inl e) = (subst P (sym (ap number_of e)) ten, b)
+        go (Err f) (inr e) = (subst P (sym (ap number_of e)) eleven, b)
 
     -- A row.
     module _ (thirteen : P 13) (fourteen : P 14) (bad : P 24) where

@@ -22,7 +22,8 @@ use Rattle.elements.specs.Steps.{holding}
 use Rattle.elements.specs.Answers.{step_of, tells, Over}
 use Rattle.elements.specs.declared.Met.TheVariants as met
 use Rattle.elements.specs.declared.Step.{Step}
-use Rattle.elements.specs.declared.Stepping.TheVariants.{Done, Refused}
+use Rattle.octets.specs.Refusals.{Refusal}
+use Rattle.std.specs.Prelude.{Ok, Err}
 
 -- The end, from its count on.
 module _ (s : List ℕ) (at rows : ℕ) (book : Book) where
@@ -60,7 +61,7 @@ module _ (s : List ℕ) (at rows : ℕ) (book : Book) where
   row_refused n p e = rw e refl
 
   pub row_told : (stated : Bool) (count next : ℕ) → Shaped s at (row_at book s at) stated count next
-      → tells (row_element s at rows book) ≡ Done (record { met = met.Row (be 4 s at) stated count; next = next; rows = rows + 1; used = length (book_image book) })
+      → tells (row_element s at rows book) ≡ Ok (record { met = met.Row (be 4 s at) stated count; next = next; rows = rows + 1; used = length (book_image book) })
   row_told stated count next r = rw (r.is, r.number, r.stated, r.counts) refl
 
 -- A layout, from its number on.
@@ -113,7 +114,7 @@ pub record Told (r : Read Stepped) (step : Step) : Type 0 where
   pub reads : r ≡ ok stepped next
   pub is : step_of stepped next ≡ step
 
-pub told : (r : Read Stepped) (step : Step) → tells r ≡ Done step → Told r step
+pub told : (r : Read Stepped) (step : Step) → tells r ≡ Ok step → Told r step
 told (ok st next) step e = record { stepped = st; next = next; reads = refl; is = (let same : step_of st next ≡ step = cc in same) }
 told (no n p) step e = absurd (let z : ◌≡◌ {A = ℕ} 0 1 = cc in omega arith)
 
@@ -121,6 +122,8 @@ told (no n p) step e = absurd (let z : ◌≡◌ {A = ℕ} 0 1 = cc in omega ari
 pub told_used : {r : Read Stepped} {step : Step} (t : Told r step) → length (book_image t.stepped.book) ≡ step.used
 told_used t = ap (λ (x : Step). x.used) t.is
 
-pub refusing : (r : Read Stepped) (n p : ℕ) → tells r ≡ Refused n p → r ≡ no n p
-refusing (ok st next) n p e = absurd (let z : ◌≡◌ {A = ℕ} 0 1 = cc in omega arith)
-refusing (no m q) n p e = let a : m ≡ n = cc in let b : q ≡ p = cc in cc
+pub refusing : (r : Read Stepped) (e : Refusal) → tells r ≡ Err e → r ≡ no e.number e.place
+refusing (ok st next) e h = absurd (let z : ◌≡◌ {A = ℕ} 0 1 = cc in omega arith)
+refusing (no n p) e h =
+    let same : ◌≡◌ {A = Refusal} (record { number = n; place = p }) e = cc in
+    rw (← same) refl

@@ -1,6 +1,7 @@
 -- What the answers about an element say.
-use Rattle.std.specs.Prelude.{ℕ, ◌+◌, ◌≤◌, ◌<◌, ◌≡◌, List, length}
+use Rattle.std.specs.Prelude.{ℕ, ◌+◌, ◌≤◌, ◌<◌, ◌≡◌, List, length, Result, Ok, Err}
 use Rattle.octets.specs.Reading.{Read, ok, no, be}
+use Rattle.octets.specs.Refusals.{Refusal}
 use Rattle.kinds.specs.Kinds.{signed}
 use Rattle.layouts.specs.Book.{Book, book_image}
 use Rattle.layouts.specs.Answers.{Looks}
@@ -9,8 +10,6 @@ use Rattle.elements.specs.Element as element
 use Rattle.elements.specs.declared.Met.{Met}
 use Rattle.elements.specs.declared.Met.TheVariants as met
 use Rattle.elements.specs.declared.Step.{Step}
-use Rattle.elements.specs.declared.Stepping.{Stepping}
-use Rattle.elements.specs.declared.Stepping.TheVariants.{Done, Refused}
 
 -- What an element says: a layout's number and count of attributes, a row's number, whether its length is stated and its count of fields, the end's count and its time, which is signed.
 abbrev pub met_of : element.Element → Met
@@ -23,9 +22,9 @@ abbrev pub step_of : element.Stepped → ℕ → Step
 step_of st next = record { met = met_of st.element; next = next; rows = st.rows; used = length (book_image st.book) }
 
 -- The one answer to what was read.
-abbrev pub tells : Read element.Stepped → Stepping
-tells (ok st next) = Done (step_of st next)
-tells (no n p) = Refused n p
+abbrev pub tells : Read element.Stepped → Result Step Refusal
+tells (ok st next) = Ok (step_of st next)
+tells (no n p) = Err (record { number = n; place = p })
 
 -- A book that uses so many octets and whose layouts stand in s, and where the number that stands at a place of a document was looked up among them.
 pub record Over (doc : List ℕ) (at : ℕ) (s : List ℕ) (looked : Looked) (used : ℕ) (book : Book) : Type 0 where

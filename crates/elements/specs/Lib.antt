@@ -1,4 +1,5 @@
 pub mod Element
+pub mod Kinds
 pub mod Steps
 pub mod Walk
 pub mod Reading

@@ -11,11 +11,47 @@ ghost use Rattle.layouts.specs.Book.{Book, book_image, IsBook, book_in};
 ghost use Rattle.layouts.specs.Answers.{Stood};
 ghost use Rattle.elements.specs.Element.{item, layout, Stepped, layout_element, row_element, end_element, element_at};
 ghost use Rattle.elements.specs.Steps.{octets_left, lent_book, holding};
+ghost use Rattle.elements.specs.Kinds.{number_of_kind, OfNumber};
 ghost use Rattle.elements.specs.Answers.{tells, step_of, Over, Grows};
 
 use layouts::{Learning, Looked};
-use octets::{Ended, Refusal};
-use rows::Rowed;
+use octets::{Fault, Refused};
+
+// The kinds of elements; an element begins with the number of its kind.
+#[derive(Clone, Copy, PartialEq, Eq)]
+pub enum ElementKind {
+    Layout,
+    Row,
+    End,
+}
+
+impl From<ElementKind> for u32 {
+    ghost from_gives = { λ kind n. n ≡ number_of_kind kind };
+
+    fn from(kind: ElementKind) -> u32 {
+        match kind {
+            ElementKind::Layout => 1,
+            ElementKind::Row => 2,
+            ElementKind::End => 3,
+        }
+    }
+}
+
+// The kind of a number: 7 where none has it.
+impl TryFrom<u32> for ElementKind {
+    type Error = Fault;
+
+    ghost try_from_gives = { OfNumber };
+
+    fn try_from(number: u32) -> Result<ElementKind, Fault> {
+        match number {
+            1 => Ok(ElementKind::Layout),
+            2 => Ok(ElementKind::Row),
+            3 => Ok(ElementKind::End),
+            _ => Err(Fault::Kind),
+        }
+    }
+}
 
 // What an element says: a layout's number and count of attributes; a row's number, whether its length is stated, and its count of fields; the end's count and time.
 #[derive(Clone, Copy)]
@@ -34,49 +70,64 @@ pub struct Step {
     pub used: usize,
 }
 
-#[derive(Clone, Copy)]
-pub enum Stepping {
-    Done(Step),
-    Refused(u32, usize),
-}
-
 // What stands before every step and every question about an element: 2 for the document, then 17 for the book and the rows passed.
-pub fn lent_refusal<'d, 'b>(doc: &'d [u8], rows: usize, book: &'b [u8], used: usize) -> Refusal
+#[inline(always)]
+pub fn lent_refusal<'d, 'b>(
+    doc: &'d [u8],
+    rows: usize,
+    book: &'b [u8],
+    used: usize,
+) -> Result<(), Refused>
     ensures { result ≡ refusal_of (lent_book doc.now rows book.now used) }
 {
     if octets::LONGEST < doc.len() {
-        return Refusal::Refused(2, 0);
+        return Err(Refused {
+            fault: Fault::TooLong,
+            place: 0,
+        });
     }
-    if !layouts::is_book(book, used) {
-        return Refusal::Refused(17, 0);
+    if !layouts::is_book(book, used) || octets::MOST_ROWS < rows {
+        return Err(Refused {
+            fault: Fault::Lent,
+            place: 0,
+        });
     }
-    if octets::MOST_ROWS < rows {
-        return Refusal::Refused(17, 0);
-    }
-    Refusal::None
+    Ok(())
 }
 
 // The end from its count on: its count is that of the rows passed, and nothing follows it.
-fn end_step(doc: &[u8], at: usize, rows: usize, used: usize) -> Stepping
+fn end_step(doc: &[u8], at: usize, rows: usize, used: usize) -> Result<Step, Refused>
     requires { (at ≤ length doc.now) × (length doc.now ≤ longest) }
     ensures { (book : Book) → length (book_image book) ≡ used → result ≡ tells (end_element doc.now at rows book) }
 {
     if doc.len() < at + 4 {
-        return Stepping::Refused(1, at);
+        return Err(Refused {
+            fault: Fault::CutShort,
+            place: at,
+        });
     }
     let count = octets::u32_at(doc, at);
     if count as usize != rows {
-        return Stepping::Refused(15, at);
+        return Err(Refused {
+            fault: Fault::EndCount,
+            place: at,
+        });
     }
     if doc.len() < at + 4 + 8 {
-        return Stepping::Refused(1, at + 4);
+        return Err(Refused {
+            fault: Fault::CutShort,
+            place: at + 4,
+        });
     }
-    let time = kinds::signed64(octets::u64_at(doc, at + 4));
+    let time = octets::u64_at(doc, at + 4).cast_signed();
     let next = at + 4 + 8;
     if next != doc.len() {
-        return Stepping::Refused(16, next);
+        return Err(Refused {
+            fault: Fault::AfterEnd,
+            place: next,
+        });
     }
-    Stepping::Done(Step {
+    Ok(Step {
         met: Met::End(count, time),
         next,
         rows,
@@ -92,28 +143,29 @@ fn row_step<'d, 's>(
     s: &'s [u8],
     looked: Looked,
     used: usize,
-) -> Stepping
+) -> Result<Step, Refused>
     requires { (at ≤ length doc.now) × (length doc.now ≤ longest) × (rows ≤ most_rows) × (length s.now ≤ longest) × Stood s.now looked }
     ensures { (b : Book) → Over doc.now at s.now looked used b → result ≡ tells (row_element doc.now at rows b) }
 {
     if doc.len() < at + 4 {
-        return Stepping::Refused(1, at);
+        return Err(Refused {
+            fault: Fault::CutShort,
+            place: at,
+        });
     }
-    match looked {
-        Looked::Missing(k) => Stepping::Refused(12, at),
-        Looked::There(place) => {
-            let row = rows::row_end(doc, at, s, place);
-            match row {
-                Rowed::Refused(n, p) => Stepping::Refused(n, p),
-                Rowed::Row(stated, count, next) => Stepping::Done(Step {
-                    met: Met::Row(octets::u32_at(doc, at), stated, count),
-                    next,
-                    rows: rows + 1,
-                    used,
-                }),
-            }
-        }
-    }
+    let Looked::There(place) = looked else {
+        return Err(Refused {
+            fault: Fault::NoLayout,
+            place: at,
+        });
+    };
+    let row = rows::row_end(doc, at, s, place)?;
+    Ok(Step {
+        met: Met::Row(octets::u32_at(doc, at), row.stated, row.count),
+        next: row.next,
+        rows: rows + 1,
+        used,
+    })
 }
 
 // What a layout that was read says.
@@ -140,21 +192,15 @@ fn layout_step<'d, 's>(
     s: &'s [u8],
     looked: Looked,
     used: usize,
-) -> Stepping
+) -> Result<Step, Refused>
     requires { (at ≤ length doc.now) × (length doc.now ≤ longest) × (length s.now ≤ longest) × (used ≤ book_room) × Stood s.now looked }
     ensures { (b : Book) → Over doc.now at s.now looked used b → result ≡ tells (layout_element doc.now at rows b) }
 {
-    let end = layouts::layout_end(doc, at);
-    match end {
-        Ended::Refused(n, p) => Stepping::Refused(n, p),
-        Ended::End(next) => {
-            let judged = layouts::judge_by(doc, at, next, s, looked, used);
-            match judged {
-                Learning::Refused(n) => Stepping::Refused(n, at),
-                Learning::Known => Stepping::Done(layout_told(doc, at, next, rows, used)),
-                Learning::New(more) => Stepping::Done(layout_told(doc, at, next, rows, more)),
-            }
-        }
+    let next = layouts::layout_end(doc, at)?;
+    match layouts::judge_by(doc, at, next, s, looked, used) {
+        Err(fault) => Err(Refused { fault, place: at }),
+        Ok(Learning::Known) => Ok(layout_told(doc, at, next, rows, used)),
+        Ok(Learning::New(more)) => Ok(layout_told(doc, at, next, rows, more)),
     }
 }
 
@@ -166,24 +212,22 @@ pub fn element_over<'d, 's>(
     s: &'s [u8],
     looked: Looked,
     used: usize,
-) -> Stepping
+) -> Result<Step, Refused>
     requires { (at ≤ length doc.now) × (length doc.now ≤ longest) × (rows ≤ most_rows) × (length s.now ≤ longest) × (used ≤ book_room) × Stood s.now looked }
     ensures { (b : Book) → Over doc.now (at + 4) s.now looked used b → result ≡ tells (element_at doc.now at rows b) }
 {
     if doc.len() < at + 4 {
-        return Stepping::Refused(1, at);
+        return Err(Refused {
+            fault: Fault::CutShort,
+            place: at,
+        });
     }
-    let kind = octets::u32_at(doc, at);
-    if kind == 1 {
-        return layout_step(doc, at + 4, rows, s, looked, used);
+    match ElementKind::try_from(octets::u32_at(doc, at)) {
+        Ok(ElementKind::Layout) => layout_step(doc, at + 4, rows, s, looked, used),
+        Ok(ElementKind::Row) => row_step(doc, at + 4, rows, s, looked, used),
+        Ok(ElementKind::End) => end_step(doc, at + 4, rows, used),
+        Err(fault) => Err(Refused { fault, place: at }),
     }
-    if kind == 2 {
-        return row_step(doc, at + 4, rows, s, looked, used);
-    }
-    if kind == 3 {
-        return end_step(doc, at + 4, rows, used);
-    }
-    Stepping::Refused(7, at)
 }
 
 // The number behind the kind at a place; 0 where the document ends before it.
@@ -213,22 +257,20 @@ pub fn element<'d, 'b>(
     rows: usize,
     book: &'b mut [u8],
     used: usize,
-) -> Stepping
+) -> Result<Step, Refused>
     requires { (length doc.now ≤ longest) × (rows ≤ most_rows) × IsBook book.old used }
     ensures { (result ≡ tells (element_at doc.now at rows (book_in book.old used))) × (book.new ≡ octets_left book.old (element_at doc.now at rows (book_in book.old used))) }
 {
     if doc.len() < at {
-        return Stepping::Refused(1, at);
+        return Err(Refused {
+            fault: Fault::CutShort,
+            place: at,
+        });
     }
     let looked = layouts::look_in(&book[..used], number_behind(doc, at));
-    let one = element_over(doc, at, rows, &book[..used], looked, used);
-    match one {
-        Stepping::Refused(n, p) => Stepping::Refused(n, p),
-        Stepping::Done(step) => {
-            if used < step.used {
-                grow(doc, at, step.next, book, used);
-            }
-            Stepping::Done(step)
-        }
+    let step = element_over(doc, at, rows, &book[..used], looked, used)?;
+    if used < step.used {
+        grow(doc, at, step.next, book, used);
     }
+    Ok(step)
 }

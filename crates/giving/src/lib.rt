@@ -9,19 +9,29 @@ ghost use Rattle.texts.specs.Texts.{led_image};
 ghost use Rattle.texts.specs.declared.Rule.TheVariants.{Characters};
 ghost use Rattle.kinds.specs.Kinds.{form_by};
 ghost use Rattle.kinds.specs.Forms.{Value, value_image};
-ghost use Rattle.writing_parts.specs.Faults.{fine};
-ghost use Rattle.writer.specs.Writer.{room, asks, order_of, same_turn, single, listed, is_open, bounded, put, puts, attributes, turn_at, counts, lists, suits, breach, value_breach, value};
+ghost use Rattle.writing_parts.specs.Faults.{faulted, fine};
+ghost use Rattle.writer.specs.Writer.{room, asks, same_turn, single, listed, is_open, bounded, put, puts, attributes, turn_at, counts, lists, suits, breach, value_breach, value};
 ghost use Rattle.writer.specs.Answers.{left, early, deed_leaves, rest_leaves, call_leaves};
 
 use kinds::Basic;
+use octets::{Fault, Refused};
 use texts::Rule;
-use writer::{Answer, Asks, State, Wanted};
-use writing_parts::{Completed, Fault, Put};
+use writer::{Asks, Standing, State, Wanted};
 
 // The first octets of an open layout, its kind and number; of an open row its length too.
 const LAYOUT_HEAD: usize = 8;
 
 const ROW_HEAD: usize = 12;
+
+// What a call is, but for its octets: its turn, the fault that is known of it, and the turn, the count and the start of the open element behind it.
+#[derive(Clone, Copy)]
+pub struct Deed {
+    pub turn: Wanted,
+    pub fault: Result<(), Fault>,
+    pub next: Wanted,
+    pub count: u32,
+    pub start: usize,
+}
 
 // A turn that is no list's, and one of a list of at most so many.
 fn single(head: usize) -> Asks
@@ -49,250 +59,155 @@ fn asks_of(t: Wanted) -> Asks
     ensures { (result.least ≡ (asks t).least) × (result.most ≡ (asks t).most) × (result.head ≡ (asks t).head) }
 {
     match t {
-        Wanted::Recorder => single(0),
-        Wanted::StartTime => single(0),
-        Wanted::DefaultNamespace => single(0),
-        Wanted::NamespaceCount => single(0),
-        Wanted::Uri => listed(octets::MOST_LISTED, 0),
-        Wanted::ShortName => listed(octets::MOST_LISTED, 0),
-        Wanted::ServiceCount => single(0),
-        Wanted::Service => listed(octets::MOST_LISTED, 0),
-        Wanted::DocumentId => single(0),
-        Wanted::Element => single(0),
-        Wanted::TypeName => single(LAYOUT_HEAD),
-        Wanted::AttributeCount => single(LAYOUT_HEAD),
-        Wanted::AttributeName => listed(octets::MOST_ATTRIBUTES, LAYOUT_HEAD),
-        Wanted::AttributeType => listed(octets::MOST_ATTRIBUTES, LAYOUT_HEAD),
+        Wanted::Uri | Wanted::ShortName | Wanted::Service => listed(octets::MOST_LISTED, 0),
+        Wanted::TypeName | Wanted::AttributeCount => single(LAYOUT_HEAD),
+        Wanted::AttributeName | Wanted::AttributeType => {
+            listed(octets::MOST_ATTRIBUTES, LAYOUT_HEAD)
+        }
         Wanted::Value => single(ROW_HEAD),
-        Wanted::Nothing => single(0),
+        _ => single(0),
     }
-}
-
-// A turn's place in the order of a document.
-fn order_of(t: Wanted) -> u32
-    ensures { result ≡ order_of t }
-{
-    match t {
-        Wanted::Recorder => 0,
-        Wanted::StartTime => 1,
-        Wanted::DefaultNamespace => 2,
-        Wanted::NamespaceCount => 3,
-        Wanted::Uri => 4,
-        Wanted::ShortName => 5,
-        Wanted::ServiceCount => 6,
-        Wanted::Service => 7,
-        Wanted::DocumentId => 8,
-        Wanted::Element => 9,
-        Wanted::TypeName => 10,
-        Wanted::AttributeCount => 11,
-        Wanted::AttributeName => 12,
-        Wanted::AttributeType => 13,
-        Wanted::Value => 14,
-        Wanted::Nothing => 15,
-    }
-}
-
-// Whether two turns are the same.
-fn same_turn(t: Wanted, u: Wanted) -> bool
-    ensures { result ≡ same_turn t u }
-{
-    order_of(t) == order_of(u)
 }
 
 // Whether a state is inside its bounds, over a buffer of so many octets.
 fn in_bounds(s: State, len: usize) -> bool
     ensures { result ≡ bounded s len }
 {
-    let turn = s.turn;
-    let place = s.place;
-    let count = s.count;
-    let start = s.start;
-    let rows = s.rows;
-    let asks = asks_of(turn);
-    let least = asks.least;
-    let most = asks.most;
-    let head = asks.head;
+    let asks = asks_of(s.turn);
     let room = writing_parts::room_of(len);
-    if room < place {
+    if room < s.place
+        || s.count < asks.least
+        || asks.most < s.count
+        || octets::MOST_ROWS < s.rows as usize
+    {
         return false;
     }
-    if count < least {
-        return false;
-    }
-    if most < count {
-        return false;
-    }
-    if octets::MOST_ROWS < rows as usize {
-        return false;
-    }
-    if head == 0 {
-        return true;
-    }
-    if place < head {
-        return false;
-    }
-    start <= place - head
+    asks.head == 0 || asks.head <= s.place && s.start <= s.place - asks.head
 }
 
 // 17 for the book, then 20 for a state out of its bounds or a call out of turn.
-pub fn ready(s: State, len: usize, book: &[u8], used: usize, mine: bool) -> Fault
-    ensures { result ≡ early s len book.now used mine }
+pub fn ready(from: Standing, len: usize, book: &[u8], mine: bool) -> Result<(), Fault>
+    ensures { faulted result ≡ early from.state len book.now from.used mine }
 {
-    if !layouts::is_book(book, used) {
-        return Fault::Refused(17);
+    if !layouts::is_book(book, from.used) {
+        return Err(Fault::Lent);
     }
-    if !in_bounds(s, len) {
-        return Fault::Refused(20);
-    }
-    if mine {
-        Fault::None
+    if in_bounds(from.state, len) && mine {
+        Ok(())
     } else {
-        Fault::Refused(20)
+        Err(Fault::OutOfTurn)
     }
 }
 
 // The same for a call that has one turn.
-pub fn in_turn(s: State, len: usize, book: &[u8], used: usize, turn: Wanted) -> Fault
-    ensures { result ≡ early s len book.now used (same_turn s.turn turn) }
+pub fn in_turn(from: Standing, len: usize, book: &[u8], turn: Wanted) -> Result<(), Fault>
+    ensures { faulted result ≡ early from.state len book.now from.used (same_turn from.state.turn turn) }
 {
-    let wanted = s.turn;
-    let mine = same_turn(wanted, turn);
-    ready(s, len, book, used, mine)
+    ready(from, len, book, from.state.turn == turn)
 }
 
-// Octets that complete no layout: the fault that is known before, then 23, else the octets behind those written. What follows is a turn, a count, and where the open element starts.
+// Octets that complete no layout: the fault that is known before, then 23, else the octets behind those written. What follows is the deed's.
 pub fn give_on(
-    s: State,
+    from: Standing,
     buf: &mut [u8],
-    used: usize,
-    fault: Fault,
+    deed: Deed,
     head: &[u8],
     body: &[u8],
     tail: &[u8],
-    next: Wanted,
-    count: u32,
-    start: usize,
-) -> Answer
-    requires { fault ≡ fine → s.place ≤ room (length buf.old) }
-    ensures { (turn : Wanted) (lent : List ℕ) → left result buf.new lent ≡ rest_leaves s buf.old lent used (put s turn fault (head.now ++ (body.now ++ tail.now)) next count start) }
+) -> Result<Standing, Refused>
+    requires { faulted deed.fault ≡ fine → from.state.place ≤ room (length buf.old) }
+    ensures { (turn : Wanted) (lent : List ℕ) → left result buf.new lent ≡ rest_leaves from.state buf.old lent from.used (put from.state turn (faulted deed.fault) (head.now ++ (body.now ++ tail.now)) deed.next deed.count deed.start) }
 {
-    let place = s.place;
-    let rows = s.rows;
-    if let Fault::Refused(n) = fault {
-        return Answer::Refused(n, place);
-    }
-    let to = writing_parts::put_runs(buf, place, head, body, tail);
-    match to {
-        Put::To(end) => Answer::Done(
-            State {
-                place: end,
-                turn: next,
-                count,
-                start,
-                rows,
-            },
-            used,
-        ),
-        Put::Full => Answer::Refused(23, place),
-    }
+    let place = from.state.place;
+    deed.fault.map_err(|fault| Refused { fault, place })?;
+    let Some(end) = writing_parts::put_runs(buf, place, head, body, tail) else {
+        return Err(Refused {
+            fault: Fault::NoRoom,
+            place,
+        });
+    };
+    Ok(Standing {
+        state: State {
+            place: end,
+            turn: deed.next,
+            count: deed.count,
+            start: deed.start,
+            rows: from.state.rows,
+        },
+        used: from.used,
+    })
 }
 
 // Octets in a turn that complete no layout, and what follows them.
 pub fn give(
-    s: State,
+    from: Standing,
     buf: &mut [u8],
     book: &[u8],
-    used: usize,
-    turn: Wanted,
-    fault: Fault,
+    deed: Deed,
     head: &[u8],
     body: &[u8],
     tail: &[u8],
-    next: Wanted,
-    count: u32,
-    start: usize,
-) -> Answer
-    ensures { left result buf.new book.now ≡ deed_leaves s buf.old book.now used (put s turn fault (head.now ++ (body.now ++ tail.now)) next count start) }
+) -> Result<Standing, Refused>
+    ensures { left result buf.new book.now ≡ deed_leaves from.state buf.old book.now from.used (put from.state deed.turn (faulted deed.fault) (head.now ++ (body.now ++ tail.now)) deed.next deed.count deed.start) }
 {
-    let first = in_turn(s, buf.len(), book, used, turn);
-    let all = writing_parts::first_fault(first, fault);
-    give_on(s, buf, used, all, head, body, tail, next, count, start)
+    let fault = in_turn(from, buf.len(), book, deed.turn).and(deed.fault);
+    give_on(from, buf, Deed { fault, ..deed }, head, body, tail)
 }
 
 // A string, with 24 for one that is not UTF-8.
 pub fn give_text(
-    s: State,
+    from: Standing,
     buf: &mut [u8],
     book: &[u8],
-    used: usize,
     turn: Wanted,
     xs: &[u8],
     next: Wanted,
     count: u32,
-) -> Answer
-    ensures { left result buf.new book.now ≡ deed_leaves s buf.old book.now used (puts s turn (breach Characters xs.now) (led_image xs.now) next count) }
+) -> Result<Standing, Refused>
+    ensures { left result buf.new book.now ≡ deed_leaves from.state buf.old book.now from.used (puts from.state turn (breach Characters xs.now) (led_image xs.now) next count) }
 {
-    let fault = writer::breach(Rule::Characters, xs);
-    let head = writing_parts::word4(xs.len() as u64);
-    give(
-        s, buf, book, used, turn, fault, &head, xs, b"", next, count, s.start,
-    )
-}
-
-// A number of w octets, with its own fault.
-pub fn give_number(
-    s: State,
-    buf: &mut [u8],
-    book: &[u8],
-    used: usize,
-    turn: Wanted,
-    fault: Fault,
-    w: usize,
-    n: u64,
-    next: Wanted,
-    count: u32,
-) -> Answer
-    requires { w ≤ 8 }
-    ensures { left result buf.new book.now ≡ deed_leaves s buf.old book.now used (puts s turn fault (word w n) next count) }
-{
-    let head = writing_parts::word8(n);
-    let from = 8 - w;
-    give(
-        s,
-        buf,
-        book,
-        used,
+    let deed = Deed {
         turn,
-        fault,
-        &head[from..],
-        b"",
-        b"",
+        fault: writer::breach(Rule::Characters, xs),
         next,
         count,
-        s.start,
-    )
+        start: from.state.start,
+    };
+    let head = writing_parts::word4(xs.len() as u64);
+    give(from, buf, book, deed, &head, xs, b"")
 }
 
-// Two numbers of four octets and octets behind them, from which an element may start, with their own fault.
-pub fn give_pair(
-    s: State,
+// A number of w octets.
+pub fn give_number(
+    from: Standing,
     buf: &mut [u8],
     book: &[u8],
-    used: usize,
-    turn: Wanted,
-    fault: Fault,
+    deed: Deed,
+    w: usize,
+    n: u64,
+) -> Result<Standing, Refused>
+    requires { w ≤ 8 }
+    ensures { left result buf.new book.now ≡ deed_leaves from.state buf.old book.now from.used (put from.state deed.turn (faulted deed.fault) (word w n) deed.next deed.count deed.start) }
+{
+    let head = writing_parts::word8(n);
+    let first = 8 - w;
+    give(from, buf, book, deed, &head[first..], b"", b"")
+}
+
+// Two numbers of four octets and octets behind them.
+pub fn give_pair(
+    from: Standing,
+    buf: &mut [u8],
+    book: &[u8],
+    deed: Deed,
     a: u64,
     b: u64,
     xs: &[u8],
-    next: Wanted,
-    start: usize,
-) -> Answer
-    ensures { left result buf.new book.now ≡ deed_leaves s buf.old book.now used (put s turn fault (word 4 a ++ word 4 b ++ xs.now) next 0 start) }
+) -> Result<Standing, Refused>
+    ensures { left result buf.new book.now ≡ deed_leaves from.state buf.old book.now from.used (put from.state deed.turn (faulted deed.fault) (word 4 a ++ word 4 b ++ xs.now) deed.next deed.count deed.start) }
 {
     let head = writing_parts::pair(a, b);
-    give(
-        s, buf, book, used, turn, fault, &head, xs, b"", next, 0, start,
-    )
+    give(from, buf, book, deed, &head, xs, b"")
 }
 
 // The turn of a list with something still to come, else the turn behind it.
@@ -302,161 +217,135 @@ fn turn_at(n: u32, more: Wanted, behind: Wanted) -> Wanted
     if n == 0 { behind } else { more }
 }
 
-// One less; of a state out of its bounds the count may be 0.
-pub fn less_one(n: u32) -> u32
-    ensures { result ≡ n - 1 }
-{
-    if n == 0 { 0 } else { n - 1 }
-}
-
 // The count of a list of the header, with the turn of its items and the turn behind them.
 pub fn give_count(
-    s: State,
+    from: Standing,
     buf: &mut [u8],
     book: &[u8],
-    used: usize,
     turn: Wanted,
     n: u32,
     more: Wanted,
     behind: Wanted,
-) -> Answer
-    ensures { left result buf.new book.now ≡ deed_leaves s buf.old book.now used (counts s turn n more behind) }
+) -> Result<Standing, Refused>
+    ensures { left result buf.new book.now ≡ deed_leaves from.state buf.old book.now from.used (counts from.state turn n more behind) }
 {
-    let fault = writer::at_most(n, octets::MOST_LISTED);
-    let next = turn_at(n, more, behind);
-    give_number(s, buf, book, used, turn, fault, 4, n as u64, next, n)
+    let deed = Deed {
+        turn,
+        fault: writer::at_most(n, octets::MOST_LISTED),
+        next: turn_at(n, more, behind),
+        count: n,
+        start: from.state.start,
+    };
+    give_number(from, buf, book, deed, 4, u64::from(n))
 }
 
 // The last string of an item of a list of the header: one less is to come.
 pub fn give_item(
-    s: State,
+    from: Standing,
     buf: &mut [u8],
     book: &[u8],
-    used: usize,
     turn: Wanted,
     xs: &[u8],
     more: Wanted,
     behind: Wanted,
-) -> Answer
-    ensures { left result buf.new book.now ≡ deed_leaves s buf.old book.now used (lists s turn xs.now more behind) }
+) -> Result<Standing, Refused>
+    ensures { left result buf.new book.now ≡ deed_leaves from.state buf.old book.now from.used (lists from.state turn xs.now more behind) }
 {
-    let count = less_one(s.count);
+    let count = from.state.count.saturating_sub(1);
     let next = turn_at(count, more, behind);
-    give_text(s, buf, book, used, turn, xs, next, count)
+    give_text(from, buf, book, turn, xs, next, count)
 }
 
 // Octets in a turn that complete a layout.
 fn complete(
-    s: State,
+    from: Standing,
     buf: &mut [u8],
     book: &mut [u8],
-    used: usize,
     turn: Wanted,
-    fault: Fault,
+    fault: Result<(), Fault>,
     last: &[u8],
-) -> Answer
+) -> Result<Standing, Refused>
     requires { 8 ≤ (asks turn).head }
-    ensures { left result buf.new book.new ≡ deed_leaves s buf.old book.old used (attributes s turn fault last.now 0) }
+    ensures { left result buf.new book.new ≡ deed_leaves from.state buf.old book.old from.used (attributes from.state turn (faulted fault) last.now 0) }
 {
-    let place = s.place;
-    let start = s.start;
-    let rows = s.rows;
-    let first = in_turn(s, buf.len(), book, used, turn);
-    let all = writing_parts::first_fault(first, fault);
-    if let Fault::Refused(n) = all {
-        return Answer::Refused(n, place);
-    }
-    let completed = writing_parts::complete(buf, book, used, start + 4, place, last);
-    match completed {
-        Completed::Done(end, total) => Answer::Done(
-            State {
-                place: end,
-                turn: Wanted::Element,
-                count: 0,
-                start: 0,
-                rows,
-            },
-            total,
-        ),
-        Completed::Full => Answer::Refused(23, place),
-        Completed::Refused(n) => Answer::Refused(n, place),
-    }
+    let place = from.state.place;
+    in_turn(from, buf.len(), book, turn)
+        .and(fault)
+        .map_err(|fault| Refused { fault, place })?;
+    let start = from.state.start;
+    let (end, used) = writing_parts::complete(buf, book, from.used, start + 4, place, last).map_err(
+        |fault| Refused { fault, place },
+    )?;
+    Ok(Standing {
+        state: State {
+            place: end,
+            turn: Wanted::Element,
+            count: 0,
+            start: 0,
+            rows: from.state.rows,
+        },
+        used,
+    })
 }
 
 // A number of a layout, behind which so many attributes are still to come.
 pub fn give_attribute(
-    s: State,
+    from: Standing,
     buf: &mut [u8],
     book: &mut [u8],
-    used: usize,
     turn: Wanted,
-    fault: Fault,
+    fault: Result<(), Fault>,
     n: u32,
     more: u32,
-) -> Answer
+) -> Result<Standing, Refused>
     requires { 8 ≤ (asks turn).head }
-    ensures { left result buf.new book.new ≡ deed_leaves s buf.old book.old used (attributes s turn fault (word 4 n) more) }
+    ensures { left result buf.new book.new ≡ deed_leaves from.state buf.old book.old from.used (attributes from.state turn (faulted fault) (word 4 n) more) }
 {
     if more == 0 {
-        let last = writing_parts::word4(n as u64);
-        return complete(s, buf, book, used, turn, fault, &last);
+        let last = writing_parts::word4(u64::from(n));
+        return complete(from, buf, book, turn, fault, &last);
     }
-    give_number(
-        s,
-        buf,
-        book,
-        used,
+    let deed = Deed {
         turn,
         fault,
-        4,
-        n as u64,
-        Wanted::AttributeName,
-        more,
-    )
+        next: Wanted::AttributeName,
+        count: more,
+        start: from.state.start,
+    };
+    give_number(from, buf, book, deed, 4, u64::from(n))
 }
 
 // A value of a basic type, of which it is known whether it has an image there, and which, and whether it breaks its rule.
 pub fn give_value(
-    s: State,
+    from: Standing,
     buf: &mut [u8],
     book: &[u8],
-    used: usize,
     b: Basic,
     fits: bool,
-    breach: Fault,
+    breach: Result<(), Fault>,
     head: &[u8],
     body: &[u8],
-) -> Answer
-    ensures { (v : Value) → fits ≡ suits (form_by b) v → breach ≡ value_breach (form_by b) v → (fits ≡ true → head.now ++ body.now ≡ value_image (form_by b) v) → left result buf.new book.now ≡ call_leaves s buf.old book.now used (value b v) }
+) -> Result<Standing, Refused>
+    ensures { (v : Value) → fits ≡ suits (form_by b) v → faulted breach ≡ value_breach (form_by b) v → (fits ≡ true → head.now ++ body.now ≡ value_image (form_by b) v) → left result buf.new book.now ≡ call_leaves from.state buf.old book.now from.used (value b v) }
 {
-    let place = s.place;
-    let start = s.start;
-    let count = s.count;
-    let first = in_turn(s, buf.len(), book, used, Wanted::Value);
-    if let Fault::Refused(n) = first {
-        return Answer::Refused(n, place);
-    }
-    let next = writing_parts::row_next(buf, start, book, used, count);
-    let own = writer::value_fault(next, b, fits);
-    let fault = writing_parts::first_fault(own, breach);
-    give_on(
-        s,
-        buf,
-        used,
-        fault,
-        head,
-        body,
-        b"",
-        Wanted::Value,
-        count + 1,
+    let place = from.state.place;
+    let start = from.state.start;
+    let count = from.state.count;
+    in_turn(from, buf.len(), book, Wanted::Value).map_err(|fault| Refused { fault, place })?;
+    let next = writing_parts::row_next(buf, start, book, from.used, count);
+    let deed = Deed {
+        turn: Wanted::Value,
+        fault: writer::value_fault(next, b, fits).and(breach),
+        next: Wanted::Value,
+        count: count + 1,
         start,
-    )
+    };
+    give_on(from, buf, deed, head, body, b"")
 }
 
 // Whether a layout or a row is open.
 pub fn is_open(t: Wanted) -> bool
     ensures { result ≡ is_open t }
 {
-    let asks = asks_of(t);
-    0 < asks.head
+    0 < asks_of(t).head
 }

@@ -12,8 +12,8 @@ use Rattle.octets.specs.Reading.{Read, ok, no, ◌then◌, choose, ends, is_ok, 
 use Rattle.octets.specs.Writing.{images, Each, Octet}
 use Rattle.octets.specs.Answers.{says}
 use Rattle.octets.specs.Asked.{nth, part_of, StandsAt, found_at}
-use Rattle.octets.specs.declared.Ended.{Ended}
-use Rattle.octets.specs.declared.Ended.TheVariants.{End, Refused}
+use Rattle.octets.specs.declared.Refused.{Refused}
+use Rattle.std.specs.Prelude.{Result, Ok, Err}
 use Rattle.octets.proofs.Inverse.{several, chosen, after}
 use Rattle.octets.proofs.Ends.{exactly_place, run_ends}
 use Rattle.octets.proofs.Runs.{Item, run_item}
@@ -22,25 +22,25 @@ use Rattle.texts.specs.Texts.{text, led_image}
 use Rattle.texts.proofs.Fields.{text_whole}
 use Rattle.texts.proofs.Ends.{text_stands}
 use Rattle.headers.specs.Header.{Namespace, Header, namespace_at, id_at, header_at, namespace_image}
-use Rattle.headers.specs.Answers.{item_end, Located, Accepted}
+use Rattle.headers.specs.Answers.{Located, Accepted}
 use Rattle.headers.specs.declared.Places.{Places}
 use Rattle.headers.proofs.Headers.{namespace_inverse}
 use Rattle.header_questions.specs.Questions.{namespaces_place, services_place, namespace_asked, service_asked}
-use Rattle.header_questions.specs.Places.{listed_at, ItemStands, IsText}
+use Rattle.header_questions.specs.Places.{listed_at, IsText}
 
 -- Item n of a list, where the items before it end.
 module _ {A : Type 0} (s : List ℕ) (short : length s ≤ longest) (one : ℕ → Read A) (items : List A) (at end : ℕ)
     (counts : number 4 s at ≡ ok (length items) (at + 4)) (reads : run one (length items) (at + 4) ≡ ok items end)
     (n next : ℕ) (read : Read A) (is : read ≡ nth n at items next) where
-  missing : length items ≤ n → (r : Ended) → says r ≡ no 18 at → StandsAt s one read r
-  missing h (End p) e = absurd (let z : ◌≡◌ {A = ℕ} 0 1 = cc in omega arith)
-  missing h (Refused m q) e =
-      let a : m ≡ 18 = cc in
-      let b : q ≡ at = cc in
+  missing : length items ≤ n → (r : Result ℕ Refused) → says r ≡ no 18 at → StandsAt s one read r
+  missing h (Ok p) e = absurd (let z : ◌≡◌ {A = ℕ} 0 1 = cc in omega arith)
+  missing h (Err r) e =
+      let a : r.number ≡ 18 = cc in
+      let b : r.place ≡ at = cc in
       rw (a, b) (is ∙ nth_none n at items next h)
 
-  there : Item one (at + 4) items n → (r : Ended) → says r ≡ ends (run (λ p. ends (one p)) n (at + 4)) → StandsAt s one read r
-  there i (End p) e =
+  there : Item one (at + 4) items n → (r : Result ℕ Refused) → says r ≡ ends (run (λ p. ends (one p)) n (at + 4)) → StandsAt s one read r
+  there i (Ok p) e =
       let stop : ◌≡◌ {A = Read ℕ} (ok p p) (ok i.place i.place) = e ∙ (sym (run_ends one n (at + 4)) ∙ i.before) in
       let place : i.place ≡ p = cc in
       record {
@@ -51,11 +51,11 @@ module _ {A : Type 0} (s : List ℕ) (short : length s ≤ longest) (one : ℕ �
         reads = subst (λ (q : ℕ). one q ≡ ok i.item i.next) place i.reads;
         short = short;
       }
-  there i (Refused m q) e =
-      let stop : ◌≡◌ {A = Read ℕ} (no m q) (ok i.place i.place) = e ∙ (sym (run_ends one n (at + 4)) ∙ i.before) in
+  there i (Err r) e =
+      let stop : ◌≡◌ {A = Read ℕ} (no r.number r.place) (ok i.place i.place) = e ∙ (sym (run_ends one n (at + 4)) ∙ i.before) in
       absurd (let z : ◌≡◌ {A = ℕ} 0 1 = cc in omega arith)
 
-  pub listed_stands : (r : Ended) → says r ≡ listed_at (λ p. ends (one p)) s at n → StandsAt s one read r
+  pub listed_stands : (r : Result ℕ Refused) → says r ≡ listed_at (λ p. ends (one p)) s at n → StandsAt s one read r
   unfolding listed_at
   listed_stands r e = go (leb (be 4 s at) n) refl e
     where
@@ -96,25 +96,30 @@ module _ (s : List ℕ) (p : Places) (h : Accepted s (header_at s) p) where
   services_count = ((number_is s 4 p.services _ _ h.located.counted).0, h.short)
 
 -- What is asked of an accepted header's lists stands where the code looks.
-module _ (s : List ℕ) (o : Each Octet s) (p : Places) (h : Accepted s (header_at s) p) (n : ℕ) (r : Ended) where
-  pub namespace_stands : says r ≡ listed_at (item_end false s) s p.namespaces n → StandsAt s (namespace_at s) (namespace_asked s n) r
+module _ (s : List ℕ) (o : Each Octet s) (p : Places) (h : Accepted s (header_at s) p) (n : ℕ) (r : Result ℕ Refused) where
+  pub namespace_stands : says r ≡ listed_at (λ q. ends (namespace_at s q)) s p.namespaces n → StandsAt s (namespace_at s) (namespace_asked s n) r
   unfolding namespace_asked
   namespace_stands e =
       let l = h.located in
       listed_stands s h.short (namespace_at s) h.header.others p.namespaces p.services l.namespaces l.others n p.end _
       (rw h.reads (ap (λ (q : ℕ). nth n q h.header.others p.end) (sym (namespaces_place_lem s o h.header p l)))) r e
 
-  pub service_stands : says r ≡ listed_at (item_end true s) s p.services n → StandsAt s (text s) (service_asked s n) r
+  pub service_stands : says r ≡ listed_at (λ q. ends (text s q)) s p.services n → StandsAt s (text s) (service_asked s n) r
   unfolding service_asked
   service_stands e =
       let l = h.located in
       listed_stands s h.short (text s) h.header.services p.services p.id l.counted l.services n p.end _
       (rw h.reads (ap (λ (q : ℕ). nth n q h.header.services p.end) (sym (services_place_lem s o h.header p l)))) r e
 
-pub item_refused : (s : List ℕ) (n m q : ℕ) → header_at s ≡ no m q → (service : Bool) → ItemStands service s n (Refused m q)
-unfolding namespace_asked service_asked
-item_refused s n m q e true = rw e refl
-item_refused s n m q e false = rw e refl
+-- Where the header is refused, so is what is asked of it.
+module _ (s : List ℕ) (n : ℕ) (r : Refused) (no_header : header_at s ≡ no r.number r.place) where
+  pub namespace_refused : StandsAt s (namespace_at s) (namespace_asked s n) (Err r)
+  unfolding namespace_asked
+  namespace_refused = rw no_header refl
+
+  pub service_refused : StandsAt s (text s) (service_asked s n) (Err r)
+  unfolding service_asked
+  service_refused = rw no_header refl
 
 -- A namespace is its two strings, one behind the other.
 pub namespace_parts : (s : List ℕ) (at : ℕ) (x : Namespace) (next : ℕ) → namespace_at s at ≡ ok x next
@@ -146,13 +151,13 @@ id_there s at id e =
 
 -- Where a namespace was found its URI stands, and where a service definition was, that string.
 module _ {A : Type 0} (s : List ℕ) (one : ℕ → Read A) (f : A → List ℕ) (string : (p : ℕ) (a : A) (last : ℕ) → one p ≡ ok a last → (end : ℕ) × (text s p ≡ ok (f a) end)) (read : Read A) where
-  pub is_text : (r : Ended) → StandsAt s one read r → IsText s r
-  is_text (End p) i = let (end, e) = string p i.item i.last i.reads in (i.short, ap is_ok e)
-  is_text (Refused m q) i = tt
+  pub is_text : (r : Result ℕ Refused) → StandsAt s one read r → IsText s r
+  is_text (Ok p) i = let (end, e) = string p i.item i.last i.reads in (i.short, ap is_ok e)
+  is_text (Err q) i = tt
 
-  pub text_shown : (r : Ended) → StandsAt s one read r → part_of {A = List ℕ} (λ x. x) (found_at (text s) r) ≡ part_of f read
+  pub text_shown : (r : Result ℕ Refused) → StandsAt s one read r → part_of {A = List ℕ} (λ x. x) (found_at (text s) r) ≡ part_of f read
   text_shown r i = here r i ∙ part_stands s one read f r i
     where
-      here : (r : Ended) → StandsAt s one read r → part_of {A = List ℕ} (λ x. x) (found_at (text s) r) ≡ part_of f (found_at one r)
-      here (End p) i = let (end, e) = string p i.item i.last i.reads in ap (part_of {A = List ℕ} (λ x. x)) e ∙ sym (ap (part_of f) i.reads)
-      here (Refused m q) i = refl
+      here : (r : Result ℕ Refused) → StandsAt s one read r → part_of {A = List ℕ} (λ x. x) (found_at (text s) r) ≡ part_of f (found_at one r)
+      here (Ok p) i = let (end, e) = string p i.item i.last i.reads in ap (part_of {A = List ℕ} (λ x. x)) e ∙ sym (ap (part_of f) i.reads)
+      here (Err q) i = refl

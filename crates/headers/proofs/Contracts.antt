@@ -6,18 +6,18 @@ use lib.ListN.{length}
 use Rattle.octets.specs.Reading.{Read, ok, run}
 use Rattle.octets.specs.OfContracts.{Once, Settled}
 use Rattle.octets.proofs.Inverse.{ok_value, ok_place, no_ok}
-use Rattle.octets.proofs.Contracts.{says_once}
+use Rattle.octets.specs.declared.Refused.{Refused}
+use Rattle.octets.proofs.Contracts.{says_once, refused_once}
+use Rattle.std.specs.Prelude.{Result, Ok, Err}
 use Rattle.texts.specs.Texts.{text}
 use Rattle.headers.specs.Header.{Header, namespace_at}
 use Rattle.headers.specs.Answers.{Located, Locates}
 use Rattle.headers.specs.declared.Places.{Places}
-use Rattle.headers.specs.declared.Placing.{Placing}
-use Rattle.headers.specs.declared.Placing.TheVariants.{At, Refused}
-use Rattle.headers.proofs.items_end as items_end
+use Rattle.headers.proofs.namespace_end as namespace_end
 use Rattle.headers.proofs.header_at as header_at
 
 pub record Contracts : Type 0 where
-  pub of_items_end : Once items_end.Kinds.ps items_end.Kinds.r items_end.Reads.Pre items_end.Reads.Post
+  pub of_namespace_end : Once namespace_end.Kinds.ps namespace_end.Kinds.r namespace_end.Reads.Pre namespace_end.Reads.Post
   pub of_header_at : Settled header_at.Kinds.ps header_at.Kinds.r header_at.Reads.Pre header_at.Reads.Post
 
 -- The places of one header's fields are settled, one after another.
@@ -32,17 +32,17 @@ located_once s h p q end e f =
     ok_place e.services (subst (λ (k : ℕ). run (text s) (length h.services) (k + 4) ≡ ok h.services q.id) (sym services) f.services) in
     λ i. record { start = start i; namespaces = namespaces i; services = services i; id = id i; end = end i }
 
-locates_once : (s : List ℕ) (read : Read Header) (x y : Placing) → Locates s read x → Locates s read y → x ≡ y
-locates_once s read (At p) (At q) e f =
+locates_once : (s : List ℕ) (read : Read Header) (x y : Result Places Refused) → Locates s read x → Locates s read y → x ≡ y
+locates_once s read (Ok p) (Ok q) e f =
     let header : e.header ≡ f.header = ok_value e.reads f.reads in
-    ap At (located_once s f.header p q (ok_place e.reads f.reads) (subst (λ (h : Header). Located s h p) header e.located) f.located)
-locates_once s read (At p) (Refused n q) e f = absurd (no_ok f e.reads)
-locates_once s read (Refused n p) (At q) e f = absurd (no_ok e f.reads)
-locates_once s read (Refused n p) (Refused m q) e f = cc
+    ap Ok (located_once s f.header p q (ok_place e.reads f.reads) (subst (λ (h : Header). Located s h p) header e.located) f.located)
+locates_once s read (Ok p) (Err r) e f = absurd (no_ok f e.reads)
+locates_once s read (Err r) (Ok q) e f = absurd (no_ok e f.reads)
+locates_once s read (Err r) (Err q) e f = ap Err (refused_once r q (cc) (cc))
 
 pub contracts : Contracts
 contracts =
     record {
-      of_items_end = λ κs a p x y u v e f. (says_once x y (e.0 ∙ sym f.0), refl);
+      of_namespace_end = λ κs a p x y u v e f. (says_once x y (e.0 ∙ sym f.0), refl);
       of_header_at = (λ κs a. tt, λ κs a p x y u v e f. (locates_once _ _ x y e f, refl));
     }

@@ -2,7 +2,6 @@
 use Prim.Native.Nat.{ℕ, ◌+◌, ◌≤◌, ◌<◌}
 use mathlib.Core.Path.{◌≡◌, refl, sym, ap, ◌∙◌, subst}
 use mathlib.Core.List.{List}
-use mathlib.Core.Bool.{Bool, true, false}
 use native.Mathlib.Omega.{arith}
 use lib.ListN.{length}
 use lib.Dec.{leb}
@@ -14,7 +13,7 @@ use Rattle.octets.proofs.Ends.{on, made, stop, stop_both, ended, run_ends, count
 use Rattle.octets.proofs.Runs.{run_length}
 use Rattle.texts.specs.Texts.{text}
 use Rattle.headers.specs.Header.{namespace_at, id_at, header_from, header_at}
-use Rattle.headers.specs.Answers.{item_end, Accepted}
+use Rattle.headers.specs.Answers.{Accepted}
 
 -- The header of a document, too long or not.
 module _ (s : List ℕ) where
@@ -52,14 +51,13 @@ module _ (s : List ℕ) (at : ℕ) where
       let q : mid + 16 ≡ next = cc in
       omega arith
 
--- An item of a list by its strings: refused as the first, and a namespace behind it ends as the second.
+-- A namespace by its strings: refused as the first, and behind it ends as the second.
 module _ (s : List ℕ) (at : ℕ) where
-  pub item_stop : (service : Bool) (n p : ℕ) → ends (text s at) ≡ no n p → item_end service s at ≡ no n p
+  pub namespace_stop : (n p : ℕ) → ends (text s at) ≡ no n p → ends (namespace_at s at) ≡ no n p
   unfolding namespace_at
-  item_stop true n p e = e
-  item_stop false n p e = stop (text s at) _ n p e
+  namespace_stop n p e = stop (text s at) _ n p e
 
-  pub namespace_on : (next : ℕ) → ends (text s at) ≡ ok next next → item_end false s at ≡ ends (text s next)
+  pub namespace_on : (next : ℕ) → ends (text s at) ≡ ok next next → ends (namespace_at s at) ≡ ends (text s next)
   unfolding namespace_at
   namespace_on next e = on (text s at) _ (λ m. ends (text s m)) next (λ uri m. made (text s m) _) e
 
@@ -71,8 +69,15 @@ module _ (s : List ℕ) where
   abbrev pub default_read : ℕ → Read (List ℕ)
   default_read at = number 8 s at then λ _ next. text s next
 
-  abbrev pub list_read : Bool → ℕ → Read (List ℕ)
-  list_read service at = count most_listed s at then λ k next. run (item_end service s) k next
+  abbrev pub list_read : (ℕ → Read ℕ) → ℕ → Read (List ℕ)
+  list_read one at = count most_listed s at then λ k next. run one k next
+
+  -- Of the items of either list, where each ends.
+  abbrev pub space_read : ℕ → Read ℕ
+  space_read at = ends (namespace_at s at)
+
+  abbrev pub service_read : ℕ → Read ℕ
+  service_read at = ends (text s at)
 
   abbrev close_read : ℕ → Read ℕ
   close_read at = id_at s at then λ _ next. exactly 0xffffffff 6 s next
@@ -116,17 +121,14 @@ module _ (s : List ℕ) where
 
   -- A list ends where the ends of its items do.
   module _ {A : Type 0} (one : ℕ → Read A) (at : ℕ) where
-    abbrev ended_list : Read (List ℕ)
-    ended_list = count most_listed s at then λ k next. run (λ p. ends (one p)) k next
-
-    list_alike : ends (count most_listed s at then λ k next. run one k next) ≡ ends ended_list
+    list_alike : ends (count most_listed s at then λ k next. run one k next) ≡ ends (list_read (λ p. ends (one p)) at)
     list_alike = go (count most_listed s at)
       where
         go : (r : Read ℕ) → ends (r then λ k next. run one k next) ≡ ends (r then λ k next. run (λ p. ends (one p)) k next)
         go (ok k next) = run_ends one k next
         go (no n p) = refl
 
-    listed : (end : ℕ) → ok end end ≡ ends ended_list → Listed one at end
+    listed : (end : ℕ) → ok end end ≡ ends (list_read (λ p. ends (one p)) at) → Listed one at end
     listed end e =
         let (xs, f) = ended (count most_listed s at then λ k next. run one k next) end (list_alike ∙ sym e) in
         after (count most_listed s at) _ f λ k next e₁ e₂.
@@ -156,21 +158,21 @@ module _ (s : List ℕ) where
       f : Fronted start namespaces
       f = front start namespaces recorded named
 
-      pub refused_namespaces : (n p : ℕ) → no n p ≡ ends (list_read false namespaces) → header_from s 0 ≡ no n p
+      pub refused_namespaces : (n p : ℕ) → no n p ≡ ends (list_read space_read namespaces) → header_from s 0 ≡ no n p
       unfolding header_from
       refused_namespaces n p e =
           rw (f.is_four, f.records, f.starts, f.defaults) (stop_both (count most_listed s namespaces) _ _ n p (list_alike (namespace_at s) namespaces ∙ sym e))
 
-      module _ (services : ℕ) (spaced : ok services services ≡ ends (list_read false namespaces)) where
+      module _ (services : ℕ) (spaced : ok services services ≡ ends (list_read space_read namespaces)) where
         l : Listed (namespace_at s) namespaces services
         l = listed (namespace_at s) namespaces services spaced
 
-        pub refused_services : (n p : ℕ) → no n p ≡ ends (list_read true services) → header_from s 0 ≡ no n p
+        pub refused_services : (n p : ℕ) → no n p ≡ ends (list_read service_read services) → header_from s 0 ≡ no n p
         unfolding header_from
         refused_services n p e =
             rw (f.is_four, f.records, f.starts, f.defaults, l.counts, l.reads) (stop_both (count most_listed s services) _ _ n p (list_alike (text s) services ∙ sym e))
 
-        module _ (id : ℕ) (served : ok id id ≡ ends (list_read true services)) where
+        module _ (id : ℕ) (served : ok id id ≡ ends (list_read service_read services)) where
           m : Listed (text s) services id
           m = listed (text s) services id served
 

@@ -1,17 +1,11 @@
 -- What the answers about a header say.
-use Rattle.std.specs.Prelude.{ℕ, ◌+◌, ◌≤◌, ◌≡◌, List, Bool, true, false, length}
+use Rattle.std.specs.Prelude.{ℕ, ◌+◌, ◌≤◌, ◌≡◌, List, length, Result, Ok, Err}
 use Rattle.octets.specs.Limits.{longest}
-use Rattle.octets.specs.Reading.{Read, ok, no, ends, number, run}
+use Rattle.octets.specs.Reading.{Read, ok, no, number, run}
+use Rattle.octets.specs.declared.Refused.{Refused}
 use Rattle.texts.specs.Texts.{text}
 use Rattle.headers.specs.Header.{Header, namespace_at, id_at}
 use Rattle.headers.specs.declared.Places.{Places}
-use Rattle.headers.specs.declared.Placing.{Placing}
-use Rattle.headers.specs.declared.Placing.TheVariants.{At, Refused}
-
--- Where an item of a list ends: a service definition, or a namespace.
-abbrev pub item_end : Bool → List ℕ → ℕ → Read ℕ
-item_end true s = λ at. ends (text s at)
-item_end false s = λ at. ends (namespace_at s at)
 
 -- Where a header's fields stand: each is read from its place, and the next stands behind it.
 pub record Located (s : List ℕ) (h : Header) (p : Places) : Type 0 where
@@ -31,6 +25,6 @@ pub record Accepted (s : List ℕ) (read : Read Header) (p : Places) : Type 0 wh
   pub located : Located s header p
   pub short : length s ≤ longest
 
-abbrev pub Locates : List ℕ → Read Header → Placing → Type 0
-Locates s read (At p) = Accepted s read p
-Locates s read (Refused n q) = read ≡ no n q
+abbrev pub Locates : List ℕ → Read Header → Result Places Refused → Type 0
+Locates s read (Ok p) = Accepted s read p
+Locates s read (Err r) = read ≡ no r.number r.place

@@ -2,15 +2,17 @@
 
 #![tactic(auto)]
 
-ghost use Rattle.std.specs.Prelude.{◌≡◌, ◌+◌, ◌≤◌, length};
+ghost use Rattle.std.specs.Prelude.{ℕ, ◌≡◌, ◌+◌, ◌≤◌, length};
 ghost use Rattle.octets.specs.Limits.{longest, most_listed};
-ghost use Rattle.octets.specs.Reading.{ends, ◌then◌, number, count, exactly, run};
+ghost use Rattle.octets.specs.Reading.{Read, ends, ◌then◌, number, count, exactly, run};
+ghost use Rattle.octets.specs.Runs.{Finds, FindsFrom};
 ghost use Rattle.octets.specs.Answers.{says, Within};
+ghost use Rattle.octets.specs.Faults.{number_of};
 ghost use Rattle.texts.specs.Texts.{text};
-ghost use Rattle.headers.specs.Header.{id_at, header_from, header_at};
-ghost use Rattle.headers.specs.Answers.{item_end, Locates};
+ghost use Rattle.headers.specs.Header.{namespace_at, id_at, header_from, header_at};
+ghost use Rattle.headers.specs.Answers.{Locates};
 
-use octets::{Counted, Ended};
+use octets::{Fault, Refused};
 
 // Where the fields of an accepted header stand: the start time, the counts of both lists, the document id, and what is behind the header.
 #[derive(Clone, Copy)]
@@ -22,181 +24,120 @@ pub struct Places {
     pub end: usize,
 }
 
-#[derive(Clone, Copy)]
-pub enum Placing {
-    At(Places),
-    Refused(u32, usize),
-}
-
 // The place behind a number of four octets that is the one wanted, else a refusal at it.
-fn exactly_at(s: &[u8], at: usize, wanted: u32, refusal: u32) -> Ended
+fn exactly_at(s: &[u8], at: usize, wanted: u32, fault: Fault) -> Result<usize, Refused>
     requires { (at ≤ length s.now) × (length s.now ≤ longest) }
-    ensures { (says result ≡ ends (exactly wanted refusal s.now at)) × Within at result (length s.now) }
+    ensures { (says result ≡ ends (exactly wanted (number_of fault) s.now at)) × Within at result (length s.now) }
 {
     if s.len() < at + 4 {
-        return Ended::Refused(1, at);
+        return Err(Refused {
+            fault: Fault::CutShort,
+            place: at,
+        });
     }
     if octets::u32_at(s, at) != wanted {
-        return Ended::Refused(refusal, at);
+        return Err(Refused { fault, place: at });
     }
-    Ended::End(at + 4)
+    Ok(at + 4)
 }
 
-// The place behind an item of a list: a service definition, which is a string, or a namespace, which is two.
-fn item_end(s: &[u8], at: usize, service: bool) -> Ended
+// The place behind a namespace: two strings.
+pub fn namespace_end(s: &[u8], at: usize) -> Result<usize, Refused>
     requires { (at ≤ length s.now) × (length s.now ≤ longest) }
-    ensures { (says result ≡ item_end service s.now at) × Within at result (length s.now) }
+    ensures { (says result ≡ ends (namespace_at s.now at)) × Within at result (length s.now) }
 {
-    let first = texts::text_end(s, at);
-    match first {
-        Ended::Refused(n, p) => Ended::Refused(n, p),
-        Ended::End(next) => {
-            if service {
-                return Ended::End(next);
-            }
-            texts::text_end(s, next)
-        }
-    }
+    let next = texts::text_end(s, at)?;
+    texts::text_end(s, next)
 }
 
-// The place behind so many items of a list.
-pub fn items_end(s: &[u8], at: usize, count: u32, service: bool) -> Ended
-    requires { (at ≤ length s.now) × (length s.now ≤ longest) }
-    ensures { (says result ≡ ends (run (item_end service s.now) count at)) × Within at result (length s.now) }
+// The place behind a list: its count, at most 16, and its items, each as what is passed finds its end.
+fn list_end<F: Fn(usize) -> Result<usize, Refused>>(
+    s: &[u8],
+    at: usize,
+    one: F,
+) -> Result<usize, Refused>
+    requires { (at ≤ length s.now) × (length s.now ≤ longest) × FindsFrom (F.pre one) (F.post one) (length s.now) }
+    ensures { (f : ℕ → Read ℕ) → Finds (F.pre one) (F.post one) (length s.now) f → (says result ≡ ends (count most_listed s.now at then λ k next. run f k next)) × Within at result (length s.now) }
 {
-    let mut pos = at;
-    let mut i: u32 = 0;
-    while i < count {
-        let one = item_end(s, pos, service);
-        match one {
-            Ended::Refused(n, p) => {
-                return Ended::Refused(n, p);
-            }
-            Ended::End(next) => {
-                pos = next;
-            }
-        }
-        i += 1;
-    }
-    Ended::End(pos)
-}
-
-// The place behind a list: its count, at most 16, and its items.
-fn list_end(s: &[u8], at: usize, service: bool) -> Ended
-    requires { (at ≤ length s.now) × (length s.now ≤ longest) }
-    ensures { (says result ≡ ends (count most_listed s.now at then λ k next. run (item_end service s.now) k next)) × Within at result (length s.now) }
-{
-    let counted = octets::count_at(s, at, octets::MOST_LISTED);
-    match counted {
-        Counted::Refused(n, p) => Ended::Refused(n, p),
-        Counted::Count(k, next) => items_end(s, next, k, service),
-    }
+    let (count, next) = octets::count_at(s, at, octets::MOST_LISTED)?;
+    octets::run_end(next, count, one)
 }
 
 // The place behind the version and the recorder.
-fn recorder_end(s: &[u8]) -> Ended
+fn recorder_end(s: &[u8]) -> Result<usize, Refused>
     requires { length s.now ≤ longest }
     ensures { (says result ≡ ends (exactly 4 3 s.now 0 then λ _ next. text s.now next)) × Within 0 result (length s.now) }
 {
-    let version = exactly_at(s, 0, 4, 3);
-    match version {
-        Ended::Refused(n, p) => Ended::Refused(n, p),
-        Ended::End(next) => texts::text_end(s, next),
-    }
+    let next = exactly_at(s, 0, 4, Fault::Version)?;
+    texts::text_end(s, next)
 }
 
 // The place behind the start time and the default namespace.
-fn default_end(s: &[u8], at: usize) -> Ended
+fn default_end(s: &[u8], at: usize) -> Result<usize, Refused>
     requires { (at ≤ length s.now) × (length s.now ≤ longest) }
     ensures { (says result ≡ ends (number 8 s.now at then λ _ next. text s.now next)) × Within at result (length s.now) }
 {
     if s.len() < at + 8 {
-        return Ended::Refused(1, at);
+        return Err(Refused {
+            fault: Fault::CutShort,
+            place: at,
+        });
     }
     texts::text_end(s, at + 8)
 }
 
 // The place behind the document id.
-fn id_end(s: &[u8], at: usize) -> Ended
+fn id_end(s: &[u8], at: usize) -> Result<usize, Refused>
     requires { (at ≤ length s.now) × (length s.now ≤ longest) }
     ensures { (says result ≡ ends (id_at s.now at)) × Within at result (length s.now) }
 {
-    let length = exactly_at(s, at, 16, 5);
-    match length {
-        Ended::Refused(n, p) => Ended::Refused(n, p),
-        Ended::End(next) => {
-            if s.len() < next + 16 {
-                return Ended::Refused(1, at);
-            }
-            Ended::End(next + 16)
-        }
+    let next = exactly_at(s, at, 16, Fault::Id)?;
+    if s.len() < next + 16 {
+        return Err(Refused {
+            fault: Fault::CutShort,
+            place: at,
+        });
     }
+    Ok(next + 16)
 }
 
 // The place behind the document id and the four octets FF.
-fn close_end(s: &[u8], at: usize) -> Ended
+fn close_end(s: &[u8], at: usize) -> Result<usize, Refused>
     requires { (at ≤ length s.now) × (length s.now ≤ longest) }
     ensures { (says result ≡ ends (id_at s.now at then λ _ next. exactly 0xffffffff 6 s.now next)) × Within at result (length s.now) }
 {
-    let id = id_end(s, at);
-    match id {
-        Ended::Refused(n, p) => Ended::Refused(n, p),
-        Ended::End(next) => exactly_at(s, next, 0xffff_ffff, 6),
-    }
+    let next = id_end(s, at)?;
+    exactly_at(s, next, 0xffff_ffff, Fault::Open)
 }
 
 // The places of a header's fields, in a document that is not too long.
-fn header_places(s: &[u8]) -> Placing
+fn header_places(s: &[u8]) -> Result<Places, Refused>
     requires { length s.now ≤ longest }
     ensures { Locates s.now (header_from s.now 0) result }
 {
-    let recorder = recorder_end(s);
-    let start = match recorder {
-        Ended::Refused(n, p) => {
-            return Placing::Refused(n, p);
-        }
-        Ended::End(next) => next,
-    };
-    let default = default_end(s, start);
-    let namespaces = match default {
-        Ended::Refused(n, p) => {
-            return Placing::Refused(n, p);
-        }
-        Ended::End(next) => next,
-    };
-    let others = list_end(s, namespaces, false);
-    let services = match others {
-        Ended::Refused(n, p) => {
-            return Placing::Refused(n, p);
-        }
-        Ended::End(next) => next,
-    };
-    let listed = list_end(s, services, true);
-    let id = match listed {
-        Ended::Refused(n, p) => {
-            return Placing::Refused(n, p);
-        }
-        Ended::End(next) => next,
-    };
-    let closed = close_end(s, id);
-    match closed {
-        Ended::Refused(n, p) => Placing::Refused(n, p),
-        Ended::End(end) => Placing::At(Places {
-            start,
-            namespaces,
-            services,
-            id,
-            end,
-        }),
-    }
+    let start = recorder_end(s)?;
+    let namespaces = default_end(s, start)?;
+    let services = list_end(s, namespaces, |p| namespace_end(s, p))?;
+    let id = list_end(s, services, |p| texts::text_end(s, p))?;
+    let end = close_end(s, id)?;
+    Ok(Places {
+        start,
+        namespaces,
+        services,
+        id,
+        end,
+    })
 }
 
 // The places of a document's header: 2 before all where the document is too long.
-pub fn header_at(s: &[u8]) -> Placing
+pub fn header_at(s: &[u8]) -> Result<Places, Refused>
     ensures { Locates s.now (header_at s.now) result }
 {
     if octets::LONGEST < s.len() {
-        return Placing::Refused(2, 0);
+        return Err(Refused {
+            fault: Fault::TooLong,
+            place: 0,
+        });
     }
     header_places(s)
 }

@@ -1,6 +1,6 @@
 pub mod Table
 pub mod Forms
-pub mod Signed
 pub mod Unsigned
+pub mod Signs
 pub mod Values
 pub mod Contracts

@@ -14,7 +14,7 @@ use borrow.Author.Tests.{eqb-true, ltb-true, le-leb, lt-leb, lt-ltb, le-ltb, ne_
 use Rattle.octets.specs.Reading.{ok, no, choose, be, number, is_ok, ends}
 use Rattle.octets.specs.Writing.{word}
 use Rattle.octets.proofs.Spans.{word_octets}
-use Rattle.octets.proofs.Inverse.{Inverse, Answer, Any, after, settle, chosen, refused, ok_value}
+use Rattle.octets.proofs.Inverse.{Inverse, Answer, Any, after, settle, chosen, refused}
 use Rattle.octets.proofs.Fields.{number_whole}
 use Rattle.octets.proofs.Ends.{number_ok, number_no, number_room, first_ok}
 use Rattle.kinds.specs.Kinds.{basics, number_of, code_of, among, basic_of, kind_for, kind_of, kind_at}
@@ -117,11 +117,17 @@ module _ (at t next : ℕ) where
   pub kind_wide : t < 2 ^ 31 → 0x10000 ≤ t → kind_of at t next ≡ no 8 at
   kind_wide g k = rw (lt-leb (2 ^ 31) t g, le-ltb t 0x10000 k) refl
 
-  pub kind_none : t < 0x10000 → basic_of (t % 256) ≡ none → kind_of at t next ≡ no 8 at
-  kind_none g e = rw (lt-leb (2 ^ 31) t (omega arith), lt-ltb t 0x10000 g, e) refl
+  pub kind_low : t < 0x10000 → kind_of at t next ≡ kind_for at t next (basic_of (t % 256))
+  kind_low g = rw (lt-leb (2 ^ 31) t (omega arith), lt-ltb t 0x10000 g) refl
+
+  pub for_none : basic_of (t % 256) ≡ none → kind_for at t next (basic_of (t % 256)) ≡ no 8 at
+  for_none e = rw e refl
+
+  pub for_some : (b : Basic) → code_of b ≡ t % 256 → kind_for at t next (basic_of (t % 256)) ≡ ok (record { derived = t / 256; basic = b }) next
+  for_some b e = rw (← e, (code_known b).2) refl
 
   pub kind_some : (b : Basic) → t < 0x10000 → code_of b ≡ t % 256 → kind_of at t next ≡ ok (record { derived = t / 256; basic = b }) next
-  kind_some b g e = rw (lt-leb (2 ^ 31) t (omega arith), lt-ltb t 0x10000 g, ← e, (code_known b).2) refl
+  kind_some b g e = kind_low g ∙ for_some b e
 
 -- A type at a place, from its number.
 module _ (s : List ℕ) (at : ℕ) where
@@ -150,29 +156,18 @@ kind_is s at t =
     let h = number_room s at 4 (first_ok (number 4 s at) _ t) in
     (h, rw (number_ok s at 4 h) (kind_next at (be 4 s at) (at + 4) (rw (number_ok s at 4 h) at t)))
 
--- The number of a type that was read: its low octet is its basic type's, which the table has, the next is the derived octet, and there is no more.
-pub kind_code : (s : List ℕ) (at : ℕ) {k : Kind} {next : ℕ} → kind_at s at ≡ ok k next
-    → (be 4 s at % 256 ≡ code_of k.basic) × (0x21 ≤ be 4 s at % 256) × (be 4 s at % 256 ≤ 0x2d) × (be 4 s at < 0x10000) × (be 4 s at / 256 ≡ k.derived)
-unfolding kind_at
-kind_code s at {k} e =
-    let h = number_room s at 4 (first_ok (number 4 s at) _ (ap is_ok e)) in
-    let t : ℕ = be 4 s at in
-    let (t₁, e₁) = refused (leb (2 ^ 31) t) 9 at _ (rw (number_ok s at 4 h) at e) in
-    let (t₂, e₂) = chosen (ltb t 0x10000) (λ _. kind_for at t (at + 4) (basic_of (t % 256))) 8 at e₁ in
-    let (b, f, e₃) = kind_for_lem at t (at + 4) (basic_of (t % 256)) e₂ in
-    let is : record { derived = t / 256; basic = b } ≡ k = ok_value refl e₃ in
-    let code : code_of b ≡ t % 256 = code_of_basic (t % 256) b f in (
-      sym code ∙ ap (λ (x : Kind). code_of x.basic) is,
-      omega (arith, (code_known b).0),
-      omega (arith, (code_known b).1),
-      ltb-true t 0x10000 t₂,
-      ap (λ (x : Kind). x.derived) is,
-    )
+-- The number of a type that is accepted has no high bits.
+pub kind_small : (s : List ℕ) (at : ℕ) → is_ok (kind_at s at) ≡ true → be 4 s at < 0x10000
+kind_small s at h = ltb-true n 0x10000 (go (leb (2 ^ 31) n) (ltb n 0x10000) (sym (ap is_ok (kind_ok s at (kind_is s at h).0)) ∙ h))
+  where
+    n : ℕ
+    n = be 4 s at
+
+    go : (b c : Bool) → is_ok (choose b (λ _. no 9 at) (λ _. choose c (λ _. kind_for at n (at + 4) (basic_of (n % 256))) (λ _. no 8 at))) ≡ true → c ≡ true
+    go true c h = absurd (let z : ◌≡◌ {A = ℕ} 0 1 = cc in omega arith)
+    go false true h = refl
+    go false false h = h
 
 -- One code is one basic type.
 pub code_once : (b c : Basic) → code_of b ≡ code_of c → b ≡ c
 code_once b c e = let is : ◌≡◌ {A = Option Basic} (some b) (some c) = sym (code_known b).2 ∙ (ap basic_of e ∙ (code_known c).2) in cc
-
--- A type by its two octets.
-pub kind_same : (d : ℕ) (b : Basic) (k : Kind) → d ≡ k.derived → b ≡ k.basic → record { derived = d; basic = b } ≡ k
-kind_same d b k p q = λ i. record { derived = p i; basic = q i }

@@ -3,20 +3,20 @@
 
 #![tactic(auto)]
 
-ghost use Rattle.std.specs.Prelude.{◌≡◌, true, ℕ, ◌+◌, ◌≤◌, length};
-ghost use Rattle.kinds.specs.Kinds.{code_of, form_by, form_of, signed, unsigned, kind_of, kind_at};
+ghost use Rattle.std.specs.Prelude.{◌≡◌, true, ℕ, ◌+◌, ◌%◌, ◌≤◌, ◌<◌, length};
+ghost use Rattle.kinds.specs.Kinds.{code_of, basic_of, form_by, form_of, kind_for, kind_of, kind_at};
 ghost use Rattle.kinds.specs.Forms.{Slim, value_in};
 ghost use Rattle.kinds.specs.Values.{basic_of_value, bits_of_value};
-ghost use Rattle.kinds.specs.Answers.{kinds, kind_says, Fitting};
+ghost use Rattle.kinds.specs.Answers.{Coded, kinds, kind_says, Fitting};
 ghost use Rattle.octets.specs.Limits.{longest};
 ghost use Rattle.octets.specs.Reading.{ok, ends, is_ok, reach};
 ghost use Rattle.octets.specs.Answers.{says, Within};
 
-use octets::{Ended, Room};
+use octets::{Fault, Refused, Room};
 use texts::Rule;
 
 // A basic type.
-#[derive(Clone, Copy)]
+#[derive(Clone, Copy, PartialEq, Eq)]
 pub enum Basic {
     Int,
     UnsignedInt,
@@ -34,7 +34,7 @@ pub enum Basic {
 }
 
 // A type: a basic one, and the octet that marks a derived one.
-#[derive(Clone, Copy)]
+#[derive(Clone, Copy, PartialEq, Eq)]
 pub struct Kind {
     pub derived: u8,
     pub basic: Basic,
@@ -94,38 +94,52 @@ pub enum Value {
     UnsignedShort(u16),
 }
 
-// What a type number stands for, or its refusal.
-#[derive(Clone, Copy)]
-pub enum Typed {
-    Is(Kind),
-    Refused(u32),
-}
-
-// The type at a place, or a refusal by number and place.
-#[derive(Clone, Copy)]
-pub enum Kinded {
-    Is(Kind),
-    Refused(u32, usize),
-}
-
 // A type's low octet.
-pub fn code_of(b: Basic) -> u32
-    ensures { result ≡ code_of b }
-{
-    match b {
-        Basic::Int => Kind::INT,
-        Basic::UnsignedInt => Kind::UNSIGNED_INT,
-        Basic::Long => Kind::LONG,
-        Basic::UnsignedLong => Kind::UNSIGNED_LONG,
-        Basic::Float => Kind::FLOAT,
-        Basic::Double => Kind::DOUBLE,
-        Basic::HexBinary => Kind::HEX_BINARY,
-        Basic::String => Kind::STRING,
-        Basic::Boolean => Kind::BOOLEAN,
-        Basic::Byte => Kind::BYTE,
-        Basic::UnsignedByte => Kind::UNSIGNED_BYTE,
-        Basic::Short => Kind::SHORT,
-        Basic::UnsignedShort => Kind::UNSIGNED_SHORT,
+impl From<Basic> for u32 {
+    ghost from_gives = { λ b n. n ≡ code_of b };
+
+    fn from(b: Basic) -> u32 {
+        match b {
+            Basic::Int => Kind::INT,
+            Basic::UnsignedInt => Kind::UNSIGNED_INT,
+            Basic::Long => Kind::LONG,
+            Basic::UnsignedLong => Kind::UNSIGNED_LONG,
+            Basic::Float => Kind::FLOAT,
+            Basic::Double => Kind::DOUBLE,
+            Basic::HexBinary => Kind::HEX_BINARY,
+            Basic::String => Kind::STRING,
+            Basic::Boolean => Kind::BOOLEAN,
+            Basic::Byte => Kind::BYTE,
+            Basic::UnsignedByte => Kind::UNSIGNED_BYTE,
+            Basic::Short => Kind::SHORT,
+            Basic::UnsignedShort => Kind::UNSIGNED_SHORT,
+        }
+    }
+}
+
+// The basic type of a low octet: 8 where the table has none.
+impl TryFrom<u32> for Basic {
+    type Error = Fault;
+
+    ghost try_from_gives = { Coded };
+
+    fn try_from(code: u32) -> Result<Basic, Fault> {
+        match code {
+            Kind::INT => Ok(Basic::Int),
+            Kind::UNSIGNED_INT => Ok(Basic::UnsignedInt),
+            Kind::LONG => Ok(Basic::Long),
+            Kind::UNSIGNED_LONG => Ok(Basic::UnsignedLong),
+            Kind::FLOAT => Ok(Basic::Float),
+            Kind::DOUBLE => Ok(Basic::Double),
+            Kind::HEX_BINARY => Ok(Basic::HexBinary),
+            Kind::STRING => Ok(Basic::String),
+            Kind::BOOLEAN => Ok(Basic::Boolean),
+            Kind::BYTE => Ok(Basic::Byte),
+            Kind::UNSIGNED_BYTE => Ok(Basic::UnsignedByte),
+            Kind::SHORT => Ok(Basic::Short),
+            Kind::UNSIGNED_SHORT => Ok(Basic::UnsignedShort),
+            _ => Err(Fault::Type),
+        }
     }
 }
 
@@ -158,116 +172,6 @@ pub fn form_of(k: Kind) -> Form
     form_by(basic)
 }
 
-// The basic type of a low octet that the table has.
-pub fn basic_of(code: u32) -> Basic
-    requires { (0x21 ≤ code) × (code ≤ 0x2d) }
-    ensures { code_of result ≡ code }
-{
-    match code {
-        Kind::INT => Basic::Int,
-        Kind::UNSIGNED_INT => Basic::UnsignedInt,
-        Kind::LONG => Basic::Long,
-        Kind::UNSIGNED_LONG => Basic::UnsignedLong,
-        Kind::FLOAT => Basic::Float,
-        Kind::DOUBLE => Basic::Double,
-        Kind::HEX_BINARY => Basic::HexBinary,
-        Kind::STRING => Basic::String,
-        Kind::BOOLEAN => Basic::Boolean,
-        Kind::BYTE => Basic::Byte,
-        Kind::UNSIGNED_BYTE => Basic::UnsignedByte,
-        Kind::SHORT => Basic::Short,
-        _ => Basic::UnsignedShort,
-    }
-}
-
-// Two's complement: the signed number that has x's bits, at one octet.
-pub fn signed8(x: u8) -> i8
-    ensures { result ≡ signed 1 x }
-{
-    if x < 0x80 {
-        x as i8
-    } else {
-        -1 - (0xff - x) as i8
-    }
-}
-
-// The same at two octets.
-pub fn signed16(x: u16) -> i16
-    ensures { result ≡ signed 2 x }
-{
-    if x < 0x8000 {
-        x as i16
-    } else {
-        -1 - (0xffff - x) as i16
-    }
-}
-
-// The same at four octets.
-pub fn signed32(x: u32) -> i32
-    ensures { result ≡ signed 4 x }
-{
-    if x < 0x8000_0000 {
-        x as i32
-    } else {
-        -1 - (0xffff_ffff - x) as i32
-    }
-}
-
-// The same at eight octets.
-pub fn signed64(x: u64) -> i64
-    ensures { result ≡ signed 8 x }
-{
-    if x < 0x8000_0000_0000_0000 {
-        x as i64
-    } else {
-        -1 - (0xffff_ffff_ffff_ffff - x) as i64
-    }
-}
-
-// And back: the bits of a signed number, at one octet.
-pub fn bits8(x: i8) -> u8
-    ensures { result ≡ unsigned 1 x }
-{
-    if 0 <= x {
-        x as u8
-    } else {
-        0xff - (-1 - x) as u8
-    }
-}
-
-// The same at two octets.
-pub fn bits16(x: i16) -> u16
-    ensures { result ≡ unsigned 2 x }
-{
-    if 0 <= x {
-        x as u16
-    } else {
-        0xffff - (-1 - x) as u16
-    }
-}
-
-// The same at four octets.
-pub fn bits32(x: i32) -> u32
-    ensures { result ≡ unsigned 4 x }
-{
-    if 0 <= x {
-        x as u32
-    } else {
-        0xffff_ffff - (-1 - x) as u32
-    }
-}
-
-// The same at eight octets.
-pub fn bits64(x: i64) -> u64
-    ensures { result ≡ unsigned 8 x }
-{
-    if 0 <= x {
-        x as u64
-    } else {
-        0xffff_ffff_ffff_ffff - (-1 - x) as u64
-    }
-}
-
 // A value's basic type.
 pub fn basic_of_value(v: Value) -> Basic
     ensures { result ≡ basic_of_value v }
@@ -294,57 +198,57 @@ pub fn bits_of_value(v: Value) -> u64
     ensures { result ≡ bits_of_value v }
 {
     match v {
-        Value::Int(x) => bits32(x) as u64,
-        Value::UnsignedInt(x) => x as u64,
-        Value::Long(x) => bits64(x),
+        Value::Int(x) => u64::from(x.cast_unsigned()),
+        Value::UnsignedInt(x) => u64::from(x),
+        Value::Long(x) => x.cast_unsigned(),
         Value::UnsignedLong(x) => x,
-        Value::Float(x) => x as u64,
+        Value::Float(x) => u64::from(x),
         Value::Double(x) => x,
         Value::HexBinary => 0,
         Value::String => 0,
-        Value::Boolean(x) => if x { 1 } else { 0 },
-        Value::Byte(x) => bits8(x) as u64,
-        Value::UnsignedByte(x) => x as u64,
-        Value::Short(x) => bits16(x) as u64,
-        Value::UnsignedShort(x) => x as u64,
+        Value::Boolean(x) => u64::from(x),
+        Value::Byte(x) => u64::from(x.cast_unsigned()),
+        Value::UnsignedByte(x) => u64::from(x),
+        Value::Short(x) => u64::from(x.cast_unsigned()),
+        Value::UnsignedShort(x) => u64::from(x),
     }
+}
+
+// What a type number stands for whose high bits are zero: 8 where its low octet is not of the table.
+fn kind_by(t: u32) -> Result<Kind, Fault>
+    requires { t < 0x10000 }
+    ensures { (at next : ℕ) → kinds at next result ≡ kind_for at t next (basic_of (t % 256)) }
+{
+    let basic = Basic::try_from(t % 256)?;
+    let derived = (t / 256) as u8;
+    Ok(Kind { derived, basic })
 }
 
 // What a type number stands for: 9 where its top bit is set, else 8 where it is not of the table.
-pub fn kind_of(t: u32) -> Typed
+pub fn kind_of(t: u32) -> Result<Kind, Fault>
     ensures { (at next : ℕ) → kinds at next result ≡ kind_of at t next }
 {
     if 0x8000_0000 <= t {
-        return Typed::Refused(9);
+        return Err(Fault::UserType);
     }
     if 0x1_0000 <= t {
-        return Typed::Refused(8);
+        return Err(Fault::Type);
     }
-    let code = t % 256;
-    if code < Kind::INT {
-        return Typed::Refused(8);
-    }
-    if Kind::UNSIGNED_SHORT < code {
-        return Typed::Refused(8);
-    }
-    let derived = (t / 256) as u8;
-    let basic = basic_of(code);
-    Typed::Is(Kind { derived, basic })
+    kind_by(t)
 }
 
 // The type whose number stands at a place.
-pub fn kind_at(s: &[u8], at: usize) -> Kinded
+pub fn kind_at(s: &[u8], at: usize) -> Result<Kind, Refused>
     requires { (at ≤ length s.now) × (length s.now ≤ longest) }
     ensures { (kind_says at result ≡ kind_at s.now at) × Fitting at result (length s.now) }
 {
     if s.len() < at + 4 {
-        return Kinded::Refused(1, at);
+        return Err(Refused {
+            fault: Fault::CutShort,
+            place: at,
+        });
     }
-    let typed = kind_of(octets::u32_at(s, at));
-    match typed {
-        Typed::Is(kind) => Kinded::Is(kind),
-        Typed::Refused(n) => Kinded::Refused(n, at),
-    }
+    kind_of(octets::u32_at(s, at)).map_err(|fault| Refused { fault, place: at })
 }
 
 // The type at a place that is known to be accepted.
@@ -352,10 +256,7 @@ pub fn kind_here(s: &[u8], at: usize) -> Kind
     requires { is_ok (kind_at s.now at) ≡ true }
     ensures { (k : Kind) (next : ℕ) → kind_at s.now at ≡ ok k next → result ≡ k }
 {
-    let t = octets::u32_at(s, at);
-    let derived = (t / 256) as u8;
-    let basic = basic_of(t % 256);
-    Kind { derived, basic }
+    kind_by(octets::u32_at(s, at)).unwrap()
 }
 
 // The form of the values of the type at a place that is known to be accepted: the one place where a form is read off octets.
@@ -367,24 +268,22 @@ pub fn form_here(s: &[u8], at: usize) -> Form
 }
 
 // The place behind a boolean.
-fn truth_end(s: &[u8], at: usize, room: Room) -> Ended
+fn truth_end(s: &[u8], at: usize, room: Room) -> Result<usize, Refused>
     requires { (at ≤ 4294967296) × (reach room s.now ≤ length s.now) × (length s.now ≤ longest) }
     ensures { (says result ≡ ends (value_in room Form.Truth s.now at)) × Within at result (reach room s.now) }
 {
-    let one = octets::number_end(s, at, room, 1);
-    match one {
-        Ended::Refused(n, p) => Ended::Refused(n, p),
-        Ended::End(next) => {
-            if 1 < octets::u8_at(s, at) {
-                return Ended::Refused(14, at);
-            }
-            Ended::End(next)
-        }
+    let next = octets::number_end(s, at, room, 1)?;
+    if 1 < octets::u8_at(s, at) {
+        return Err(Refused {
+            fault: Fault::Boolean,
+            place: at,
+        });
     }
+    Ok(next)
 }
 
 // The place behind a value of a form.
-pub fn value_end(s: &[u8], at: usize, room: Room, form: Form) -> Ended
+pub fn value_end(s: &[u8], at: usize, room: Room, form: Form) -> Result<usize, Refused>
     requires { (at ≤ 4294967296) × (reach room s.now ≤ length s.now) × (length s.now ≤ longest) × Slim form }
     ensures { (says result ≡ ends (value_in room form s.now at)) × Within at result (reach room s.now) }
 {

@@ -2,14 +2,15 @@
 use Prim.Native.Nat.{ℕ, ◌+◌, ◌-◌, ◌≤◌, ◌<◌}
 use mathlib.Core.Path.{◌≡◌, refl, ap, ◌∙◌, sym}
 use mathlib.Core.List.{List, [], ◌∷◌, ◌++◌}
-use mathlib.Core.Bool.{Bool, true, false, not, ◌&&◌}
+use mathlib.Core.Bool.{Bool, true, false, not, ◌&&◌, ◌||◌}
 use mathlib.Core.Option.{some, none}
-use lib.ListN.{length, take, drop, set, get_or}
-use lib.Seq.{take-suc-set, drop-cons, drop-length}
+use lib.ListN.{length, take, set}
+use lib.Seq.{take-suc-set}
 use lib.Dec.{leb, eqb}
-use borrow.Author.Tests.{ne_eqb, eq-eqb, le-leb, lt-leb}
+use borrow.Author.Tests.{ne_eqb, eq-eqb, eqb-true, eqb-false, le-leb, lt-leb}
 use native.Mathlib.Numerals.{add-one}
 use native.Mathlib.Omega.{arith}
+use Rattle.std.specs.List.{list_any}
 use Rattle.octets.specs.Limits.{book_room, most_layouts}
 use Rattle.octets.specs.Reading.{Read, ok, no, choose, ends, is_ok, be, value_or}
 use Rattle.octets.specs.Writing.{Each, Octet}
@@ -21,16 +22,22 @@ use Rattle.layouts.proofs.Finding.{absent}
 use Rattle.layouts.proofs.Books.{layouts_end, layouts_more, book_forth}
 use Rattle.layouts.proofs.Parts.{layout_number}
 
--- A number is among others where it is the first or among the rest.
-module _ (n : ℕ) (met : List ℕ) (i : ℕ) (h : i < length met) where
-  pub among_here : n ≡ get_or met i 0 → is_among n (drop i met) ≡ true
-  among_here e = rw (drop-cons met i 0 h, eq-eqb n (get_or met i 0) e) refl
+either_side : (a b : ℕ) → eqb a b ≡ eqb b a
+either_side a b = go (eqb b a) refl
+  where
+    go : (t : Bool) → eqb b a ≡ t → eqb a b ≡ t
+    go true e = eq-eqb a b (sym (eqb-true b a e))
+    go false e = ne_eqb a b (λ q. eqb-false b a e (sym q))
 
-  pub among_on : (n ≡ get_or met i 0 → ⊥) → is_among n (drop i met) ≡ is_among n (drop (i + 1) met)
-  among_on e = rw (drop-cons met i 0 h, ne_eqb n (get_or met i 0) e, add-one i) refl
-
-pub among_end : (n : ℕ) (met : List ℕ) (i : ℕ) → i ≡ length met → is_among n (drop i met) ≡ false
-among_end n met i e = rw (e, drop-length met) refl
+-- A number is among others where one of them is equal to it, from whichever side the two are compared.
+pub among_any : (n : ℕ) (met : List ℕ) → list_any (λ (m : ℕ). eqb m n) met ≡ is_among n met
+among_any n [] = refl
+among_any n (m ∷ rest) = go (eqb n m) (eqb m n) (either_side m n) (among_any n rest)
+  where
+    go : (t u : Bool) → u ≡ t → list_any (λ (m : ℕ). eqb m n) rest ≡ is_among n rest
+        → u || list_any (λ (m : ℕ). eqb m n) rest ≡ choose t (λ _. true) (λ _. is_among n rest)
+    go t true e again = rw (sym e) refl
+    go t false e again = rw (sym e) again
 
 numbers_snoc : (book : Book) (l : Layout) → numbers_of (book ++ l ∷ []) ≡ numbers_of book ++ l.number ∷ []
 numbers_snoc [] l = refl
@@ -68,12 +75,16 @@ module _ (s : List ℕ) where
     pub met_end : pos ≡ length s → is_ok (layouts_at most_layouts [] s 0) ≡ true
     met_end e = ap is_ok (m.same ∙ layouts_end s (most_layouts - k) m.met pos e)
 
-    module _ (h : pos < length s) where
-      pub met_full : most_layouts ≤ k → is_ok (layouts_at most_layouts [] s 0) ≡ false
-      unfolding layouts_at
-      met_full f =
-          rw (m.same, none_left most_layouts k f, ne_eqb pos (length s) (λ z. omega arith)) refl
+    -- Where no more may follow, there are just these if the octets end here.
+    pub met_last : most_layouts ≤ k → eqb pos (length s) ≡ is_ok (layouts_at most_layouts [] s 0)
+    unfolding layouts_at
+    met_last f = rw (m.same, none_left most_layouts k f) (go (eqb pos (length s)))
+      where
+        go : (t : Bool) → t ≡ is_ok (choose {A = Read Book} t (λ _. ok m.met pos) (λ _. no 17 0))
+        go true = refl
+        go false = refl
 
+    module _ (h : pos < length s) where
       module _ (more : k < most_layouts) where
         pub met_refused : (n p : ℕ) → ends (layout_at s pos) ≡ no n p → is_ok (layouts_at most_layouts [] s 0) ≡ false
         unfolding layouts_at

@@ -1,5 +1,6 @@
 -- The contracts of layouts themselves that settle the answer: each allows one; of a part handed back, one content; where a layout was looked up, all but the place. Assumes nothing.
 use Prim.Native.Nat.{ℕ, ◌<◌}
+use Rattle.std.specs.Prelude.{Result, Ok, Err}
 use mathlib.Core.Path.{◌≡◌, refl, sym, ap, ◌∙◌}
 use mathlib.Core.List.{List, [], ◌∷◌, ◌++◌}
 use mathlib.Core.Option.{Option, some, none}
@@ -8,14 +9,15 @@ use lib.ListN.{length, drop, length-append, length-drop}
 use Rattle.octets.specs.OfContracts.{Once, OnceSeen}
 use Rattle.octets.proofs.Inverse.{ok_value, ok_place, no_ok}
 use Rattle.octets.proofs.Ends.{ended, value_is}
-use Rattle.octets.proofs.Contracts.{says_once}
+use Rattle.octets.proofs.Contracts.{says_once, fault_once}
 use Rattle.layouts.specs.Layout.{Attribute, Layout}
 use Rattle.layouts.specs.Book.{Book}
 use Rattle.layouts.specs.Answers.{Looks, Judges, looked_but}
 use Rattle.layouts.specs.declared.Looked.{Looked}
 use Rattle.layouts.specs.declared.Looked.TheVariants.{There, Missing}
 use Rattle.layouts.specs.declared.Learning.{Learning}
-use Rattle.layouts.specs.declared.Learning.TheVariants.{Known, New, Refused}
+use Rattle.layouts.specs.declared.Learning.TheVariants.{Known, New}
+use Rattle.octets.specs.declared.Fault.{Fault}
 use Rattle.layouts.proofs.layout_end as layout_end
 use Rattle.layouts.proofs.attribute_skip as attribute_skip
 use Rattle.layouts.proofs.attributes_at as attributes_at
@@ -68,16 +70,16 @@ longer : (book : Book) (l : Layout) → book ≡ book ++ l ∷ [] → ⊥
 longer book l e = omega (arith, ap length e, length-append book (l ∷ []))
 
 -- What a book makes of a layout is one.
-judges_once : (used : ℕ) (book : Book) (l : Layout) (at : ℕ) (x y : Learning) → Judges used book l at x → Judges used book l at y → x ≡ y
-judges_once used book l at Known Known e f = refl
-judges_once used book l at Known (New v) e f = absurd (longer book l (ok_value e f.0))
-judges_once used book l at Known (Refused n) e f = absurd (no_ok f e)
-judges_once used book l at (New u) Known e f = absurd (longer book l (ok_value f e.0))
-judges_once used book l at (New u) (New v) e f = ap New (e.1 ∙ sym f.1)
-judges_once used book l at (New u) (Refused n) e f = absurd (no_ok f e.0)
-judges_once used book l at (Refused m) Known e f = absurd (no_ok e f)
-judges_once used book l at (Refused m) (New v) e f = absurd (no_ok e f.0)
-judges_once used book l at (Refused m) (Refused n) e f = cc
+judges_once : (used : ℕ) (book : Book) (l : Layout) (at : ℕ) (x y : Result Learning Fault) → Judges used book l at x → Judges used book l at y → x ≡ y
+judges_once used book l at (Ok Known) (Ok Known) e f = refl
+judges_once used book l at (Ok Known) (Ok (New v)) e f = absurd (longer book l (ok_value e f.0))
+judges_once used book l at (Ok Known) (Err n) e f = absurd (no_ok f e)
+judges_once used book l at (Ok (New u)) (Ok Known) e f = absurd (longer book l (ok_value f e.0))
+judges_once used book l at (Ok (New u)) (Ok (New v)) e f = ap (λ (k : ℕ). Ok (New k)) (e.1 ∙ sym f.1)
+judges_once used book l at (Ok (New u)) (Err n) e f = absurd (no_ok f e.0)
+judges_once used book l at (Err m) (Ok Known) e f = absurd (no_ok e f)
+judges_once used book l at (Err m) (Ok (New v)) e f = absurd (no_ok e f.0)
+judges_once used book l at (Err m) (Err n) e f = ap Err (fault_once m n (cc))
 
 pub contracts : Contracts
 contracts =

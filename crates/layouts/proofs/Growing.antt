@@ -1,5 +1,6 @@
 -- Learning a layout: what it does to a book, and that a part of an accepted document's book can always learn.
 use Prim.Native.Nat.{ℕ, ◌+◌, ◌≤◌, ◌<◌}
+use Rattle.std.specs.Prelude.{Result, Ok, Err}
 use mathlib.Core.Path.{◌≡◌, refl, sym, ◌∙◌, ap}
 use mathlib.Core.List.{[], ◌∷◌, ◌++◌}
 use mathlib.Core.Bool.{Bool, true, false, ◌&&◌}
@@ -16,7 +17,8 @@ use Rattle.octets.proofs.Inverse.{ok_value, no_ok}
 use Rattle.layouts.specs.Layout.{Layout, layout_image, GoodLayout}
 use Rattle.layouts.specs.Book.{Book, find, is_none, book_image, learning, learn_by, learn, Distinct, GoodBook}
 use Rattle.layouts.specs.declared.Learning.{Learning}
-use Rattle.layouts.specs.declared.Learning.TheVariants.{Known, New, Refused}
+use Rattle.layouts.specs.declared.Learning.TheVariants.{Known, New}
+use Rattle.octets.specs.declared.Fault.{Fault}
 use Rattle.layouts.proofs.Finding.{some_same, First, first, find_here, find_nil, find_front, find_behind, Within, within_front, within_snoc, distinct_snoc, each_find, total, total_within, total_length, total_image}
 use Rattle.layouts.proofs.Layouts.{layout_once}
 use Rattle.layouts.proofs.Books.{image_nil, image_snoc}
@@ -32,10 +34,10 @@ pub learnt : (b : Book) (l : Layout) (at : ℕ) (c : Book) (end : ℕ) → learn
 unfolding learn
 learnt b l at c end e = go (learning b (length (book_image b)) l.number (layout_image l)) (learned b (length (book_image b)) l.number (layout_image l)) e
   where
-    go : (x : Learning) → Learned b (length (book_image b)) l.number (layout_image l) x → learn_by b l at x ≡ ok c end → Learnt b l c
-    go Known w e = inl (w.0, w.1, w.2, ok_value e refl)
-    go (New v) w e = inr (w.0, w.1, w.2, ok_value e refl)
-    go (Refused n) w e = absurd (no_ok refl e)
+    go : (x : Result Learning Fault) → Learned b (length (book_image b)) l.number (layout_image l) x → learn_by b l at x ≡ ok c end → Learnt b l c
+    go (Ok Known) w e = inl (w.0, w.1, w.2, ok_value e refl)
+    go (Ok (New v)) w e = inr (w.0, w.1, w.2, ok_value e refl)
+    go (Err f) w e = absurd (no_ok refl e)
 
 pub learn_known : (b : Book) (l : Layout) (at : ℕ) (m : Layout) → find l.number b ≡ some m → layout_image m ≡ layout_image l → learn b l at ≡ ok b at
 unfolding learn

@@ -1,4 +1,5 @@
 -- What a book makes of a layout's octets: by what was found under its number, and back; and a layout of a book compared with two runs of octets, one behind the other.
+use Rattle.std.specs.Prelude.{Result, Ok, Err}
 use mathlib.Core.Path.{◌≡◌, refl, sym, ap, ◌∙◌}
 use mathlib.Core.List.{List, [], ◌∷◌, ◌++◌}
 use mathlib.Core.Bool.{Bool, true, false, ◌&&◌}
@@ -18,42 +19,44 @@ use Rattle.layouts.specs.Layout.{Layout, layout_at, layout_image}
 use Rattle.layouts.specs.Book.{Book, find, book_image, learning_by, learning, learn_by, learn}
 use Rattle.layouts.specs.Answers.{Judges}
 use Rattle.layouts.specs.declared.Learning.{Learning}
-use Rattle.layouts.specs.declared.Learning.TheVariants.{Known, New, Refused}
+use Rattle.layouts.specs.declared.Learning.TheVariants.{Known, New}
+use Rattle.octets.specs.declared.Fault.{Fault}
+use Rattle.octets.specs.declared.Fault.TheVariants.{Differs, BookFull}
 use Rattle.layouts.proofs.Parts.{layout_number}
 use Rattle.layouts.proofs.Lends.{layout_part}
 
 module _ (book : Book) (used n : ℕ) (xs : List ℕ) where
-  pub learning_same : (m : Layout) → find n book ≡ some m → same (layout_image m) xs ≡ true → learning book used n xs ≡ Known
+  pub learning_same : (m : Layout) → find n book ≡ some m → same (layout_image m) xs ≡ true → learning book used n xs ≡ Ok Known
   learning_same m e h = rw (e, h) refl
 
-  pub learning_other : (m : Layout) → find n book ≡ some m → same (layout_image m) xs ≡ false → learning book used n xs ≡ Refused 10
+  pub learning_other : (m : Layout) → find n book ≡ some m → same (layout_image m) xs ≡ false → learning book used n xs ≡ Err Differs
   learning_other m e h = rw (e, h) refl
 
   module _ (e : find n book ≡ none) where
-    pub learning_many : most_layouts ≤ length book → learning book used n xs ≡ Refused 11
+    pub learning_many : most_layouts ≤ length book → learning book used n xs ≡ Err BookFull
     learning_many h = rw (e, le-ltb (length book) most_layouts h) refl
 
-    pub learning_long : length book < most_layouts → book_room < used + length xs → learning book used n xs ≡ Refused 11
+    pub learning_long : length book < most_layouts → book_room < used + length xs → learning book used n xs ≡ Err BookFull
     learning_long f h = rw (e, lt-ltb (length book) most_layouts f, lt-leb (used + length xs) book_room h) refl
 
-    pub learning_new : length book < most_layouts → used + length xs ≤ book_room → learning book used n xs ≡ New (used + length xs)
+    pub learning_new : length book < most_layouts → used + length xs ≤ book_room → learning book used n xs ≡ Ok (New (used + length xs))
     learning_new f h = rw (e, lt-ltb (length book) most_layouts f, le-leb (used + length xs) book_room h) refl
 
   -- What each answer says.
-  abbrev pub Learned : Learning → Type 0
-  Learned Known = (m : Layout) × (find n book ≡ some m) × (layout_image m ≡ xs)
-  Learned (New v) = (find n book ≡ none) × (length book < most_layouts) × (used + length xs ≤ book_room) × (v ≡ used + length xs)
-  Learned (Refused k) = (k ≡ 10) ⊎ (k ≡ 11)
+  abbrev pub Learned : Result Learning Fault → Type 0
+  Learned (Ok Known) = (m : Layout) × (find n book ≡ some m) × (layout_image m ≡ xs)
+  Learned (Ok (New v)) = (find n book ≡ none) × (length book < most_layouts) × (used + length xs ≤ book_room) × (v ≡ used + length xs)
+  Learned (Err f) = (f ≡ Differs) ⊎ (f ≡ BookFull)
 
   pub learned : Learned (learning book used n xs)
   learned = go (find n book) refl
     where
-      known : (m : Layout) → find n book ≡ some m → (t : Bool) → same (layout_image m) xs ≡ t → Learned (choose t (λ _. Known) (λ _. Refused 10))
+      known : (m : Layout) → find n book ≡ some m → (t : Bool) → same (layout_image m) xs ≡ t → Learned (choose t (λ _. Ok Known) (λ _. Err Differs))
       known m e true h = (m, e, same_true _ _ h)
       known m e false h = inl refl
 
       new : find n book ≡ none → (t u : Bool) → ltb (length book) most_layouts ≡ t → leb (used + length xs) book_room ≡ u
-          → Learned (choose (t && u) (λ _. New (used + length xs)) (λ _. Refused 11))
+          → Learned (choose (t && u) (λ _. Ok (New (used + length xs))) (λ _. Err BookFull))
       new e true true h k = (e, ltb-true _ _ h, leb-true _ _ k, refl)
       new e true false h k = inr refl
       new e false true h k = inr refl
@@ -68,11 +71,11 @@ pub judges : (book : Book) (l : Layout) (at : ℕ) → Judges (length (book_imag
 unfolding learn
 judges book l at = go (learning book (length (book_image book)) l.number (layout_image l)) refl (learned book (length (book_image book)) l.number (layout_image l))
   where
-    go : (x : Learning) → learning book (length (book_image book)) l.number (layout_image l) ≡ x → Learned book (length (book_image book)) l.number (layout_image l) x
+    go : (x : Result Learning Fault) → learning book (length (book_image book)) l.number (layout_image l) ≡ x → Learned book (length (book_image book)) l.number (layout_image l) x
         → Judges (length (book_image book)) book l at x
-    go Known e w = ap (learn_by book l at) e
-    go (New v) e w = (ap (learn_by book l at) e, w.3, rw w.3 w.2)
-    go (Refused n) e w = ap (learn_by book l at) e
+    go (Ok Known) e w = ap (learn_by book l at) e
+    go (Ok (New v)) e w = (ap (learn_by book l at) e, w.3, rw w.3 w.2)
+    go (Err f) e w = ap (learn_by book l at) e
 
 -- Runs joined are the same where each is.
 same_join : (a b c d : List ℕ) → length a ≡ length c → same (a ++ b) (c ++ d) ≡ same a c && same b d

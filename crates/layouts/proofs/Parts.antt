@@ -1,19 +1,18 @@
 -- What stands in the octets of an accepted attribute or layout: its fields with their places, and its attributes by index.
 -- A reading that succeeds is taken apart field by field; attribute n stands behind the run of the first n.
-use Prim.Native.Nat.{ℕ, zero, suc, ◌+◌, ◌≤◌, ◌<◌}
+use Prim.Native.Nat.{ℕ, suc, ◌+◌, ◌≤◌, ◌<◌}
 use mathlib.Core.Path.{◌≡◌, sym, ap, ◌∙◌, subst}
 use mathlib.Core.List.{List, ◌++◌}
 use mathlib.Core.Bool.{true}
 use lib.ListN.{length, drop}
-use native.Mathlib.Numerals.{add-one}
 use native.Mathlib.Omega.{arith}
 use Rattle.octets.specs.Limits.{most_attributes}
-use Rattle.octets.specs.Reading.{Read, ok, ends, is_ok, be, number, count, run}
+use Rattle.octets.specs.Reading.{ok, ends, is_ok, be, number, count, run}
 use Rattle.octets.specs.Writing.{Each, Octet}
 use Rattle.octets.proofs.Spans.{spans_front}
 use Rattle.octets.proofs.Inverse.{after, ok_value, ok_place}
-use Rattle.octets.proofs.Ends.{one_end, number_ok, number_room, count_ok, count_room, ends_ok, value_is, run_on, run_none, run_first}
-use Rattle.octets.proofs.Runs.{run_item, run_length}
+use Rattle.octets.proofs.Ends.{one_end, number_ok, number_room, count_ok, count_room, ends_ok, value_is}
+use Rattle.octets.proofs.Runs.{Item, run_item, run_length}
 use Rattle.texts.specs.Texts.{text}
 use Rattle.kinds.specs.Kinds.{kind_at}
 use Rattle.kinds.proofs.Table.{kind_is}
@@ -128,21 +127,16 @@ layout_extends s t at l next o e =
     let (u, g, p) = (layout_inverse s).forth o (omega (arith, (layout_number s at e).0)) e in
     (layout_inverse (s ++ t)).back l tt g (spans_front t p)
 
--- A run of one more.
-run_last : {A : Type 0} (f : ℕ → Read A) (i at : ℕ) {p q : ℕ} → ends (run f i at) ≡ ok p p → ends (f p) ≡ ok q q → ends (run f (suc i) at) ≡ ok q q
-run_last f zero at {p} {q} e g =
-    let same : at ≡ p = cc (run_none f at, e) in
-    run_on f at 0 q (ap (λ (n : ℕ). ends (f n)) same ∙ g) ∙ run_none f q
-run_last f (suc i) at e g =
-    let (a, next, h) = value_is (f at) (run_first f at i (sym (ends_ok (run f (suc i) at)) ∙ ap is_ok e)) in
-    run_on f at (suc i) next (ap ends h) ∙ run_last f i next (sym (run_on f at i next (ap ends h)) ∙ e) g
+-- The attributes of a layout by index: the first i of them are read, and where they end, attribute i stands.
+module _ (s : List ℕ) (at : ℕ) {l : Layout} {end mid : ℕ} (d : Fields s at l end mid) (i : ℕ) (h : i < length l.attributes) where
+  item : Item (attribute_at s) (mid + 4) l.attributes i
+  item = run_item (attribute_at s) (be 4 s mid) (mid + 4) end i l.attributes d.attributes h
 
--- The attributes of a layout by index: where the first i end, attribute i stands.
-module _ (s : List ℕ) (at : ℕ) {l : Layout} {end mid : ℕ} (d : Fields s at l end mid) (i pos : ℕ) (h : i < length l.attributes)
-    (e : ends (run (attribute_at s) i (mid + 4)) ≡ ok pos pos) where
-  pub nth_here : Nth s l.attributes i pos
-  nth_here =
-      let item = run_item (attribute_at s) (be 4 s mid) (mid + 4) end i l.attributes d.attributes h in
+  pub first_read : is_ok (run (attribute_at s) i (mid + 4)) ≡ true
+  first_read = sym (ends_ok (run (attribute_at s) i (mid + 4))) ∙ ap is_ok item.before
+
+  pub nth_here : (pos : ℕ) → ends (run (attribute_at s) i (mid + 4)) ≡ ok pos pos → Nth s l.attributes i pos
+  nth_here pos e =
       let same : item.place ≡ pos = cc (item.before, e) in
       record {
         attribute = item.item;
@@ -151,7 +145,3 @@ module _ (s : List ℕ) (at : ℕ) {l : Layout} {end mid : ℕ} (d : Fields s at
         is = item.is;
         reads = ap (attribute_at s) (sym same) ∙ item.reads;
       }
-
-pub nth_on : (s : List ℕ) (first i pos next : ℕ) → ends (run (attribute_at s) i first) ≡ ok pos pos → ends (attribute_at s pos) ≡ ok next next
-    → ends (run (attribute_at s) (i + 1) first) ≡ ok next next
-nth_on s first i pos next e g = rw (add-one i) (run_last (attribute_at s) i first e g)

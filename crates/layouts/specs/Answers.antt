@@ -1,15 +1,17 @@
 -- What the answers about layouts and books say.
-use Rattle.std.specs.Prelude.{ℕ, ◌+◌, ◌≤◌, ◌<◌, ◌≡◌, List, [], ◌∷◌, ◌++◌, Bool, true, false, length, drop, eqb}
+use Rattle.std.specs.Prelude.{ℕ, ◌+◌, ◌≤◌, ◌<◌, ◌≡◌, List, [], ◌∷◌, ◌++◌, Bool, true, false, length, drop, eqb, Result, Ok, Err}
 use Rattle.std.proofs.Math.Option.{some, none}
 use Rattle.octets.specs.Limits.{book_room}
 use Rattle.octets.specs.Reading.{ok, no, choose}
 use Rattle.octets.specs.Writing.{Each}
+use Rattle.octets.specs.Faults.{number_of}
+use Rattle.octets.specs.declared.Fault.{Fault}
 use Rattle.layouts.specs.Layout.{Attribute, Layout, attribute_at, layout_at, layout_image, GoodLayout}
 use Rattle.layouts.specs.Book.{Book, find, book_image, learn}
 use Rattle.layouts.specs.declared.Looked.{Looked}
 use Rattle.layouts.specs.declared.Looked.TheVariants.{There, Missing}
 use Rattle.layouts.specs.declared.Learning.{Learning}
-use Rattle.layouts.specs.declared.Learning.TheVariants.{Known, New, Refused}
+use Rattle.layouts.specs.declared.Learning.TheVariants.{Known, New}
 
 -- Whether a number is among some.
 abbrev pub is_among : ℕ → List ℕ → Bool
@@ -49,10 +51,10 @@ Stood s (There p) = Reads s p
 Stood s (Missing k) = Unit {0}
 
 -- What learning a layout at a place does to a book that uses so many octets; a new one fits right behind them.
-abbrev pub Judges : ℕ → Book → Layout → ℕ → Learning → Type 0
-Judges used book l at Known = learn book l at ≡ ok book at
-Judges used book l at (New v) = (learn book l at ≡ ok (book ++ l ∷ []) at) × (v ≡ used + length (layout_image l)) × (v ≤ book_room)
-Judges used book l at (Refused n) = learn book l at ≡ no n at
+abbrev pub Judges : ℕ → Book → Layout → ℕ → Result Learning Fault → Type 0
+Judges used book l at (Ok Known) = learn book l at ≡ ok book at
+Judges used book l at (Ok (New v)) = (learn book l at ≡ ok (book ++ l ∷ []) at) × (v ≡ used + length (layout_image l)) × (v ≤ book_room)
+Judges used book l at (Err f) = learn book l at ≡ no (number_of f) at
 
 -- A layout of more than n attributes stands at a place.
 pub record Has (s : List ℕ) (at n : ℕ) : Type 0 where

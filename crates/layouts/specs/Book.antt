@@ -1,12 +1,15 @@
 -- The book: layouts of different numbers, in the order met.
-use Rattle.std.specs.Prelude.{ℕ, zero, suc, ◌+◌, ◌≤◌, ◌≡◌, List, [], ◌∷◌, ◌++◌, Bool, true, false, ◌&&◌, length, take, leb, ltb, eqb}
+use Rattle.std.specs.Prelude.{ℕ, zero, suc, ◌+◌, ◌≤◌, ◌≡◌, List, [], ◌∷◌, ◌++◌, Bool, true, false, ◌&&◌, length, take, leb, ltb, eqb, Result, Ok, Err}
 use Rattle.std.proofs.Math.Option.{Option, some, none}
 use Rattle.octets.specs.Limits.{book_room, most_layouts}
 use Rattle.octets.specs.Reading.{Read, ok, no, ◌then◌, choose, value_or, same}
 use Rattle.octets.specs.Writing.{images, Each}
+use Rattle.octets.specs.Faults.{number_of}
+use Rattle.octets.specs.declared.Fault.{Fault}
+use Rattle.octets.specs.declared.Fault.TheVariants.{Differs, BookFull}
 use Rattle.layouts.specs.Layout.{Layout, layout_at, layout_image, GoodLayout}
 use Rattle.layouts.specs.declared.Learning.{Learning}
-use Rattle.layouts.specs.declared.Learning.TheVariants.{Known, New, Refused}
+use Rattle.layouts.specs.declared.Learning.TheVariants.{Known, New}
 
 abbrev pub Book : Type 0
 Book = List Layout
@@ -71,20 +74,20 @@ abbrev pub IsBook : List ℕ → ℕ → Type 0
 IsBook octets used = book_of octets used ≡ ok (book_in octets used) used
 
 -- What a book that uses so many octets makes of a layout, by the layout's octets from its number to its last type and by what the book has under that number. Equal octets add nothing, and others are refusal 10; a new layout that would be the 65th, or pass 32,768 octets, is 11.
-abbrev pub learning_by : Book → ℕ → List ℕ → Option Layout → Learning
-learning_by book used xs (some m) = choose (same (layout_image m) xs) (λ _. Known) (λ _. Refused 10)
+abbrev pub learning_by : Book → ℕ → List ℕ → Option Layout → Result Learning Fault
+learning_by book used xs (some m) = choose (same (layout_image m) xs) (λ _. Ok Known) (λ _. Err Differs)
 learning_by book used xs none =
-    choose (ltb (length book) most_layouts && leb (used + length xs) book_room) (λ _. New (used + length xs)) (λ _. Refused 11)
+    choose (ltb (length book) most_layouts && leb (used + length xs) book_room) (λ _. Ok (New (used + length xs))) (λ _. Err BookFull)
 
 -- The same by the number.
-abbrev pub learning : Book → ℕ → ℕ → List ℕ → Learning
+abbrev pub learning : Book → ℕ → ℕ → List ℕ → Result Learning Fault
 learning book used n xs = learning_by book used xs (find n book)
 
 -- The book with a layout learnt whose number stands at a place, where its refusal is.
-abbrev pub learn_by : Book → Layout → ℕ → Learning → Read Book
-learn_by book l at Known = ok book at
-learn_by book l at (New v) = ok (book ++ l ∷ []) at
-learn_by book l at (Refused n) = no n at
+abbrev pub learn_by : Book → Layout → ℕ → Result Learning Fault → Read Book
+learn_by book l at (Ok Known) = ok book at
+learn_by book l at (Ok (New v)) = ok (book ++ l ∷ []) at
+learn_by book l at (Err f) = no (number_of f) at
 
 unfoldable pub learn : Book → Layout → ℕ → Read Book
 learn book l at = learn_by book l at (learning book (length (book_image book)) l.number (layout_image l))

@@ -11,91 +11,57 @@ ghost use Rattle.texts.specs.Texts.{text};
 ghost use Rattle.kinds.specs.Kinds.{kind_at};
 ghost use Rattle.layouts.specs.Layout.{Attribute, Layout, attribute_at, layout_at, layout_image};
 ghost use Rattle.layouts.specs.Book.{Book, book_image, book_of, book_in, IsBook, layouts_at, learning};
-ghost use Rattle.layouts.specs.Answers.{is_among, Image, Holds, Looks, Stood, Reads, Judges, Nth, Has};
+ghost use Rattle.layouts.specs.Answers.{Image, Holds, Looks, Stood, Reads, Judges, Nth, Has};
 
-use kinds::{Kind, Kinded};
-use octets::{Counted, Ended};
+use kinds::Kind;
+use octets::{Fault, Refused};
 
-// Where a number was looked up: the place of its layout, or how many layouts there are, none of them its.
+// Where a number was looked up: the place of its layout, or how many layouts there are, none of them its. Neither is a refusal.
 #[derive(Clone, Copy)]
 pub enum Looked {
     There(usize),
     Missing(usize),
 }
 
-// How a layout stands to a book: known already, new with the octets that the book uses then, or refused by number.
+// How a layout that is not refused stands to a book: known already, or new with the octets that the book uses then.
 #[derive(Clone, Copy)]
 pub enum Learning {
     Known,
     New(usize),
-    Refused(u32),
 }
 
 // The place behind the type at a place.
-fn kind_end(s: &[u8], at: usize) -> Ended
+fn kind_end(s: &[u8], at: usize) -> Result<usize, Refused>
     requires { (at ≤ length s.now) × (length s.now ≤ longest) }
     ensures { (says result ≡ ends (kind_at s.now at)) × Within at result (length s.now) }
 {
-    let kind = kinds::kind_at(s, at);
-    match kind {
-        Kinded::Is(k) => Ended::End(at + 4),
-        Kinded::Refused(n, p) => Ended::Refused(n, p),
-    }
+    kinds::kind_at(s, at)?;
+    Ok(at + 4)
 }
 
 // The place behind the attribute at a place.
-fn attribute_end(s: &[u8], at: usize) -> Ended
+fn attribute_end(s: &[u8], at: usize) -> Result<usize, Refused>
     requires { (at ≤ length s.now) × (length s.now ≤ longest) }
     ensures { (says result ≡ ends (attribute_at s.now at)) × Within at result (length s.now) }
 {
-    let name = texts::text_end(s, at);
-    match name {
-        Ended::Refused(n, p) => Ended::Refused(n, p),
-        Ended::End(next) => kind_end(s, next),
-    }
-}
-
-// The place behind the run of attributes at a place.
-fn attributes_end(s: &[u8], at: usize, count: u32) -> Ended
-    requires { (at ≤ length s.now) × (length s.now ≤ longest) }
-    ensures { (says result ≡ ends (run (attribute_at s.now) count at)) × Within at result (length s.now) }
-{
-    let mut pos = at;
-    let mut i: u32 = 0;
-    while i < count {
-        let one = attribute_end(s, pos);
-        match one {
-            Ended::Refused(n, p) => {
-                return Ended::Refused(n, p);
-            }
-            Ended::End(next) => {
-                pos = next;
-            }
-        }
-        i += 1;
-    }
-    Ended::End(pos)
+    let next = texts::text_end(s, at)?;
+    kind_end(s, next)
 }
 
 // The place behind the layout whose number stands at a place of a document or a book.
-pub fn layout_end(s: &[u8], at: usize) -> Ended
+pub fn layout_end(s: &[u8], at: usize) -> Result<usize, Refused>
     requires { (at ≤ length s.now) × (length s.now ≤ longest) }
     ensures { (says result ≡ ends (layout_at s.now at)) × Within at result (length s.now) }
 {
     if s.len() < at + 4 {
-        return Ended::Refused(1, at);
+        return Err(Refused {
+            fault: Fault::CutShort,
+            place: at,
+        });
     }
-    let name = texts::text_end(s, at + 4);
-    match name {
-        Ended::Refused(n, p) => Ended::Refused(n, p),
-        Ended::End(counted) => {
-            let count = octets::count_at(s, counted, octets::MOST_ATTRIBUTES);
-            match count {
-                Counted::Refused(n, p) => Ended::Refused(n, p),
-                Counted::Count(k, first) => attributes_end(s, first, k),
-            }
-        }
-    }
+    let counted = texts::text_end(s, at + 4)?;
+    let (count, first) = octets::count_at(s, counted, octets::MOST_ATTRIBUTES)?;
+    octets::run_end(first, count, |p| attribute_end(s, p))
 }
 
 // The place behind an attribute that is known to be accepted.
@@ -106,6 +72,18 @@ pub fn attribute_skip(s: &[u8], at: usize) -> usize
     texts::text_skip(s, at) + 4
 }
 
+// The place behind a run of attributes that is known to be accepted: lengths alone are read.
+fn attributes_skip(s: &[u8], at: usize, count: u32) -> usize
+    requires { (length s.now ≤ longest) × (is_ok (run (attribute_at s.now) count at) ≡ true) }
+    ensures { ends (run (attribute_at s.now) count at) ≡ ok result result }
+{
+    let mut pos = at;
+    for _ in 0..count {
+        pos = attribute_skip(s, pos);
+    }
+    pos
+}
+
 // The place of the count of attributes of a layout that is known to be accepted: right behind its type name.
 pub fn attributes_at(s: &[u8], at: usize) -> usize
     requires { (length s.now ≤ longest) × (is_ok (layout_at s.now at) ≡ true) }
@@ -114,23 +92,16 @@ pub fn attributes_at(s: &[u8], at: usize) -> usize
     texts::text_skip(s, at + 4)
 }
 
-// The place behind a layout that is known to be accepted: lengths alone are read.
+// The place behind a layout that is known to be accepted.
 pub fn layout_skip(s: &[u8], at: usize) -> usize
     requires { (length s.now ≤ longest) × (is_ok (layout_at s.now at) ≡ true) }
     ensures { ends (layout_at s.now at) ≡ ok result result }
 {
-    let mid = attributes_at(s, at);
-    let k = octets::u32_at(s, mid);
-    let mut pos = mid + 4;
-    let mut i: u32 = 0;
-    while i < k {
-        pos = attribute_skip(s, pos);
-        i += 1;
-    }
-    pos
+    let counted = attributes_at(s, at);
+    attributes_skip(s, counted + 4, octets::u32_at(s, counted))
 }
 
-// Looks a number up in octets that are the image of layouts.
+// Looks a number up in octets that are the image of layouts. Only at the end of these is it known how many they are.
 pub fn look_in(s: &[u8], number: u32) -> Looked
     requires { (length s.now ≤ longest) × Holds s.now }
     ensures { (book : Book) → Image s.now book → Looks s.now number book result }
@@ -155,57 +126,37 @@ pub fn find(book: &[u8], used: usize, number: u32) -> Looked
     look_in(&book[..used], number)
 }
 
-// Whether a number is among those met.
-fn is_among(met: &[u32], number: u32) -> bool
-    ensures { result ≡ is_among number met.now }
-{
-    let mut i = 0;
-    while i < met.len() {
-        if number == met[i] {
-            return true;
-        }
-        i += 1;
-    }
-    false
-}
-
 // Whether octets are whole valid layouts of different numbers, at most 64: each layout is read once, and its number kept to compare.
+#[inline(always)]
 fn are_layouts(s: &[u8]) -> bool
     requires { length s.now ≤ longest }
     ensures { result ≡ is_ok (layouts_at most_layouts [] s.now 0) }
 {
     let mut met = [0u32; octets::MOST_LAYOUTS];
     let mut pos = 0;
-    let mut k: usize = 0;
-    while pos < s.len() {
-        if octets::MOST_LAYOUTS <= k {
-            return false;
+    for k in 0..octets::MOST_LAYOUTS {
+        if pos == s.len() {
+            return true;
         }
-        let Ended::End(next) = layout_end(s, pos) else {
+        let Ok(next) = layout_end(s, pos) else {
             return false;
         };
         let number = octets::u32_at(s, pos);
-        if is_among(&met[..k], number) {
+        if met[..k].contains(&number) {
             return false;
         }
         met[k] = number;
         pos = next;
-        k += 1;
     }
-    true
+    pos == s.len()
 }
 
 // Whether lent octets, of which so many are used, hold a book.
+#[inline(always)]
 pub fn is_book(book: &[u8], used: usize) -> bool
     ensures { result ≡ is_ok (book_of book.now used) }
 {
-    if book.len() < octets::BOOK_ROOM {
-        return false;
-    }
-    if octets::BOOK_ROOM < used {
-        return false;
-    }
-    are_layouts(&book[..used])
+    octets::BOOK_ROOM <= book.len() && used <= octets::BOOK_ROOM && are_layouts(&book[..used])
 }
 
 // Whether the layout at a place is two runs of octets, one behind the other, compared where they stand.
@@ -218,10 +169,7 @@ fn same_runs<'s, 'f, 'l>(s: &'s [u8], at: usize, front: &'f [u8], last: &'l [u8]
         return false;
     }
     let mid = at + front.len();
-    if !octets::octets_same(&s[at..mid], front) {
-        return false;
-    }
-    octets::octets_same(&s[mid..end], last)
+    octets::octets_same(&s[at..mid], front) && octets::octets_same(&s[mid..end], last)
 }
 
 // How a layout of these octets, two runs one behind the other, stands to a book that uses so many octets, by where its number was looked up among the book's layouts, which stand in other octets.
@@ -231,30 +179,30 @@ pub fn judge_runs<'f, 'l, 's>(
     s: &'s [u8],
     looked: Looked,
     used: usize,
-) -> Learning
+) -> Result<Learning, Fault>
     requires { (length s.now ≤ longest) × (used ≤ book_room) × Stood s.now looked }
     ensures { (book : Book) (n : ℕ) → Looks s.now n book looked → result ≡ learning book used n (front.now ++ last.now) }
 {
     match looked {
         Looked::There(p) => {
             if same_runs(s, p, front, last) {
-                Learning::Known
+                Ok(Learning::Known)
             } else {
-                Learning::Refused(10)
+                Err(Fault::Differs)
             }
         }
         Looked::Missing(k) => {
             if octets::MOST_LAYOUTS <= k {
-                return Learning::Refused(11);
+                return Err(Fault::BookFull);
             }
             let left = octets::BOOK_ROOM - used;
             if left < front.len() {
-                return Learning::Refused(11);
+                return Err(Fault::BookFull);
             }
             if left - front.len() < last.len() {
-                return Learning::Refused(11);
+                return Err(Fault::BookFull);
             }
-            Learning::New(used + front.len() + last.len())
+            Ok(Learning::New(used + front.len() + last.len()))
         }
     }
 }
@@ -267,7 +215,7 @@ pub fn judge_by<'d, 's>(
     s: &'s [u8],
     looked: Looked,
     used: usize,
-) -> Learning
+) -> Result<Learning, Fault>
     requires { (at ≤ end) × (end ≤ length doc.now) × (ends (layout_at doc.now at) ≡ ok end end) × (length s.now ≤ longest) × (used ≤ book_room) × Stood s.now looked }
     ensures { (book : Book) (l : Layout) → layout_at doc.now at ≡ ok l end → Looks s.now l.number book looked → length (book_image book) ≡ used → Judges used book l at result }
 {
@@ -275,7 +223,7 @@ pub fn judge_by<'d, 's>(
 }
 
 // How the layout from a place of a document to its end stands to the used octets of a good book.
-pub fn judge<'d, 'b>(doc: &'d [u8], at: usize, end: usize, s: &'b [u8]) -> Learning
+pub fn judge<'d, 'b>(doc: &'d [u8], at: usize, end: usize, s: &'b [u8]) -> Result<Learning, Fault>
     requires { (at ≤ end) × (end ≤ length doc.now) × (ends (layout_at doc.now at) ≡ ok end end) × (length s.now ≤ book_room) × Holds s.now }
     ensures { (book : Book) (l : Layout) → Image s.now book → layout_at doc.now at ≡ ok l end → Judges (length s.now) book l at result }
 {
@@ -312,13 +260,7 @@ pub fn attribute_place(s: &[u8], at: usize, n: u32) -> usize
     requires { (length s.now ≤ longest) × Has s.now at n }
     ensures { (l : Layout) (end : ℕ) → layout_at s.now at ≡ ok l end → Nth s.now l.attributes n result }
 {
-    let mut pos = attributes_at(s, at) + 4;
-    let mut i: u32 = 0;
-    while i < n {
-        pos = attribute_skip(s, pos);
-        i += 1;
-    }
-    pos
+    attributes_skip(s, attributes_at(s, at) + 4, n)
 }
 
 // The type behind the name of an attribute that is known to be accepted at a place.

@@ -1,8 +1,8 @@
--- The contracts of the lines themselves that settle what is printed: one count of what waits and one content of the buffer, for every input. Assumes nothing.
+-- The contracts of the lines themselves that settle what is printed: one page, for every input. Assumes nothing.
 use mathlib.Core.Path.{refl}
 use Rattle.octets.specs.OfContracts.{Once}
 use Rattle.octets.proofs.Alike.{◌also◌}
-use Rattle.printing.proofs.Waits.{one_print}
+use Rattle.printing.proofs.Pages.{one_page}
 use Rattle.lines.proofs.header_line as header_line
 use Rattle.lines.proofs.numbered as numbered
 use Rattle.lines.proofs.behind as behind
@@ -23,11 +23,11 @@ pub record Contracts : Type 0 where
 pub contracts : Contracts
 contracts =
     record {
-      of_header_line = λ κs a p x y u v e f. let q = one_print e f in (q.1, q.0 also refl);
-      of_numbered = λ κs a p x y u v e f. let q = one_print e f in (q.1, q.0 also refl);
-      of_behind = λ κs a p x y u v e f. let q = one_print e f in (q.1, q.0 also refl);
-      of_layout_line = λ κs a p x y u v e f. let q = one_print e f in (q.1, q.0 also refl);
-      of_value_word = λ κs a p x y u v e f. let q = one_print e f in (q.1, q.0 also refl);
-      of_end_line = λ κs a p x y u v e f. let q = one_print e f in (q.1, q.0 also refl);
-      of_refused_line = λ κs a p x y u v e f. let q = one_print e f in (q.1, q.0 also refl);
+      of_header_line = λ κs a p x y u v e f. (refl, one_page e f also refl);
+      of_numbered = λ κs a p x y u v e f. (refl, one_page e f also refl);
+      of_behind = λ κs a p x y u v e f. (refl, one_page e f also refl);
+      of_layout_line = λ κs a p x y u v e f. (refl, one_page e f also refl);
+      of_value_word = λ κs a p x y u v e f. (refl, one_page e f also refl);
+      of_end_line = λ κs a p x y u v e f. (refl, one_page e f also refl);
+      of_refused_line = λ κs a p x y u v e f. (refl, one_page e f also refl);
     }

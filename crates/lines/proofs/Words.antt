@@ -7,34 +7,36 @@ use lib.ListN.{length, take, drop, get_or}
 use lib.Seq.{drop-cons}
 use Rattle.octets.specs.Reading.{Read, ok}
 use Rattle.octets.specs.Writing.{images}
-use Rattle.kinds.specs.declared.Kind.{Kind}
 use Rattle.layouts.specs.Layout.{Layout}
 use Rattle.rows.specs.Row.{Field}
 use Rattle.elements.specs.Element.{Element, item, layout}
 use Rattle.octets.specs.Asked.{part_of}
 use Rattle.kinds.specs.Values.{value_of, octets_of}
 use Rattle.questions.specs.Answers.{field_tells}
-use Rattle.kinds.specs.declared.Value.{Value}
-use Rattle.questions.specs.declared.Fielded.TheVariants.{Is}
-use Rattle.printing.specs.Text.{Prints, spelt, showing}
+use Rattle.questions.specs.declared.TypedValue.{TypedValue}
+use Rattle.std.specs.Prelude.{Ok}
+use Rattle.printing.specs.Text.{spelt, showing}
+use Rattle.printing.specs.Pages.{Shows}
+use Rattle.printing.specs.declared.Page.{Page}
 use Rattle.printing.specs.declared.Show.TheVariants.{Plain}
-use Rattle.printing.proofs.Puts.{says, plain, images_more}
+use Rattle.printing.proofs.Puts.{plain, images_more}
+use Rattle.printing.proofs.Pages.{says}
 use Rattle.lines.specs.Lines.{word_text, field_text, layout_text, element_text}
 
-module _ {before after : List ℕ} {n r : ℕ} where
-  pub word : (w : List ℕ) → Prints before n (showing Plain w) after r → Prints before n w after r
+module _ {before after : Page} where
+  pub word : (w : List ℕ) → Shows before (showing Plain w) after → Shows before w after
   word w p = says (plain w) p
 
-  pub word_then : (w rest : List ℕ) → Prints before n (showing Plain w ++ rest) after r → Prints before n (w ++ rest) after r
+  pub word_then : (w rest : List ℕ) → Shows before (showing Plain w ++ rest) after → Shows before (w ++ rest) after
   word_then w rest p = says (ap (λ (x : List ℕ). x ++ rest) (plain w)) p
 
 -- What is printed of a field that was asked for is its text.
-pub asked_text : (read : Read Field) (f : Field) (next : ℕ) (kind : Kind) (v : Value) (xs : List ℕ) → read ≡ ok f next → Is kind v ≡ field_tells read
-    → xs ≡ part_of (λ (g : Field). octets_of g.value) read → spelt " " ++ word_text v xs ≡ field_text f
-asked_text read f next kind v xs e told is =
-    let both : Is kind v ≡ Is f.attribute.kind (value_of f.attribute.kind.basic f.value) = told ∙ ap field_tells e in
-    let w : v ≡ value_of f.attribute.kind.basic f.value = cc in
-    rw (is, e, w) refl
+pub asked_text : (read : Read Field) (f : Field) (next : ℕ) (t : TypedValue) (xs : List ℕ) → read ≡ ok f next → Ok t ≡ field_tells read
+    → xs ≡ part_of (λ (g : Field). octets_of g.value) read → spelt " " ++ word_text t.value xs ≡ field_text f
+asked_text read f next t xs e told is =
+    let both : Ok t ≡ field_tells (ok f next) = told ∙ ap field_tells e in
+    let same : t ≡ record { kind = f.attribute.kind; value = value_of f.attribute.kind.basic f.value } = cc in
+    rw (is, e, ap (λ (x : TypedValue). x.value) same) refl
 
 -- The line of what was told of a layout is that of the layout.
 pub layout_line : (at number : ℕ) (name : List ℕ) (count : ℕ) (l : Layout) (e : Element) → e ≡ item (layout l) → number ≡ l.number → name ≡ l.type_name

@@ -1,4 +1,4 @@
-// The lines of a listing, each put behind what waits in a lent buffer. What a line is stands in specs/Lines.antt.
+// The lines of a listing, each printed on a page. What a line is stands in specs/Lines.antt.
 
 #![tactic(auto)]
 
@@ -6,157 +6,116 @@ ghost use Rattle.std.specs.Prelude.{ℕ, ◌≡◌, ◌∷◌, length};
 ghost use Rattle.octets.specs.Reading.{ok};
 ghost use Rattle.rows.specs.Row.{Field, Row};
 ghost use Rattle.elements.specs.Element.{Stepped};
-ghost use Rattle.elements.specs.Steps.{step_at};
 ghost use Rattle.elements.specs.Answers.{met_of};
-ghost use Rattle.questions.specs.Questions.{row_asked, field_asked};
-ghost use Rattle.printing.specs.Text.{Prints, showing};
+ghost use Rattle.questions.specs.Asked.{step_for, row_for, field_for};
+ghost use Rattle.printing.specs.Text.{showing};
+ghost use Rattle.printing.specs.Pages.{Shows};
 ghost use Rattle.lines.specs.Lines.{header_text, numbered, word_text, field_text, layout_text, row_text, end_text, refusal_text, element_text};
 
 use elements::Met;
 use kinds::Value;
-use printing::Show;
-use questions::Fielded;
+use octets::Refused;
+use printing::{Page, Show};
+use questions::Asked;
 
 // The version and the start time.
-pub fn header_line(out: &mut [u8], start: i64) -> usize
-    ensures { Prints out.old 0 (header_text start) out.new result }
+pub fn header_line(page: &mut Page, start: i64)
+    ensures { Shows page.old (header_text start) page.new }
 {
-    let head = printing::show_all(out, 0, Show::Plain, b"document 4 ");
-    let to = dates::time(out, head, start);
-    printing::octet(out, to, b'\n')
+    page.show_all(Show::Plain, b"document 4 ");
+    dates::time(page, start);
+    page.octet(b'\n');
 }
 
 // What an element is, its place, and a layout's number.
-fn numbered<'o, 'x>(out: &'o mut [u8], n: usize, word: &'x [u8], at: usize, number: u32) -> usize
-    ensures { Prints out.old n (numbered word.now at number) out.new result }
+fn numbered(page: &mut Page, word: &[u8], at: usize, number: u32)
+    ensures { Shows page.old (numbered word.now at number) page.new }
 {
-    let place = printing::named(out, n, word, at as u64);
-    let to = printing::octet(out, place, b' ');
-    printing::signed(out, to, kinds::signed32(number) as i64)
+    page.named(word, at as u64);
+    page.octet(b' ');
+    page.signed(i64::from(number.cast_signed()));
 }
 
 // A sign, and behind it octets.
-fn behind<'o, 'x>(out: &'o mut [u8], n: usize, sign: u8, how: Show, xs: &'x [u8]) -> usize
-    ensures { Prints out.old n (sign ∷ showing how xs.now) out.new result }
+fn behind(page: &mut Page, sign: u8, how: Show, xs: &[u8])
+    ensures { Shows page.old (sign ∷ showing how xs.now) page.new }
 {
-    let to = printing::octet(out, n, sign);
-    printing::show_all(out, to, how, xs)
+    page.octet(sign);
+    page.show_all(how, xs);
 }
 
 // A layout's type name and count of attributes.
-fn layout_line<'o, 'x>(
-    out: &'o mut [u8],
-    n: usize,
-    at: usize,
-    number: u32,
-    name: &'x [u8],
-    count: u32,
-) -> usize
-    ensures { Prints out.old n (layout_text at number name.now count) out.new result }
+fn layout_line(page: &mut Page, at: usize, number: u32, name: &[u8], count: u32)
+    ensures { Shows page.old (layout_text at number name.now count) page.new }
 {
-    let head = numbered(out, n, b"layout ", at, number);
-    let gap = printing::octet(out, head, b' ');
-    let is = behind(out, gap, b'=', Show::Escaped, name);
-    let to = printing::named(out, is, b" ", count as u64);
-    printing::octet(out, to, b'\n')
+    numbered(page, b"layout ", at, number);
+    page.octet(b' ');
+    behind(page, b'=', Show::Escaped, name);
+    page.named(b" ", u64::from(count));
+    page.octet(b'\n');
 }
 
 // A value, or the octets beside it.
-fn value_word<'o, 'x>(out: &'o mut [u8], n: usize, value: Value, xs: &'x [u8]) -> usize
-    ensures { Prints out.old n (word_text value xs.now) out.new result }
+fn value_word(page: &mut Page, value: Value, xs: &[u8])
+    ensures { Shows page.old (word_text value xs.now) page.new }
 {
     match value {
-        Value::HexBinary => behind(out, n, b'x', Show::Hex, xs),
-        Value::String => behind(out, n, b'=', Show::Escaped, xs),
-        _ => printing::value(out, n, value),
+        Value::HexBinary => behind(page, b'x', Show::Hex, xs),
+        Value::String => behind(page, b'=', Show::Escaped, xs),
+        _ => page.value(value),
     }
 }
 
 // Field i of a row behind a space. The row is accepted and has the field, so a refusal does not come about.
-fn field_word<'d, 'b, 'o>(
-    doc: &'d [u8],
-    at: usize,
-    rows: usize,
-    book: &'b [u8],
-    used: usize,
-    i: usize,
-    out: &'o mut [u8],
-    n: usize,
-) -> usize
-    ensures { (f : Field) (next : ℕ) → field_asked doc.now at rows book.now used i ≡ ok f next → Prints out.old n (field_text f) out.new result }
+fn field_word(page: &mut Page, asked: Asked, i: usize)
+    ensures { (f : Field) (next : ℕ) → field_for asked.entry i ≡ ok f next → Shows page.old (field_text f) page.new }
 {
-    let to = printing::octet(out, n, b' ');
-    let field = questions::field(doc, at, rows, book, used, i);
-    let xs = questions::field_octets(doc, at, rows, book, used, i);
-    match field {
-        Fielded::Refused(number, place) => to,
-        Fielded::Is(kind, value) => value_word(out, to, value, xs),
-    }
+    page.octet(b' ');
+    let Ok(field) = asked.field(i) else {
+        return;
+    };
+    value_word(page, field.value, asked.field_octets(i));
 }
 
 // A row's layout's number and values.
-fn row_line<'d, 'b, 'o>(
-    doc: &'d [u8],
-    at: usize,
-    rows: usize,
-    book: &'b [u8],
-    used: usize,
-    number: u32,
-    count: u32,
-    out: &'o mut [u8],
-    n: usize,
-) -> usize
-    ensures { (row : Row) (next : ℕ) → row_asked doc.now at rows book.now used ≡ ok row next → number ≡ row.number → count ≡ length row.fields → Prints out.old n (row_text at row) out.new result }
+fn row_line(page: &mut Page, asked: Asked, number: u32, count: u32)
+    ensures { (row : Row) (next : ℕ) → row_for asked.entry ≡ ok row next → number ≡ row.number → count ≡ length row.fields → Shows page.old (row_text asked.entry.at row) page.new }
 {
-    let mut to = numbered(out, n, b"row ", at, number);
-    let mut i: u32 = 0;
-    while i < count {
-        to = field_word(doc, at, rows, book, used, i as usize, out, to);
-        i += 1;
+    numbered(page, b"row ", asked.at, number);
+    for i in 0..count {
+        field_word(page, asked, i as usize);
     }
-    printing::octet(out, to, b'\n')
+    page.octet(b'\n');
 }
 
 // The end's count and time.
-pub fn end_line(out: &mut [u8], n: usize, at: usize, count: u32, time: i64) -> usize
-    ensures { Prints out.old n (end_text at count time) out.new result }
+pub fn end_line(page: &mut Page, at: usize, count: u32, time: i64)
+    ensures { Shows page.old (end_text at count time) page.new }
 {
-    let place = printing::named(out, n, b"end ", at as u64);
-    let head = printing::named(out, place, b" ", count as u64);
-    let gap = printing::octet(out, head, b' ');
-    let to = dates::time(out, gap, time);
-    printing::octet(out, to, b'\n')
+    page.named(b"end ", at as u64);
+    page.named(b" ", u64::from(count));
+    page.octet(b' ');
+    dates::time(page, time);
+    page.octet(b'\n');
 }
 
 // The line of an element, which a step from these inputs answered.
-pub fn element_line<'d, 'b, 'o>(
-    doc: &'d [u8],
-    at: usize,
-    rows: usize,
-    book: &'b [u8],
-    used: usize,
-    met: Met,
-    out: &'o mut [u8],
-    n: usize,
-) -> usize
-    ensures { (st : Stepped) (next : ℕ) → step_at doc.now at rows book.now used ≡ ok st next → met_of st.element ≡ met → Prints out.old n (element_text at st.element) out.new result }
+pub fn element_line(page: &mut Page, asked: Asked, met: Met)
+    ensures { (st : Stepped) (next : ℕ) → step_for asked.entry ≡ ok st next → met_of st.element ≡ met → Shows page.old (element_text asked.entry.at st.element) page.new }
 {
     match met {
         Met::Layout(number, count) => {
-            let name = questions::type_name(doc, at, rows, book, used);
-            layout_line(out, n, at, number, name, count)
+            layout_line(page, asked.at, number, asked.type_name(), count)
         }
-        Met::Row(number, stated, count) => row_line(
-            doc, at, rows, book, used, number, count, out, n,
-        ),
-        Met::End(count, time) => end_line(out, n, at, count, time),
+        Met::Row(number, stated, count) => row_line(page, asked, number, count),
+        Met::End(count, time) => end_line(page, asked.at, count, time),
     }
 }
 
 // A refusal as the last line.
-pub fn refused_line(out: &mut [u8], n: usize, number: u32, place: usize) -> usize
-    ensures { Prints out.old n (refusal_text number place) out.new result }
+pub fn refused_line(page: &mut Page, r: Refused)
+    ensures { Shows page.old (refusal_text r.number r.place) page.new }
 {
-    let to = printing::refused(out, n, number, place);
-    printing::octet(out, to, b'\n')
+    page.refused(r);
+    page.octet(b'\n');
 }

@@ -1,8 +1,8 @@
--- The contracts of the listing themselves settle what is printed: one count of what waits and one content of the buffer, for every input. Assumes nothing.
+-- The contracts of the listing themselves settle what is printed: one page, for every input. Assumes nothing.
 use mathlib.Core.Path.{refl}
 use Rattle.octets.specs.OfContracts.{Once}
 use Rattle.octets.proofs.Alike.{◌also◌}
-use Rattle.printing.proofs.Waits.{one_print}
+use Rattle.printing.proofs.Pages.{one_page}
 use Rattle.listing.proofs.element_lines as element_lines
 use Rattle.listing.proofs.document as document
 use Rattle.listing.proofs.listed as listed
@@ -15,7 +15,7 @@ pub record Contracts : Type 0 where
 pub contracts : Contracts
 contracts =
     record {
-      of_element_lines = λ κs a p x y u v e f. let q = one_print e f in (q.1, refl also refl also q.0 also refl);
-      of_document = λ κs a p x y u v e f. let q = one_print e f in (q.1, refl also q.0 also refl);
-      of_listed = λ κs a p x y u v e f. let q = one_print e f in (q.1, refl also q.0 also refl);
+      of_element_lines = λ κs a p x y u v e f. (refl, one_page e f also refl);
+      of_document = λ κs a p x y u v e f. (refl, one_page e f also refl);
+      of_listed = λ κs a p x y u v e f. (refl, one_page e f also refl);
     }

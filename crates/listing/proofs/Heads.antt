@@ -1,6 +1,6 @@
 -- What an answer about the header says of its reading, and where an accepted header ends.
 use Prim.Native.Nat.{ℕ, ◌≤◌}
-use mathlib.Core.Path.{◌≡◌, refl}
+use mathlib.Core.Path.{◌≡◌, refl, ap}
 use mathlib.Core.List.{List}
 use native.Mathlib.Omega.{arith}
 use lib.ListN.{length}
@@ -14,15 +14,18 @@ use Rattle.headers.specs.Header.{Header, header_from, header_at}
 use Rattle.headers.proofs.Headers.{header_inverse}
 use Rattle.reading.specs.Answers.{head_of, head_tells}
 use Rattle.reading.specs.declared.Head.{Head}
-use Rattle.reading.specs.declared.Headed.TheVariants.{Is, Refused}
+use Rattle.octets.specs.declared.Refused.{Refused}
+use Rattle.std.specs.Prelude.{Ok, Err}
 
-pub headed_as : (r : Read Header) (head : Head) → head_tells r ≡ Is head → (h : Header) × (next : ℕ) × (r ≡ ok h next) × (head_of h next ≡ head)
+pub headed_as : (r : Read Header) (head : Head) → head_tells r ≡ Ok head → (h : Header) × (next : ℕ) × (r ≡ ok h next) × (head_of h next ≡ head)
 headed_as (ok h next) head e = (h, next, refl, (let same : head_of h next ≡ head = cc in same))
 headed_as (no n p) head e = absurd (let z : ◌≡◌ {A = ℕ} 0 1 = cc in omega arith)
 
-pub unheaded_as : (r : Read Header) (n p : ℕ) → head_tells r ≡ Refused n p → r ≡ no n p
-unheaded_as (ok h next) n p e = absurd (let z : ◌≡◌ {A = ℕ} 0 1 = cc in omega arith)
-unheaded_as (no m q) n p e = let a : m ≡ n = cc in let b : q ≡ p = cc in cc
+pub unheaded_as : (r : Read Header) (x : Refused) → head_tells r ≡ Err x → r ≡ no x.number x.place
+unheaded_as (ok h next) x e = absurd (let z : ◌≡◌ {A = ℕ} 0 1 = cc in omega arith)
+unheaded_as (no m q) x e =
+    let same : ◌≡◌ {A = Refused} (record { number = m; place = q }) x = cc in
+    ap (λ (y : Refused). let r : Read Header = no y.number y.place in r) same
 
 pub header_place : (s : List ℕ) → Each Octet s → (h : Header) (next : ℕ) → header_at s ≡ ok h next → (next ≤ length s) × (length s ≤ longest)
 unfolding header_at

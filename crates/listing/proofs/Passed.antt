@@ -3,16 +3,19 @@ use Prim.Native.Nat.{ℕ, ◌+◌, ◌≤◌, ◌<◌}
 use mathlib.Core.Path.{◌≡◌, sym, ap, ◌∙◌, subst}
 use mathlib.Core.List.{List, [], ◌∷◌, ◌++◌, append_assoc, append-nil}
 use mathlib.Core.Option.{some}
+use Rattle.std.specs.Prelude.{Result, Ok, Err}
+use Rattle.octets.specs.declared.Refused.{Refused}
 use native.Mathlib.Omega.{arith}
 use lib.IntN.{ℤ}
 use lib.ListN.{length, take, replicate, length-replicate}
+use lib.Seq.{length-take-le}
 use Rattle.octets.specs.Limits.{longest, book_room}
 use Rattle.octets.specs.Reading.{ok}
 use Rattle.octets.specs.Writing.{images, Each, Octet}
 use Rattle.octets.proofs.Spans.{each_replicate}
 use Rattle.kinds.specs.Kinds.{signed}
 use Rattle.layouts.specs.Layout.{Layout, layout_at}
-use Rattle.layouts.specs.Book.{book_image, book_in}
+use Rattle.layouts.specs.Book.{Book, book_image, book_in}
 use Rattle.layouts.proofs.Books.{Lent}
 use Rattle.layouts.proofs.Lends.{empty_book_lem}
 use Rattle.elements.specs.Element.{Element, item, Stepped, element_at}
@@ -26,18 +29,20 @@ use Rattle.elements.proofs.Turns.{Took, took_at, turn_rows}
 use Rattle.elements.proofs.Walks.{path_join, path_one}
 use Rattle.elements.proofs.Through.{through_path, through_stops}
 use Rattle.elements.proofs.Readings.{placed_append, elements_behind}
-use Rattle.walks.specs.Kept.{nothing, Keeps}
-use Rattle.walks.specs.Answers.{gone_of, moved_of, Bears}
-use Rattle.walks.specs.declared.Tally.{Tally}
+use Rattle.walks.specs.Kept.{empty, Keeps}
+use Rattle.walks.specs.Answers.{gone_of, moved_of, Bears, GoesOn}
+use Rattle.walks.specs.declared.Known.{Known}
 use Rattle.walks.specs.declared.Gone.{Gone}
+use Rattle.walks.specs.declared.Moved.{Moved}
 use Rattle.walks.specs.declared.Moved.TheVariants as moved
-use Rattle.walks.proofs.Keeping.{kept_none}
+use Rattle.walks.proofs.Keeping.{kept_empty}
 use Rattle.walks.proofs.Moves.{item_spot, item_moves, item_left}
 use Rattle.walks.proofs.Ways.{moved_item, moved_end, moved_refused}
 use Rattle.walks.proofs.Lents.{Carried, carried_lent, carried_bears, carried_old, carried_grows, carried_newly, carried_new}
-use Rattle.printing.specs.Text.{Prints}
-use Rattle.printing.proofs.Puts as puts
-use Rattle.printing.proofs.Puts.{images_append, then, says, images_none, images_one}
+use Rattle.printing.specs.Pages.{Shows}
+use Rattle.printing.specs.declared.Page.{Page}
+use Rattle.printing.proofs.Puts.{images_append, images_none, images_one}
+use Rattle.printing.proofs.Pages.{then, says, nothing}
 use Rattle.lines.specs.Lines.{end_text, refusal_text, element_text}
 use Rattle.listing.specs.Listing.{stop_text, lines_of}
 
@@ -51,22 +56,21 @@ lines_behind ps w =
     rw (elements_behind ps w.seen w.spot.at w.stop, images_append line (placed_all ps) rest) (append_assoc (images line (placed_all ps)) (images line rest) (stop_text w.stop))
 
 -- What holds on the way.
-pub record Passed (s : List ℕ) (at : ℕ) (before : List ℕ) (n : ℕ) (octets numbers places steps : List ℕ) (t : Tally) (pos rows used : ℕ) (after : List ℕ) (to : ℕ) : Type 0 where
+pub record Passed (s : List ℕ) (at : ℕ) (before : Page) (octets : List ℕ) (k : Known) (pos rows used : ℕ) (after : Page) : Type 0 where
   pub size : length octets ≡ book_room
-  pub carried : Carried octets used numbers places steps t
+  pub carried : Carried octets used k
   pub inside : pos ≤ length s
   pub few : rows ≤ pos
   pub items : List Seen
   pub path : Path (turn_at s) (spot_at at 0 []) items (spot_at pos rows (book_in octets used))
-  pub prints : Prints before n (images line (placed_all items)) after to
+  pub prints : Shows before (images line (placed_all items)) after
 
-pub passed_start : (s : List ℕ) (at : ℕ) (before : List ℕ) (n : ℕ) → at ≤ length s
-    → Passed s at before n (replicate book_room 0) (replicate 64 0) (replicate 64 0) (replicate 1216 0) nothing at 0 0 before n
-passed_start s at before n inside =
+pub passed_start : (s : List ℕ) (at : ℕ) (before : Page) → at ≤ length s
+    → Passed s at before (replicate book_room 0) empty at 0 0 before
+passed_start s at before inside =
     let size = length-replicate {A = ℕ} book_room 0 in
     let (is, none) = empty_book_lem (replicate book_room 0) (omega arith) in
-    let words = length-replicate {A = ℕ} 64 0 in
-    let kept = kept_none (take 0 (replicate book_room 0)) (replicate 64 0) (replicate 64 0) (replicate 1216 0) words words (length-replicate {A = ℕ} 1216 0) in
+    let kept = kept_empty (take 0 (replicate book_room 0)) in
     record {
       size = size;
       carried = record { octets_are = each_replicate book_room 0 (omega arith); is = is; kept = rw none kept };
@@ -74,35 +78,46 @@ passed_start s at before n inside =
       few = omega arith;
       items = [];
       path = ap (spot_at at 0) (sym none);
-      prints = says (sym (images_none line)) (puts.nothing before n);
+      prints = says (sym (images_none line)) (nothing before);
     }
 
-module _ {s : List ℕ} {at : ℕ} {before : List ℕ} {n : ℕ} {octets numbers places steps : List ℕ} {t : Tally} {pos rows used : ℕ} {mid : List ℕ} {m : ℕ}
-    (g : Passed s at before n octets numbers places steps t pos rows used mid m) where
+module _ {s : List ℕ} {at : ℕ} {before : Page} {octets : List ℕ} {k : Known} {pos rows used : ℕ} {mid : Page}
+    (g : Passed s at before octets k pos rows used mid) where
   abbrev here : Spot
   here = spot_at pos rows (book_in octets used)
 
   pub passed_lent : Lent octets used (book_in octets used)
-  passed_lent = carried_lent octets used numbers places steps t g.carried
+  passed_lent = carried_lent octets used k g.carried
 
-  pub passed_bears : Bears (take used octets) used numbers places steps t.known (book_in octets used)
-  passed_bears = carried_bears octets used numbers places steps t g.carried
+  pub passed_bears : Bears (take used octets) used k (book_in octets used)
+  passed_bears = carried_bears octets used k g.carried
+
+  pub passed_fits : used ≤ length octets
+  passed_fits = omega (arith, passed_lent.most, passed_lent.room)
+
+  pub passed_shelf : length (take used octets) ≡ used
+  passed_shelf = length-take-le used octets passed_fits
+
+  -- How the walk goes on from here, by what was met.
+  pub passed_on : (entry exit : List ℕ) {x y : Result Moved Refused}
+      → ((book : Book) → Bears (take used octets) used k book → GoesOn s (spot_at pos rows book) k 0 entry exit x) → x ≡ y → GoesOn s here k 0 entry exit y
+  passed_on entry exit went is = subst (GoesOn s here k 0 entry exit) is (went (book_in octets used) passed_bears)
 
   module _ (o : Each Octet s) (short : length s ≤ longest) where
-    stopped : {after : List ℕ} {to : ℕ} (e : Stop) → turn_at s here ≡ stops e → Prints mid m (lines_of (standing here (some e))) after to
-        → Prints before n (lines_of (through s (spot_at at 0 []))) after to
+    stopped : {after : Page} (e : Stop) → turn_at s here ≡ stops e → Shows mid (lines_of (standing here (some e))) after
+        → Shows before (lines_of (through s (spot_at at 0 []))) after
     stopped e h put =
         let whole = through_path s o short g.items (spot_at at 0 []) here g.path ∙ ap (behind g.items) (through_stops s o short here e h) in
         says (sym (ap lines_of whole ∙ lines_behind g.items (standing here (some e)))) (then g.prints put)
 
     -- The turn from here told a refusal, or the end: its line is the last.
-    pub passed_refused : (number place : ℕ) {after : List ℕ} {to : ℕ} → moved_of (turn_at s here) ≡ moved.Refused number place → Prints mid m (refusal_text number place) after to
-        → Prints before n (lines_of (through s (spot_at at 0 []))) after to
+    pub passed_refused : (r : Refused) {after : Page} → moved_of (turn_at s here) ≡ Err r → Shows mid (refusal_text r.number r.place) after
+        → Shows before (lines_of (through s (spot_at at 0 []))) after
     unfolding images
-    passed_refused number place e put = stopped (refused number place) (moved_refused (turn_at s here) number place e) put
+    passed_refused r e put = stopped (refused r.number r.place) (moved_refused (turn_at s here) r e) put
 
-    pub passed_end : (count next : ℕ) (time : ℤ) {after : List ℕ} {to : ℕ} → moved_of (turn_at s here) ≡ moved.End count time next → Prints mid m (end_text pos count time) after to
-        → Prints before n (lines_of (through s (spot_at at 0 []))) after to
+    pub passed_end : (count next : ℕ) (time : ℤ) {after : Page} → moved_of (turn_at s here) ≡ Ok (moved.End count time next) → Shows mid (end_text pos count time) after
+        → Shows before (lines_of (through s (spot_at at 0 []))) after
     unfolding images
     passed_end count next time e put =
         let (u, is, same) = moved_end (turn_at s here) count next time e in
@@ -115,9 +130,9 @@ module _ {s : List ℕ} {at : ℕ} {before : List ℕ} {n : ℕ} {octets numbers
       pub layout : Layout
       pub reads : layout_at s (pos + 4) ≡ ok layout gone.next
       pub few : length (book_in octets used) < 64
-      pub on : {exit numbers₁ places₁ steps₁ : List ℕ} {t₁ : Tally} {after : List ℕ} {to : ℕ} → Prints mid m line after to → length exit ≡ length octets
+      pub on : {exit : List ℕ} {k₁ : Known} {after : Page} → Shows mid line after → length exit ≡ length octets
           → ((rows : ℕ) (st : Stepped) → element_at s pos rows (book_in octets used) ≡ ok st gone.next → exit ≡ holding st.book octets)
-          → Keeps layout used numbers places steps t numbers₁ places₁ steps₁ t₁ → Passed s at before n exit numbers₁ places₁ steps₁ t₁ gone.next gone.rows gone.used after to
+          → Keeps layout used k k₁ → Passed s at before exit k₁ gone.next gone.rows gone.used after
 
     -- An item: the step that reads it, where it ends, and what holds where its line is printed.
     pub record Goes (gone : Gone) : Type 0 where
@@ -125,8 +140,8 @@ module _ {s : List ℕ} {at : ℕ} {before : List ℕ} {n : ℕ} {octets numbers
       pub reads : step_at s pos rows octets used ≡ ok stepped gone.next
       pub met : met_of stepped.element ≡ gone.met
       pub further : (pos + 4 ≤ gone.next) × (gone.next ≤ length s)
-      pub old : gone.used ≤ used → {after : List ℕ} {to : ℕ} → Prints mid m (element_text pos stepped.element) after to
-          → Passed s at before n octets numbers places steps t gone.next gone.rows gone.used after to
+      pub old : gone.used ≤ used → {after : Page} → Shows mid (element_text pos stepped.element) after
+          → Passed s at before octets k gone.next gone.rows gone.used after
       pub new : used < gone.used → Grown gone (element_text pos stepped.element)
 
     module _ (p : Seen) (y : Spot) (e : turn_at s here ≡ goes p y) where
@@ -139,8 +154,8 @@ module _ {s : List ℕ} {at : ℕ} {before : List ℕ} {n : ℕ} {octets numbers
       said : text ≡ line (placed p)
       said = ap (λ (x : Element). element_text pos x) took.is ∙ ap (λ (q : Seen). element_text q.place (item q.which)) (sym took.seen)
 
-      on : {after : List ℕ} {to : ℕ} → Prints mid m text after to → (octets₁ : List ℕ) (used₁ : ℕ) {numbers₁ places₁ steps₁ : List ℕ} {t₁ : Tally} → length octets₁ ≡ book_room
-          → Carried octets₁ used₁ numbers₁ places₁ steps₁ t₁ → book_in octets₁ used₁ ≡ y.book → Passed s at before n octets₁ numbers₁ places₁ steps₁ t₁ p.next y.rows used₁ after to
+      on : {after : Page} → Shows mid text after → (octets₁ : List ℕ) (used₁ : ℕ) {k₁ : Known} → length octets₁ ≡ book_room
+          → Carried octets₁ used₁ k₁ → book_in octets₁ used₁ ≡ y.book → Passed s at before octets₁ k₁ p.next y.rows used₁ after
       on put octets₁ used₁ size c same =
           let moves = item_moves s o short pos rows (book_in octets used) p y e in
           let spot = item_spot s o short pos rows (book_in octets used) p y e ∙ ap (spot_at p.next y.rows) (sym same) in
@@ -166,21 +181,24 @@ module _ {s : List ℕ} {at : ℕ} {before : List ℕ} {n : ℕ} {octets numbers
             met = ap met_of took.is;
             further = item_moves s o short pos rows (book_in octets used) p y e;
             old = λ old put.
-                let (same, _, size) = carried_old octets used numbers places steps t g.carried s o short pos rows p y e old in
+                let (same, _, size) = carried_old octets used k g.carried s o short pos rows p y e old in
                 rw size (on put octets used g.size g.carried (sym same));
             new = λ more.
-                let n = carried_newly octets used numbers places steps t g.carried s o short pos rows p y e more in
+                let n = carried_newly octets used k g.carried s o short pos rows p y e more in
                 record {
-                  grows = carried_grows octets used numbers places steps t g.carried s o short pos rows p y e more;
+                  grows = carried_grows octets used k g.carried s o short pos rows p y e more;
                   layout = n.layout;
                   reads = n.reads;
                   few = n.few;
                   on = λ {exit} put long left h.
                       let is = item_left s o short pos rows (book_in octets used) p y e (omega (arith, passed_lent.size, more)) octets exit left in
-                      let (c, same) = carried_new octets used numbers places steps t g.carried s o short pos rows p y e more exit is h in
+                      let (c, same) = carried_new octets used k g.carried s o short pos rows p y e more exit is h in
                       on put exit (length (book_image y.book)) (long ∙ g.size) c same;
                 };
           }
 
-    pub passed_item : (gone : Gone) → moved_of (turn_at s here) ≡ moved.Item gone → Goes gone
-    passed_item gone e = let (p, y, is, same) = moved_item (turn_at s here) gone e in subst Goes same (item_goes p y is)
+    pub passed_item : (entry exit : List ℕ) {x : Result Moved Refused} {m : Moved} (gone : Gone)
+        → ((book : Book) → Bears (take used octets) used k book → GoesOn s (spot_at pos rows book) k 0 entry exit x) → x ≡ Ok m → m ≡ moved.Item gone → Goes gone
+    passed_item entry exit gone went is one =
+        let (p, y, turn, same) = moved_item (turn_at s here) gone (sym (passed_on entry exit went (is ∙ ap Ok one)).is) in
+        subst Goes same (item_goes p y turn)

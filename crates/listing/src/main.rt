@@ -5,68 +5,51 @@
 ghost use Rattle.std.specs.Prelude.{◌≤◌, [], length};
 ghost use Rattle.octets.specs.Limits.{longest};
 ghost use Rattle.elements.specs.Walk.{spot_at, through};
-ghost use Rattle.printing.specs.Text.{Prints};
+ghost use Rattle.printing.specs.Pages.{Shows};
 ghost use Rattle.listing.specs.Listing.{lines_of, listing, listed};
 
-use printing::Show;
-use reading::Headed;
-use walks::Moved;
+use printing::{Page, Show};
+use questions::Asked;
+use walks::{Known, Moved};
 
 // The lines of the elements from a place on, up to the end or a refusal.
-fn element_lines<'d, 'o>(doc: &'d [u8], at: usize, out: &'o mut [u8], n: usize) -> usize
+fn element_lines(page: &mut Page, doc: &[u8], at: usize)
     requires { (at ≤ length doc.now) × (length doc.now ≤ longest) }
-    ensures { Prints out.old n (lines_of (through doc.now (spot_at at 0 []))) out.new result }
+    ensures { Shows page.old (lines_of (through doc.now (spot_at at 0 []))) page.new }
 {
     let mut book = [0u8; octets::BOOK_ROOM];
-    let mut numbers = [0u64; octets::MOST_LAYOUTS];
-    let mut places = [0u32; octets::MOST_LAYOUTS];
-    let mut steps = [0u16; plans::MOST_STEPS];
-    let mut tally = walks::nothing();
+    let mut known = Known::new();
     let mut pos = at;
     let mut rows: usize = 0;
     let mut used: usize = 0;
-    let mut to = n;
     let mut words = [0u64; 1];
     loop {
-        let moved = walks::go_on(
-            doc,
-            pos,
-            rows,
-            &book[..used],
-            used,
-            &numbers,
-            &places,
-            &steps,
-            tally.known,
-            &numbers,
-            &mut words,
-            0,
-        );
+        let moved = match walks::go_on(doc, pos, rows, &book[..used], used, &known, &mut words, 0) {
+            Ok(moved) => moved,
+            Err(r) => {
+                return lines::refused_line(page, r);
+            }
+        };
         match moved {
             // At most no row: each is an item.
             Moved::Rows(next, count) => {
-                return to;
-            }
-            Moved::Refused(number, place) => {
-                return lines::refused_line(out, to, number, place);
+                return;
             }
             Moved::End(count, time, next) => {
-                return lines::end_line(out, to, pos, count, time);
+                return lines::end_line(page, pos, count, time);
             }
             Moved::Item(gone) => {
-                let met = gone.met;
-                to = lines::element_line(doc, pos, rows, &book, used, met, out, to);
+                let asked = Asked {
+                    doc,
+                    at: pos,
+                    rows,
+                    book: &book,
+                    used,
+                };
+                lines::element_line(page, asked, gone.met);
                 if used < gone.used {
                     elements::grow(doc, pos, gone.next, &mut book, used);
-                    tally = walks::keep(
-                        doc,
-                        pos + 4,
-                        used,
-                        &mut numbers,
-                        &mut places,
-                        &mut steps,
-                        tally,
-                    );
+                    known.keep(doc, pos + 4, used);
                 }
                 pos = gone.next;
                 rows = gone.rows;
@@ -77,28 +60,26 @@ fn element_lines<'d, 'o>(doc: &'d [u8], at: usize, out: &'o mut [u8], n: usize) 
 }
 
 // The lines of a document.
-fn document<'d, 'o>(doc: &'d [u8], out: &'o mut [u8]) -> usize
-    ensures { Prints out.old 0 (listing doc.now) out.new result }
+fn document(page: &mut Page, doc: &[u8])
+    ensures { Shows page.old (listing doc.now) page.new }
 {
-    let headed = reading::header(doc);
-    match headed {
-        Headed::Refused(number, place) => lines::refused_line(out, 0, number, place),
-        Headed::Is(head) => {
-            let next = head.next;
-            let to = lines::header_line(out, head.start);
-            element_lines(doc, next, out, to)
+    match reading::header(doc) {
+        Err(r) => lines::refused_line(page, r),
+        Ok(head) => {
+            lines::header_line(page, head.start);
+            element_lines(page, doc, head.next);
         }
     }
 }
 
 // What is printed of the input: its listing, or that it is too long to be listed.
-fn listed<'d, 'o>(doc: &'d [u8], out: &'o mut [u8]) -> usize
-    ensures { Prints out.old 0 (listed doc.now) out.new result }
+fn listed(page: &mut Page, doc: &[u8])
+    ensures { Shows page.old (listed doc.now) page.new }
 {
     if 65536 < doc.len() {
-        return printing::show_all(out, 0, Show::Plain, b"input too long\n");
+        return page.show_all(Show::Plain, b"input too long\n");
     }
-    document(doc, out)
+    document(page, doc);
 }
 
 // One octet more than the limit is read, so that an input over it is seen.
@@ -106,6 +87,7 @@ fn main() {
     let mut doc = [0u8; 65537];
     let mut out = [0u8; 4096];
     let n = io::read_full(0, &mut doc);
-    let to = listed(&doc[..n], &mut out);
-    printing::flush(&out, to);
+    let mut page = Page::new(&mut out);
+    listed(&mut page, &doc[..n]);
+    page.flush();
 }

@@ -1,37 +1,34 @@
 -- What is asked of a reading: that a refusal question says whether there is a value, and an item of a list whether the list is long enough.
 use Prim.Native.Nat.{ℕ, zero, suc, ◌+◌, ◌≤◌}
+use Rattle.std.specs.Prelude.{Result, Ok, Err}
 use mathlib.Core.Path.{◌≡◌, refl, sym, ap, ◌∙◌}
 use mathlib.Core.List.{List, [], ◌∷◌}
 use native.Mathlib.Omega.{arith}
 use lib.ListN.{length, drop}
 use lib.Seq.{drop-nil}
 use Rattle.octets.specs.Reading.{Read, ok, no, is_ok, be, number}
-use Rattle.octets.specs.Answers.{says}
 use Rattle.octets.specs.Asked.{refusal_of, nth, part_of, StandsAt, found_at}
 use Rattle.octets.proofs.Inverse.{ok_value}
 use Rattle.octets.proofs.Ends.{number_ok, number_room}
-use Rattle.octets.specs.declared.Ended.{Ended}
-use Rattle.octets.specs.declared.Ended.TheVariants as ended
-use Rattle.octets.specs.declared.Refusal.TheVariants as refusal
+use Rattle.octets.specs.declared.Refused.{Refused}
 
 -- A refusal question that answers none has a value behind it; one that answers a refusal has none.
-pub unrefused : {A : Type 0} (r : Read A) → refusal_of r ≡ refusal.None → (a : A) × (next : ℕ) × (r ≡ ok a next)
+pub unrefused : {A : Type 0} (r : Read A) → refusal_of r ≡ Ok tt → (a : A) × (next : ℕ) × (r ≡ ok a next)
 unrefused (ok a next) e = (a, next, refl)
 unrefused (no n p) e = absurd (let z : ◌≡◌ {A = ℕ} 0 1 = cc in omega arith)
 
-pub refused_as : {A : Type 0} (r : Read A) (n p : ℕ) → refusal_of r ≡ refusal.Refused n p → r ≡ no n p
-refused_as (no m q) n p e = let a : m ≡ n = cc in let b : q ≡ p = cc in cc
+pub refused_as : {A : Type 0} (r : Read A) (n p : ℕ) → refusal_of r ≡ Err (record { number = n; place = p }) → r ≡ no n p
+refused_as (no m q) n p e =
+    let r : ◌≡◌ {A = Refused} (record { number = m; place = q }) (record { number = n; place = p }) = cc in
+    let a : m ≡ n = ap (λ (r : Refused). r.number) r in
+    let b : q ≡ p = ap (λ (r : Refused). r.place) r in
+    cc
 refused_as (ok a next) n p e = absurd (let z : ◌≡◌ {A = ℕ} 0 1 = cc in omega arith)
 
--- A refusal shows in where what was asked for stands.
-pub refusal_stands : {A : Type 0} (s : List ℕ) (one : ℕ → Read A) (read : Read A) (r : Ended) → StandsAt s one read r → refusal_of (says r) ≡ refusal_of read
-refusal_stands s one read (ended.End p) e = sym (ap refusal_of e.is)
-refusal_stands s one read (ended.Refused n p) e = sym (ap refusal_of e)
-
--- So does a part of it, which is that of what stands there.
-pub part_stands : {A : Type 0} (s : List ℕ) (one : ℕ → Read A) (read : Read A) (f : A → List ℕ) (r : Ended) → StandsAt s one read r → part_of f (found_at one r) ≡ part_of f read
-part_stands s one read f (ended.End p) e = ap (part_of f) e.reads ∙ sym (ap (part_of f) e.is)
-part_stands s one read f (ended.Refused n p) e = sym (ap (part_of f) e)
+-- A part of what was asked for is that of what stands there.
+pub part_stands : {A : Type 0} (s : List ℕ) (one : ℕ → Read A) (read : Read A) (f : A → List ℕ) (r : Result ℕ Refused) → StandsAt s one read r → part_of f (found_at one r) ≡ part_of f read
+part_stands s one read f (Ok p) e = ap (part_of f) e.reads ∙ sym (ap (part_of f) e.is)
+part_stands s one read f (Err r) e = sym (ap (part_of f) e)
 
 -- A number that was read is what its octets spell.
 pub number_is : (s : List ℕ) (w at n next : ℕ) → number w s at ≡ ok n next → (at + w ≤ length s) × (be w s at ≡ n)

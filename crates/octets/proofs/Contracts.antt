@@ -1,13 +1,12 @@
 -- The contracts of octets themselves: each allows one answer, and one final content of what is lent to be changed. Assumes nothing.
-use mathlib.Core.Path.{◌≡◌, refl, sym, ◌∙◌}
+use mathlib.Core.Path.{◌≡◌, refl, sym, ap, ◌∙◌}
 use Rattle.octets.specs.OfContracts.{Once}
 use Rattle.octets.specs.Answers.{says, counts}
-use Rattle.octets.specs.declared.Ended.{Ended}
-use Rattle.octets.specs.declared.Ended.TheVariants.{End, Refused}
-use Rattle.octets.specs.declared.Counted.{Counted}
-use Rattle.octets.specs.declared.Counted.TheVariants as counted
+use Rattle.octets.specs.Faults.{number_of, fault_of, back}
+use Rattle.octets.specs.declared.Fault.{Fault}
+use Rattle.octets.specs.declared.Refused.{Refused}
+use Rattle.std.specs.Prelude.{ℕ, Result, Ok, Err}
 use Rattle.octets.proofs.Alike.{◌also◌}
-use Rattle.octets.proofs.found_refusal as found_refusal
 use Rattle.octets.proofs.u8_at as u8_at
 use Rattle.octets.proofs.u16_at as u16_at
 use Rattle.octets.proofs.u32_at as u32_at
@@ -23,7 +22,6 @@ use Rattle.octets.proofs.lay as lay
 use Rattle.octets.proofs.lay_number as lay_number
 
 pub record Contracts : Type 0 where
-  pub of_found_refusal : Once found_refusal.Kinds.ps found_refusal.Kinds.r found_refusal.Reads.Pre found_refusal.Reads.Post
   pub of_u8_at : Once u8_at.Kinds.ps u8_at.Kinds.r u8_at.Reads.Pre u8_at.Reads.Post
   pub of_u16_at : Once u16_at.Kinds.ps u16_at.Kinds.r u16_at.Reads.Pre u16_at.Reads.Post
   pub of_u32_at : Once u32_at.Kinds.ps u32_at.Kinds.r u32_at.Reads.Pre u32_at.Reads.Post
@@ -38,29 +36,38 @@ pub record Contracts : Type 0 where
   pub of_lay : Once lay.Kinds.ps lay.Kinds.r lay.Reads.Pre lay.Reads.Post
   pub of_lay_number : Once lay_number.Kinds.ps lay_number.Kinds.r lay_number.Reads.Pre lay_number.Reads.Post
 
--- Each of these says another thing of every answer.
-pub says_once : (x y : Ended) → says x ≡ says y → x ≡ y
-says_once (End p) (End q) e = cc
-says_once (End p) (Refused m q) e = cc
-says_once (Refused n p) (End q) e = cc
-says_once (Refused n p) (Refused m q) e = cc
+-- A fault is its number, a refusal its number and its place.
+pub fault_once : (f g : Fault) → number_of f ≡ number_of g → f ≡ g
+fault_once f g e = sym (back f) ∙ (ap fault_of e ∙ back g)
 
-pub counts_once : (x y : Counted) → counts x ≡ counts y → x ≡ y
-counts_once (counted.Count k p) (counted.Count l q) e = cc
-counts_once (counted.Count k p) (counted.Refused m q) e = cc
-counts_once (counted.Refused n p) (counted.Count l q) e = cc
-counts_once (counted.Refused n p) (counted.Refused m q) e = cc
+pub refused_once : (p q : Refused) → p.number ≡ q.number → p.place ≡ q.place → p ≡ q
+refused_once p q n e = ap (λ (k : ℕ). record { number = k; place = p.place }) n ∙ ap (λ (k : ℕ). record { number = q.number; place = k }) e
+
+pub err_once : (p q : Refused) → says (Err p) ≡ says (Err q) → p ≡ q
+err_once p q e = refused_once p q (cc) (cc)
+
+-- Each of these says another thing of every answer.
+pub says_once : (x y : Result ℕ Refused) → says x ≡ says y → x ≡ y
+says_once (Ok p) (Ok q) e = cc
+says_once (Ok p) (Err q) e = cc
+says_once (Err p) (Ok q) e = cc
+says_once (Err p) (Err q) e = ap Err (err_once p q e)
+
+pub counts_once : (x y : Result (ℕ × ℕ) Refused) → counts x ≡ counts y → x ≡ y
+counts_once (Ok (k, p)) (Ok (l, q)) e = cc
+counts_once (Ok (k, p)) (Err q) e = cc
+counts_once (Err p) (Ok (l, q)) e = cc
+counts_once (Err p) (Err q) e = ap Err (err_once p q e)
 
 pub contracts : Contracts
 contracts =
     record {
-      of_found_refusal = λ κs a p x y u v e f. (e ∙ sym f, refl);
       of_u8_at = λ κs a p x y u v e f. (e ∙ sym f, refl);
       of_u16_at = λ κs a p x y u v e f. (e ∙ sym f, refl);
       of_u32_at = λ κs a p x y u v e f. (e ∙ sym f, refl);
       of_u64_at = λ κs a p x y u v e f. (e ∙ sym f, refl);
       of_reach = λ κs a p x y u v e f. (e ∙ sym f, refl);
-      of_overrun = λ κs a p x y u v e f. (says_once x y (e ∙ sym f), refl);
+      of_overrun = λ κs a p x y u v e f. (err_once x y (e ∙ sym f), refl);
       of_number_end = λ κs a p x y u v e f. (says_once x y (e.0 ∙ sym f.0), refl);
       of_count_at = λ κs a p x y u v e f. (counts_once x y (e.0 ∙ sym f.0), refl);
       of_octets_same = λ κs a p x y u v e f. (e ∙ sym f, refl);

@@ -12,8 +12,8 @@ use Rattle.octets.specs.Reading.{Read, ok, no, ◌then◌, choose, ends, is_ok, 
 use Rattle.octets.specs.Answers.{says, Within}
 use Rattle.octets.specs.declared.Room.{Room}
 use Rattle.octets.specs.declared.Room.TheVariants.{Document, Stated}
-use Rattle.octets.specs.declared.Ended.{Ended}
-use Rattle.octets.specs.declared.Ended.TheVariants.{End, Refused}
+use Rattle.octets.specs.declared.Refused.{Refused}
+use Rattle.std.specs.Prelude.{Result, Ok, Err}
 
 -- What follows a reading goes by the place behind it, where the place alone is asked.
 pub on : {A B : Type 0} (r : Read A) (f : A → ℕ → Read B) (g : ℕ → Read ℕ) (n : ℕ) → ((a : A) (m : ℕ) → ends (f a m) ≡ g m)
@@ -78,10 +78,10 @@ never A Document at t = let z : ◌≡◌ {A = ℕ} 0 1 = cc in omega arith
 never A (Stated end p) at t = let z : ◌≡◌ {A = ℕ} 0 1 = cc in omega arith
 
 -- An answer that says so is a refusal, and no end.
-pub overrun_within : (x : Ended) (room : Room) (p at end : ℕ) → says x ≡ overrun room p → Within at x end
-overrun_within (Refused n q) room p at end e = tt
-overrun_within (End q) Document p at end e = absurd (let z : ◌≡◌ {A = ℕ} 0 1 = cc in omega arith)
-overrun_within (End q) (Stated end' l) p at end e = absurd (let z : ◌≡◌ {A = ℕ} 0 1 = cc in omega arith)
+pub overrun_within : (x : Result ℕ Refused) (room : Room) (p at end : ℕ) → says x ≡ overrun room p → Within at x end
+overrun_within (Err r) room p at end e = tt
+overrun_within (Ok q) Document p at end e = absurd (let z : ◌≡◌ {A = ℕ} 0 1 = cc in omega arith)
+overrun_within (Ok q) (Stated end' l) p at end e = absurd (let z : ◌≡◌ {A = ℕ} 0 1 = cc in omega arith)
 
 -- Numbers, once over the room.
 module _ (room : Room) (s : List ℕ) (at : ℕ) where
@@ -183,9 +183,9 @@ module _ {A : Type 0} (f : ℕ → Read A) where
   run_ends (suc k) at = next_alike k at (run_ends k) (f at) refl
 
 -- What is behind a place is behind each before it.
-pub behind : (at mid : ℕ) (r : Ended) (n : ℕ) → at ≤ mid → Within mid r n → Within at r n
-behind at mid (End p) n h w = (omega arith, w.1)
-behind at mid (Refused k p) n h w = tt
+pub behind : (at mid : ℕ) (r : Result ℕ Refused) (n : ℕ) → at ≤ mid → Within mid r n → Within at r n
+behind at mid (Ok p) n h w = (omega arith, w.1)
+behind at mid (Err r) n h w = tt
 
 -- What is left of a count, as one more than what is left behind the next.
 pub left_suc : (n i : ℕ) → i < n → n - i ≡ suc (n - (i + 1))

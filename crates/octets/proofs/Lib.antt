@@ -7,3 +7,4 @@ pub mod Runs
 pub mod Asked
 pub mod Alike
 pub mod Contracts
+pub mod Passed

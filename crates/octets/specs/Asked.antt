@@ -1,16 +1,13 @@
 -- What is asked of a reading: whether it is refused, an item of a list in it, a part of what it holds, and where that stands.
-use Rattle.std.specs.Prelude.{ℕ, ◌≤◌, ◌≡◌, List, [], ◌∷◌, length, drop}
+use Rattle.std.specs.Prelude.{ℕ, ◌≤◌, ◌≡◌, List, [], ◌∷◌, length, drop, Result, Ok, Err}
 use Rattle.octets.specs.Limits.{longest}
 use Rattle.octets.specs.Reading.{Read, ok, no}
-use Rattle.octets.specs.declared.Ended.{Ended}
-use Rattle.octets.specs.declared.Ended.TheVariants as ended
-use Rattle.octets.specs.declared.Refusal.{Refusal}
-use Rattle.octets.specs.declared.Refusal.TheVariants as refusal
+use Rattle.octets.specs.declared.Refused.{Refused}
 
 -- The refusal question: none, or its number and place.
-abbrev pub refusal_of : {A : Type 0} → Read A → Refusal
-refusal_of (ok a next) = refusal.None
-refusal_of (no n p) = refusal.Refused n p
+abbrev pub refusal_of : {A : Type 0} → Read A → Result (Unit {0}) Refused
+refusal_of (ok a next) = Ok tt
+refusal_of (no n p) = Err (record { number = n; place = p })
 
 -- Item n of a list, counted from 0. Refusal 18, last of all: there is none.
 abbrev pub first_of : {A : Type 0} → ℕ → List A → ℕ → Read A
@@ -34,11 +31,11 @@ pub record Standing {A : Type 0} (s : List ℕ) (one : ℕ → Read A) (read : R
   pub reads : one p ≡ ok item last
   pub short : length s ≤ longest
 
-abbrev pub StandsAt : {A : Type 0} → List ℕ → (ℕ → Read A) → Read A → Ended → Type 0
-StandsAt s one read (ended.End p) = Standing s one read p
-StandsAt s one read (ended.Refused n p) = read ≡ no n p
+abbrev pub StandsAt : {A : Type 0} → List ℕ → (ℕ → Read A) → Read A → Result ℕ Refused → Type 0
+StandsAt s one read (Ok p) = Standing s one read p
+StandsAt s one read (Err r) = read ≡ no r.number r.place
 
 -- What stands where something was found, or the refusal in its place.
-abbrev pub found_at : {A : Type 0} → (ℕ → Read A) → Ended → Read A
-found_at one (ended.End p) = one p
-found_at one (ended.Refused n p) = no n p
+abbrev pub found_at : {A : Type 0} → (ℕ → Read A) → Result ℕ Refused → Read A
+found_at one (Ok p) = one p
+found_at one (Err r) = no r.number r.place

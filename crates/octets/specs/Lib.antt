@@ -4,3 +4,6 @@ pub mod Writing
 pub mod OfContracts
 pub mod Answers
 pub mod Asked
+pub mod Refusals
+pub mod Faults
+pub mod Runs

@@ -3,12 +3,14 @@
 
 #![tactic(auto)]
 
-ghost use Rattle.std.specs.Prelude.{◌≡◌, ◌++◌, ◌+◌, ◌≤◌, ◌<◌, length, drop};
+ghost use Rattle.std.specs.Prelude.{ℕ, ◌≡◌, ◌++◌, ◌+◌, ◌≤◌, ◌<◌, length, drop};
 ghost use Rattle.octets.specs.Limits.{longest};
-ghost use Rattle.octets.specs.Reading.{reach, overrun, be, same, ends, number_in, count};
+ghost use Rattle.octets.specs.Reading.{Read, run, reach, overrun, be, same, ends, number_in, count};
 ghost use Rattle.octets.specs.Writing.{word, over};
+ghost use Rattle.octets.specs.Runs.{Finds, FindsFrom};
 ghost use Rattle.octets.specs.Answers.{says, counts, Within, CountWithin};
-ghost use Rattle.octets.specs.Asked.{refusal_of};
+
+use std::marker::Model;
 
 // The most octets of a document, and the most rows that a step may be told.
 pub const LONGEST: usize = 1048576;
@@ -28,18 +30,92 @@ pub const MOST_LISTED: u32 = 16;
 // The four octets that stand where a count of elements would, and where a row's length is unstated.
 pub const OPEN: [u8; 4] = *b"\xff\xff\xff\xff";
 
-// The place behind what was read, or a refusal by number and place.
-#[derive(Clone, Copy)]
-pub enum Ended {
-    End(usize),
-    Refused(u32, usize),
+// Why input is refused, as the scope lists it; its number there is `number`.
+#[derive(Clone, Copy, Debug, PartialEq, Eq)]
+pub enum Fault {
+    CutShort,
+    TooLong,
+    Version,
+    Count,
+    Id,
+    Open,
+    Kind,
+    Type,
+    UserType,
+    Differs,
+    BookFull,
+    NoLayout,
+    RowLength,
+    Boolean,
+    EndCount,
+    AfterEnd,
+    Lent,
+    NotThere,
+    OtherKind,
+    OutOfTurn,
+    Value,
+    Unfinished,
+    NoRoom,
+    NotUtf8,
 }
 
-// A count with the place behind it, or a refusal by number and place.
-#[derive(Clone, Copy)]
-pub enum Counted {
-    Count(u32, usize),
-    Refused(u32, usize),
+// A refusal: the fault, and its place. A clause sees its number and place.
+#[derive(Clone, Copy, PartialEq, Eq)]
+pub struct Refused {
+    pub fault: Fault,
+    pub place: usize,
+}
+
+impl Model for Refused {
+    ghost use Rattle.octets.specs.Refusals.{Refusal};
+
+    ghost Value = { Refusal };
+
+    ghost use Rattle.octets.specs.Faults.{number_of, fault_of};
+
+    ghost view = { λ r. record { number = number_of r.fault; place = r.place } };
+
+    ghost inverse = { λ v. record { fault = fault_of v.number; place = v.place } };
+
+    ghost use Rattle.octets.specs.Faults.{inverse_ok};
+
+    ghost inverse_ok = { inverse_ok };
+}
+
+impl Fault {
+    ghost use Rattle.octets.specs.Faults.{number_of};
+
+    // The number that the scope gives it.
+    pub fn number(self) -> u32
+        ensures { result ≡ number_of self }
+    {
+        match self {
+            Fault::CutShort => 1,
+            Fault::TooLong => 2,
+            Fault::Version => 3,
+            Fault::Count => 4,
+            Fault::Id => 5,
+            Fault::Open => 6,
+            Fault::Kind => 7,
+            Fault::Type => 8,
+            Fault::UserType => 9,
+            Fault::Differs => 10,
+            Fault::BookFull => 11,
+            Fault::NoLayout => 12,
+            Fault::RowLength => 13,
+            Fault::Boolean => 14,
+            Fault::EndCount => 15,
+            Fault::AfterEnd => 16,
+            Fault::Lent => 17,
+            Fault::NotThere => 18,
+            Fault::OtherKind => 19,
+            Fault::OutOfTurn => 20,
+            Fault::Value => 21,
+            Fault::Unfinished => 22,
+            Fault::NoRoom => 23,
+            Fault::NotUtf8 => 24,
+        }
+    }
 }
 
 // How far a field may reach: to the document's end, or to the end of a row whose length is stated, with the place of that length.
@@ -47,35 +123,6 @@ pub enum Counted {
 pub enum Room {
     Document,
     Stated(usize, usize),
-}
-
-// Whether what is asked is refused, by number and place.
-#[derive(Clone, Copy)]
-pub enum Refusal {
-    None,
-    Refused(u32, usize),
-}
-
-// Whether what was found is a refusal.
-pub fn found_refusal(found: Ended) -> Refusal
-    ensures { result ≡ refusal_of (says found) }
-{
-    match found {
-        Ended::End(place) => Refusal::None,
-        Ended::Refused(n, p) => Refusal::Refused(n, p),
-    }
-}
-
-fn wide(x: u8) -> u32
-    ensures { (result ≡ x) × (result < 256) }
-{
-    x as u32
-}
-
-fn wide64(x: u32) -> u64
-    ensures { result ≡ x }
-{
-    x as u64
 }
 
 // The number that one octet spells.
@@ -91,7 +138,7 @@ pub fn u16_at(s: &[u8], at: usize) -> u16
     requires { at + 2 ≤ length s.now }
     ensures { result ≡ be 2 s.now at }
 {
-    (wide(s[at]) * 256 + wide(s[at + 1])) as u16
+    (u32::from(s[at]) * 256 + u32::from(s[at + 1])) as u16
 }
 
 // The number that four octets spell.
@@ -99,10 +146,10 @@ pub fn u32_at(s: &[u8], at: usize) -> u32
     requires { at + 4 ≤ length s.now }
     ensures { result ≡ be 4 s.now at }
 {
-    let a = wide(s[at]);
-    let b = wide(s[at + 1]);
-    let c = wide(s[at + 2]);
-    let d = wide(s[at + 3]);
+    let a = u32::from(s[at]);
+    let b = u32::from(s[at + 1]);
+    let c = u32::from(s[at + 2]);
+    let d = u32::from(s[at + 3]);
     ((a * 256 + b) * 256 + c) * 256 + d
 }
 
@@ -111,8 +158,8 @@ pub fn u64_at(s: &[u8], at: usize) -> u64
     requires { at + 8 ≤ length s.now }
     ensures { result ≡ be 8 s.now at }
 {
-    let high = wide64(u32_at(s, at));
-    let low = wide64(u32_at(s, at + 4));
+    let high = u64::from(u32_at(s, at));
+    let low = u64::from(u32_at(s, at + 4));
     high * 4294967296 + low
 }
 
@@ -127,39 +174,67 @@ pub fn reach(room: Room, s: &[u8]) -> usize
 }
 
 // The refusal of a field that passes the end of its room.
-pub fn overrun(room: Room, at: usize) -> Ended
-    ensures { says result ≡ overrun room at }
+pub fn overrun(room: Room, at: usize) -> Refused
+    ensures { says (Err result) ≡ overrun room at }
 {
     match room {
-        Room::Document => Ended::Refused(1, at),
-        Room::Stated(end, length_at) => Ended::Refused(13, length_at),
+        Room::Document => Refused {
+            fault: Fault::CutShort,
+            place: at,
+        },
+        Room::Stated(end, length_at) => Refused {
+            fault: Fault::RowLength,
+            place: length_at,
+        },
     }
 }
 
 // The place behind a number of so many octets. A field may be asked for at any place up to 2^32, past the end too; no sum wraps there.
-pub fn number_end(s: &[u8], at: usize, room: Room, w: usize) -> Ended
+pub fn number_end(s: &[u8], at: usize, room: Room, w: usize) -> Result<usize, Refused>
     requires { (at ≤ 4294967296) × (reach room s.now ≤ length s.now) × (length s.now ≤ longest) × (w ≤ 8) }
     ensures { (says result ≡ ends (number_in room w s.now at)) × Within at result (reach room s.now) }
 {
     if reach(room, s) < at + w {
-        return overrun(room, at);
+        return Err(overrun(room, at));
     }
-    Ended::End(at + w)
+    Ok(at + w)
 }
 
 // The count at a place, which is at most a limit.
-pub fn count_at(s: &[u8], at: usize, most: u32) -> Counted
+pub fn count_at(s: &[u8], at: usize, most: u32) -> Result<(u32, usize), Refused>
     requires { (at ≤ length s.now) × (length s.now ≤ longest) }
     ensures { (counts result ≡ count most s.now at) × CountWithin at result (length s.now) }
 {
     if s.len() < at + 4 {
-        return Counted::Refused(1, at);
+        return Err(Refused {
+            fault: Fault::CutShort,
+            place: at,
+        });
     }
     let n = u32_at(s, at);
     if most < n {
-        return Counted::Refused(4, at);
+        return Err(Refused {
+            fault: Fault::Count,
+            place: at,
+        });
     }
-    Counted::Count(n, at + 4)
+    Ok((n, at + 4))
+}
+
+// The place behind so many things that stand one behind another, each as what is passed finds its end.
+pub fn run_end<F: Fn(usize) -> Result<usize, Refused>>(
+    at: usize,
+    count: u32,
+    one: F,
+) -> Result<usize, Refused>
+    requires { FindsFrom (F.pre one) (F.post one) at }
+    ensures { (end : ℕ) (f : ℕ → Read ℕ) → at ≤ end → Finds (F.pre one) (F.post one) end f → (says result ≡ ends (run f count at)) × Within at result end }
+{
+    let mut pos = at;
+    for _ in 0..count {
+        pos = one(pos)?;
+    }
+    Ok(pos)
 }
 
 // Whether two runs of octets are equal, compared where they stand.
@@ -169,12 +244,10 @@ pub fn octets_same<'a, 'b>(a: &'a [u8], b: &'b [u8]) -> bool
     if a.len() != b.len() {
         return false;
     }
-    let mut i = 0;
-    while i < a.len() {
+    for i in 0..a.len() {
         if a[i] != b[i] {
             return false;
         }
-        i += 1;
     }
     true
 }
@@ -184,10 +257,8 @@ pub fn copy_in<'a, 'b>(xs: &'a [u8], rest: &'b mut [u8])
     requires { length xs.now ≤ length rest.old }
     ensures { rest.new ≡ xs.now ++ drop (length xs.now) rest.old }
 {
-    let mut i = 0;
-    while i < xs.len() {
+    for i in 0..xs.len() {
         rest[i] = xs[i];
-        i += 1;
     }
 }
 
@@ -196,10 +267,8 @@ pub fn put_number(rest: &mut [u8], w: usize, v: u64)
     requires { w ≤ length rest.old }
     ensures { rest.new ≡ word w v ++ drop w rest.old }
 {
-    let mut i = w;
     let mut left = v;
-    while 0 < i {
-        i -= 1;
+    for i in (0..w).rev() {
         rest[i] = (left % 256) as u8;
         left = left / 256;
     }

@@ -8,12 +8,12 @@ use native.Mathlib.Omega.{arith}
 use lib.ListN.{length, get_or}
 use lib.Dec.{leb}
 use borrow.Author.Tests.{leb-true, leb-false, eq-eqb, ne_eqb}
+use Rattle.std.specs.Prelude.{Result, Ok, Err}
 use Rattle.octets.specs.Reading.{ok, ends, is_ok, reach}
 use Rattle.octets.specs.Answers.{says, Within}
 use Rattle.octets.specs.declared.Room.{Room}
 use Rattle.octets.specs.declared.Room.TheVariants.{Stated}
-use Rattle.octets.specs.declared.Ended.{Ended}
-use Rattle.octets.specs.declared.Ended.TheVariants.{End, Refused}
+use Rattle.octets.specs.declared.Refused.{Refused}
 use Rattle.octets.proofs.Spans.{Spans, middle, one_is, part_spans, part_is}
 use Rattle.texts.specs.declared.Rule.TheVariants as rule
 use Rattle.kinds.specs.declared.Form.{Form}
@@ -216,11 +216,11 @@ module _ (kind : ℕ) (xs : List ℕ) where
   free_rule e = rw (ne_eqb kind 3 e) refl
 
 -- Octets that close a step, by their end in one room of that reach.
-pub closes_led : (s : List ℕ) (at end kind : ℕ) (x : Ended) → (kind ≡ 2 → ⊥) → says x ≡ ends (led_in (rule_at kind) (Stated end 0) s at) → Within at x end
+pub closes_led : (s : List ℕ) (at end kind : ℕ) (x : Result ℕ Refused) → (kind ≡ 2 → ⊥) → says x ≡ ends (led_in (rule_at kind) (Stated end 0) s at) → Within at x end
     → Closes s at end kind (passed_of x)
-closes_led s at end kind (End p) k e w =
+closes_led s at end kind (Ok p) k e w =
     (w.0, w.1, λ room h. rw (ne_eqb kind 2 k) (value_ends s at (form.Led (rule_at kind)) (Stated end 0) room (sym h) p (led_ends (Stated end 0) s at (rule_at kind) ∙ sym e)))
-closes_led s at end kind (Refused n p) k e w = λ room h.
+closes_led s at end kind (Err r) k e w = λ room h.
     rw (ne_eqb kind 2 k)
     (value_refused s at (form.Led (rule_at kind)) (Stated end 0) room (sym h)
     (sym (ends_ok (value_in (Stated end 0) (form.Led (rule_at kind)) s at)) ∙ (ap is_ok (led_ends (Stated end 0) s at (rule_at kind)) ∙ sym (ap is_ok e))))

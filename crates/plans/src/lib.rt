@@ -14,32 +14,11 @@ ghost use Rattle.plans.specs.Plan.{closer, mark, plan_of, most_steps, Plan};
 ghost use Rattle.plans.specs.Answers.{Puts, Closes, Follows, Lasts};
 
 use kinds::Form;
-use octets::{Ended, Room};
+use octets::Room;
 use texts::Rule;
 
 // How many steps there are in all, with those that say where plans stand.
 pub const MOST_STEPS: usize = 1216;
-
-// The place behind values, or that the exact readers are to be asked.
-#[derive(Clone, Copy)]
-pub enum Passed {
-    To(usize),
-    Unsure,
-}
-
-// The index behind a plan, or that the steps do not hold it.
-#[derive(Clone, Copy)]
-pub enum Put {
-    To(usize),
-    Full,
-}
-
-// A step as an index or a sum.
-pub fn wide(x: u16) -> usize
-    ensures { (result ≡ x) × (result < 65536) }
-{
-    x as usize
-}
 
 // The number that says what rule the octets obey that close a step.
 fn closer_of(rule: Rule) -> u16
@@ -63,7 +42,7 @@ fn mark_of(form: Form) -> u16
     }
 }
 
-// Puts the plan of so many attributes, which stand at a place of a document, into the steps from an index on, if it ends at another at most.
+// Puts the plan of so many attributes, which stand at a place of a document, into the steps from an index on, if it ends at another at most. Its answer is the index behind the plan.
 pub fn put_plan<'d, 'p>(
     doc: &'d [u8],
     first: usize,
@@ -71,72 +50,65 @@ pub fn put_plan<'d, 'p>(
     steps: &'p mut [u16; MOST_STEPS],
     from: usize,
     to: usize,
-) -> Put
+) -> Option<usize>
     requires { (length doc.now ≤ longest) × (count ≤ most_attributes) × (from ≤ to) × (to ≤ most_steps) × (length steps.old ≡ most_steps) × Attributes doc.now count first }
     ensures { ((xs : List Attribute) (last : ℕ) → run (attribute_at doc.now) count first ≡ ok xs last → Puts steps.new from to (plan_of 0 xs) result) × (take from steps.new ≡ take from steps.old) × (length steps.new ≡ most_steps) }
 {
     let mut place = first;
     let mut j = from;
     let mut sum: u16 = 0;
-    let mut i: u32 = 0;
-    while i < count {
+    for _ in 0..count {
         let kind = texts::text_skip(doc, place);
         let form = kinds::form_here(doc, kind);
         let more = mark_of(form);
         place = kind + 4;
-        i += 1;
         if more % 4 == 0 {
             sum += more;
-        } else {
-            if to <= j {
-                return Put::Full;
-            }
-            steps[j] = sum + more;
-            j += 1;
-            sum = 0;
+            continue;
         }
+        if to <= j {
+            return None;
+        }
+        steps[j] = sum + more;
+        j += 1;
+        sum = 0;
     }
     if to <= j {
-        return Put::Full;
+        return None;
     }
     steps[j] = sum;
-    Put::To(j + 1)
+    Some(j + 1)
 }
 
-// The place behind the boolean that closes a step: a plan asks for no refusal.
-fn truth_close(doc: &[u8], at: usize, end: usize) -> Passed
+// The place behind the boolean that closes a step. A plan asks for no refusal: at none the exact readers are asked.
+fn truth_close(doc: &[u8], at: usize, end: usize) -> Option<usize>
     requires { (end ≤ length doc.now) × (length doc.now ≤ longest) × (at ≤ 2097152) }
     ensures { Closes doc.now at end 2 result }
 {
     if end < at + 1 {
-        return Passed::Unsure;
+        return None;
     }
     if 1 < octets::u8_at(doc, at) {
-        return Passed::Unsure;
+        return None;
     }
-    Passed::To(at + 1)
+    Some(at + 1)
 }
 
 // The place behind the value that closes a step; of octets, those of a string are asked whether they are UTF-8.
-fn close_end(doc: &[u8], at: usize, end: usize, kind: usize) -> Passed
+fn close_end(doc: &[u8], at: usize, end: usize, kind: usize) -> Option<usize>
     requires { (end ≤ length doc.now) × (length doc.now ≤ longest) × (at ≤ 2097152) }
     ensures { Closes doc.now at end kind result }
 {
     if kind == 2 {
         return truth_close(doc, at, end);
     }
-    let there = texts::octets_end(doc, at, Room::Stated(end, 0));
-    match there {
-        Ended::Refused(n, p) => Passed::Unsure,
-        Ended::End(next) => {
-            if kind == 3 {
-                if !utf8::is_utf8(doc, at + 4, next) {
-                    return Passed::Unsure;
-                }
-            }
-            Passed::To(next)
-        }
+    let Ok(next) = texts::octets_end(doc, at, Room::Stated(end, 0)) else {
+        return None;
+    };
+    if kind == 3 && !utf8::is_utf8(doc, at + 4, next) {
+        return None;
     }
+    Some(next)
 }
 
 // The place behind the values of the attributes whose plan stands in the steps from an index on.
@@ -146,32 +118,24 @@ fn follow<'d, 'p>(
     end: usize,
     steps: &'p [u16; MOST_STEPS],
     from: usize,
-) -> Passed
+) -> Option<usize>
     requires { (at ≤ end) × (end ≤ length doc.now) × (length doc.now ≤ longest) × Plan steps.now from }
     ensures { Follows doc.now at end steps.now from result }
 {
     let mut pos = at;
     let mut j = from;
     loop {
-        let step = wide(steps[j]);
+        let step = usize::from(steps[j]);
         let place = pos + step / 4;
         let kind = step % 4;
         if kind == 0 {
             if end < place {
-                return Passed::Unsure;
+                return None;
             }
-            return Passed::To(place);
+            return Some(place);
         }
         j += 1;
-        let closed = close_end(doc, place, end, kind);
-        match closed {
-            Passed::Unsure => {
-                return Passed::Unsure;
-            }
-            Passed::To(next) => {
-                pos = next;
-            }
-        }
+        pos = close_end(doc, place, end, kind)?;
     }
 }
 
@@ -181,7 +145,7 @@ pub fn values_to<'d, 'p>(
     at: usize,
     steps: &'p [u16; MOST_STEPS],
     from: usize,
-) -> Passed
+) -> Option<usize>
     requires { (at + 4 ≤ length doc.now) × (length doc.now ≤ longest) × Plan steps.now from }
     ensures { Lasts doc.now at steps.now from result }
 {
@@ -191,16 +155,11 @@ pub fn values_to<'d, 'p>(
     }
     let end = at + 4 + (size as usize);
     if doc.len() < end {
-        return Passed::Unsure;
+        return None;
     }
-    let passed = follow(doc, at + 4, end, steps, from);
-    match passed {
-        Passed::Unsure => Passed::Unsure,
-        Passed::To(next) => {
-            if next != end {
-                return Passed::Unsure;
-            }
-            Passed::To(next)
-        }
+    let next = follow(doc, at + 4, end, steps, from)?;
+    if next != end {
+        return None;
     }
+    Some(next)
 }

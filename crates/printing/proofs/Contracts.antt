@@ -1,19 +1,19 @@
--- The contracts of printing themselves: each allows one count of what waits and one content of the buffer. Assumes nothing.
+-- The contracts of printing themselves: each allows one page: one count of what waits and one content of the buffer. Assumes nothing.
 use mathlib.Core.Path.{refl, sym, ◌∙◌}
 use Rattle.octets.specs.OfContracts.{Once}
 use Rattle.octets.proofs.Alike.{◌also◌}
-use Rattle.printing.proofs.Waits.{one_print}
-use Rattle.printing.proofs.flush as flush
-use Rattle.printing.proofs.octet as octet
-use Rattle.printing.proofs.show_all as show_all
-use Rattle.printing.proofs.decimal as decimal
-use Rattle.printing.proofs.filled as filled
-use Rattle.printing.proofs.signed as signed
-use Rattle.printing.proofs.named as named
-use Rattle.printing.proofs.hex as hex
-use Rattle.printing.proofs.refused as refused
-use Rattle.printing.proofs.truth as truth
-use Rattle.printing.proofs.value as value
+use Rattle.printing.proofs.Pages.{one_page}
+use Rattle.printing.proofs.Page.flush as flush
+use Rattle.printing.proofs.Page.octet as octet
+use Rattle.printing.proofs.Page.show_all as show_all
+use Rattle.printing.proofs.Page.decimal as decimal
+use Rattle.printing.proofs.Page.filled as filled
+use Rattle.printing.proofs.Page.signed as signed
+use Rattle.printing.proofs.Page.named as named
+use Rattle.printing.proofs.Page.hex as hex
+use Rattle.printing.proofs.Page.refused as refused
+use Rattle.printing.proofs.Page.truth as truth
+use Rattle.printing.proofs.Page.value as value
 
 pub record Contracts : Type 0 where
   pub of_flush : Once flush.Kinds.ps flush.Kinds.r flush.Reads.Pre flush.Reads.Post
@@ -31,15 +31,15 @@ pub record Contracts : Type 0 where
 pub contracts : Contracts
 contracts =
     record {
-      of_flush = λ κs a p x y u v e f. (e ∙ sym f, refl);
-      of_octet = λ κs a p x y u v e f. let q = one_print e f in (q.1, q.0 also refl);
-      of_show_all = λ κs a p x y u v e f. let q = one_print e f in (q.1, q.0 also refl);
-      of_decimal = λ κs a p x y u v e f. let q = one_print e f in (q.1, q.0 also refl);
-      of_filled = λ κs a p x y u v e f. let q = one_print e f in (q.1, q.0 also refl);
-      of_signed = λ κs a p x y u v e f. let q = one_print e f in (q.1, q.0 also refl);
-      of_named = λ κs a p x y u v e f. let q = one_print e f in (q.1, q.0 also refl);
-      of_hex = λ κs a p x y u v e f. let q = one_print e f in (q.1, q.0 also refl);
-      of_refused = λ κs a p x y u v e f. let q = one_print e f in (q.1, q.0 also refl);
-      of_truth = λ κs a p x y u v e f. let q = one_print e f in (q.1, q.0 also refl);
-      of_value = λ κs a p x y u v e f. let q = one_print e f in (q.1, q.0 also refl);
+      of_flush = λ κs a p x y u v e f. (refl, (e ∙ sym f) also refl);
+      of_octet = λ κs a p x y u v e f. (refl, one_page e f also refl);
+      of_show_all = λ κs a p x y u v e f. (refl, one_page e f also refl);
+      of_decimal = λ κs a p x y u v e f. (refl, one_page e f also refl);
+      of_filled = λ κs a p x y u v e f. (refl, one_page e f also refl);
+      of_signed = λ κs a p x y u v e f. (refl, one_page e f also refl);
+      of_named = λ κs a p x y u v e f. (refl, one_page e f also refl);
+      of_hex = λ κs a p x y u v e f. (refl, one_page e f also refl);
+      of_refused = λ κs a p x y u v e f. (refl, one_page e f also refl);
+      of_truth = λ κs a p x y u v e f. (refl, one_page e f also refl);
+      of_value = λ κs a p x y u v e f. (refl, one_page e f also refl);
     }

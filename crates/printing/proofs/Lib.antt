@@ -1,7 +1,7 @@
 pub mod Puts
 pub mod Waits
+pub mod Pages
 pub mod Spelling
 pub mod Signs
-pub mod Casts
 pub mod Digits
 pub mod Contracts

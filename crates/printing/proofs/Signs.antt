@@ -1,28 +1,30 @@
--- A number of 64 bits by its sign, as text: as it is, or as one more than the distance from -1.
-use mathlib.Core.Path.{◌≡◌, refl, sym, ap, ◌∙◌, subst}
+-- A number of 64 bits by its sign, as text: its size, behind a sign below 0.
+use mathlib.Core.Path.{◌≡◌, refl, sym, ap, ◌∙◌}
 use mathlib.Core.List.{◌++◌}
 use mathlib.Core.Bool.{true, false, false≢true}
-use Prim.Native.Nat.{◌+◌}
+use Prim.Native.Nat.{ℕ, ◌<◌}
 use native.Mathlib.Omega.{arith}
-use lib.IntN.{ℤ, pos, negsuc, nat_abs, ◌-ℤ◌}
-use lib.Signed.{le_z}
+use native.Mathlib.Numerals.{add-one}
+use lib.IntN.{ℤ, pos, negsuc, nat_abs}
+use lib.Signed.{lt_z}
 use mir.Syntax.{w64}
-use mir.Val.{Fits, SFits, to_z, of_z}
+use mir.Val.{SFits, to_z, of_z}
 use mir.Facts.{to_z-of_z}
-use Rattle.kinds.proofs.Unsigned.{under, below_is}
+use borrow.Author.Tests.{ltb-true}
 use Rattle.printing.specs.Text.{spelt, decimal, signed}
 
-from_0 : (z : ℤ) → le_z (pos 0) z ≡ true → decimal (nat_abs z) ≡ signed z
+from_0 : (z : ℤ) → lt_z z (pos 0) ≡ false → decimal (nat_abs z) ≡ signed z
 from_0 (pos n) t = refl
-from_0 (negsuc n) t = absurd (false≢true t)
+from_0 (negsuc n) t = absurd (false≢true (sym t))
 
-module _ (v : ℤ) (f : SFits w64 v) where
-  pub above_text : le_z (pos 0) (to_z w64 (of_z w64 v)) ≡ true → decimal (nat_abs (to_z w64 (of_z w64 v))) ≡ signed v
-  above_text t = subst (λ (z : ℤ). le_z (pos 0) z ≡ true → decimal (nat_abs z) ≡ signed v) (sym (to_z-of_z f)) (from_0 v) t
+below_0 : (z : ℤ) → lt_z z (pos 0) ≡ true → spelt "-" ++ decimal (nat_abs z) ≡ signed z
+below_0 (pos n) t = absurd (let h : n < 0 = ltb-true n 0 t in omega arith)
+below_0 (negsuc n) t = ap (λ (k : ℕ). spelt "-" ++ decimal k) (sym (add-one n))
 
-  module _ (t : le_z (pos 0) (to_z w64 (of_z w64 v)) ≡ false) where
-    pub below_next : Fits w64 (nat_abs (to_z w64 (of_z w64 (negsuc 0 -ℤ to_z w64 (of_z w64 v)))) + 1)
-    below_next = subst (λ (z : ℤ). Fits w64 (nat_abs z + 1)) (sym (below_is w64 v f t)) (record { fits = omega (arith, (under w64 v f t).small) })
+-- Of a number as it is handed over, its size as it was answered.
+module _ {v : ℤ} (f : SFits w64 v) {n : ℕ} (is : n ≡ nat_abs (to_z w64 (of_z w64 v))) where
+  pub above_text : lt_z (to_z w64 (of_z w64 v)) (pos 0) ≡ false → decimal n ≡ signed v
+  above_text t = ap decimal is ∙ (from_0 (to_z w64 (of_z w64 v)) t ∙ ap signed (to_z-of_z f))
 
-    pub below_text : spelt "-" ++ decimal (nat_abs (to_z w64 (of_z w64 (negsuc 0 -ℤ to_z w64 (of_z w64 v)))) + 1) ≡ signed v
-    below_text = ap (λ (z : ℤ). spelt "-" ++ decimal (nat_abs z + 1)) (below_is w64 v f t) ∙ ap signed (sym (under w64 v f t).is)
+  pub below_text : lt_z (to_z w64 (of_z w64 v)) (pos 0) ≡ true → spelt "-" ++ decimal n ≡ signed v
+  below_text t = ap (λ (k : ℕ). spelt "-" ++ decimal k) is ∙ (below_0 (to_z w64 (of_z w64 v)) t ∙ ap signed (to_z-of_z f))

@@ -2,79 +2,60 @@
 
 #![tactic(auto)]
 
-use printing::Show;
-use probe_input::{Args, Fed, Feed, Given};
-use probe_reads::Asked;
-use probe_writes::{Pen, Penned};
-use std::rt::Stdin;
+use printing::{Page, Show};
+use probe_input::{Args, Feed};
+use probe_writes::Pen;
 
-// A command's letter, its arguments and what is to be taken behind it.
-#[derive(Clone, Copy)]
-pub enum Command {
-    Is(u8, Args, usize, Feed),
-    End,
-    Bad,
-}
-
-// The commands that ask the reader, over as much of the document and the book as is lent.
+// The commands that ask the reader, over as much of the document and the book as is lent. None: the arguments are bad.
 fn read_turn(
+    page: &mut Page,
     letter: u8,
     doc: &[u8],
     book: &mut [u8],
     used: usize,
     a: Args,
-    out: &mut [u8],
-    n: usize,
-) -> Asked {
+) -> Option<()> {
     if book.len() < used {
-        return Asked::Bad;
+        return None;
     }
-    probe_reads::ask(letter, doc, &mut book[..used], a, out, n)
+    probe_reads::ask(page, letter, doc, &mut book[..used], a)
 }
 
 // The commands of the reading half. How much of the document and of the book is lent stands in two numbers.
 fn reads(
+    page: &mut Page,
     letter: u8,
     doc: &mut [u8],
     book: &mut [u8],
     lent: &mut [usize; 2],
     a: Args,
     xs: &[u8],
-    out: &mut [u8],
-    n: usize,
-) -> Asked {
+) -> Option<()> {
     if letter == b'D' {
         probe_input::put(doc, 0, xs);
         lent[0] = xs.len();
-        return Asked::To(n);
+        return Some(());
     }
     if letter == b'B' {
         probe_input::put(book, 0, xs);
         lent[1] = xs.len();
-        return Asked::To(n);
+        return Some(());
     }
     let front = probe_input::front(doc, lent[0]);
-    read_turn(letter, front, book, lent[1], a, out, n)
+    read_turn(page, letter, front, book, lent[1], a)
 }
 
 // Whether a command is of the reading half.
 fn is_read(letter: u8) -> bool {
-    match letter {
-        b'D' => true,
-        b'B' => true,
-        b'h' => true,
-        b'w' => true,
-        b's' => true,
-        b'f' => true,
-        b'y' => true,
-        b'a' => true,
-        b't' => true,
-        _ => false,
-    }
+    matches!(
+        letter,
+        b'D' | b'B' | b'h' | b'w' | b's' | b'f' | b'y' | b'a' | b't'
+    )
 }
 
-// One command, which has these arguments: the writer's pen and how much waits then, or that they are bad.
+// One command, which has these arguments: the writer's pen then, if they are good.
 fn turn(
+    page: &mut Page,
     letter: u8,
     doc: &mut [u8],
     book: &mut [u8],
@@ -84,34 +65,18 @@ fn turn(
     pen: Pen,
     a: Args,
     xs: &[u8],
-    out: &mut [u8],
-    n: usize,
-) -> Penned {
+) -> Option<Pen> {
     if is_read(letter) {
-        let asked = reads(letter, doc, book, lent, a, xs, out, n);
-        return match asked {
-            Asked::Bad => Penned::Bad,
-            Asked::To(to) => Penned::On(pen, to),
-        };
+        reads(page, letter, doc, book, lent, a, xs)?;
+        return Some(pen);
     }
-    probe_writes::written(letter, pen, a, xs, sheet, shelf, out, n)
-}
-
-// The next command, its octets put into a lent slice.
-fn command_at(input: Stdin, buf: &mut [u8; 4096], feed: Feed, given: &mut [u8]) -> Command {
-    let Fed::Is(letter, rest) = probe_input::letter(input, buf, feed) else {
-        return Command::End;
-    };
-    let arguments = probe_input::arguments(letter, input, buf, rest, given);
-    match arguments {
-        Given::Bad => Command::Bad,
-        Given::Is(a, n, behind) => Command::Is(letter, a, n as usize, behind),
-    }
+    probe_writes::written(page, letter, pen, a, xs, sheet, shelf)
 }
 
 // The last line where the input is bad.
-fn bad_input(out: &mut [u8], n: usize) -> usize {
-    printing::show_all(out, n, Show::Plain, b"bad input\n")
+fn bad_input(page: &mut Page) {
+    page.show_all(Show::Plain, b"bad input\n");
+    page.flush();
 }
 
 // Commands until the input ends or is bad.
@@ -127,44 +92,31 @@ fn main(rt: HostRuntime) {
     let mut buf = [0u8; 4096];
     let mut feed = Feed { at: 0, filled: 0 };
     let mut out = [0u8; 4096];
-    let mut n: usize = 0;
-    let mut bad = false;
-    let mut turns = u64::MAX;
-    while 0 < turns {
-        turns -= 1;
-        let is = command_at(input, &mut buf, feed, &mut given);
-        match is {
-            Command::End => {
-                turns = 0;
-            }
-            Command::Bad => {
-                bad = true;
-                turns = 0;
-            }
-            Command::Is(letter, a, k, behind) => {
-                feed = behind;
-                let xs = probe_input::front(&given, k);
-                let penned = turn(
-                    letter, &mut doc, &mut book, &mut lent, &mut sheet, &mut shelf, pen, a, xs,
-                    &mut out, n,
-                );
-                match penned {
-                    Penned::Bad => {
-                        bad = true;
-                        turns = 0;
-                    }
-                    Penned::On(then, to) => {
-                        pen = then;
-                        n = to;
-                    }
-                }
-            }
-        }
+    let mut page = Page::new(&mut out);
+    for _ in 0..u64::MAX {
+        let Some((letter, rest)) = probe_input::letter(input, &mut buf, feed) else {
+            return page.flush();
+        };
+        let Some(command) = probe_input::arguments(letter, input, &mut buf, rest, &mut given) else {
+            return bad_input(&mut page);
+        };
+        let xs = probe_input::front(&given, command.count as usize);
+        let Some(then) = turn(
+            &mut page,
+            letter,
+            &mut doc,
+            &mut book,
+            &mut lent,
+            &mut sheet,
+            &mut shelf,
+            pen,
+            command.args,
+            xs,
+        ) else {
+            return bad_input(&mut page);
+        };
+        feed = command.behind;
+        pen = then;
     }
-    if bad {
-        let last = bad_input(&mut out, n);
-        printing::flush(&out, last);
-        return;
-    }
-    printing::flush(&out, n);
+    page.flush();
 }

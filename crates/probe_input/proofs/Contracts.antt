@@ -1,8 +1,8 @@
--- The contracts of what is put into a buffer and of the words that the probe's lines are made of: each allows one answer, or one count of what waits and one content of the buffer. Assumes nothing.
+-- The contracts of what is put into a buffer and of the words that the probe's lines are made of: each allows one answer, one content or one page. Assumes nothing.
 use Rattle.std.proofs.Common.{sym, refl, ◌∙◌}
 use Rattle.octets.specs.OfContracts.{Once, OnceSeen}
 use Rattle.octets.proofs.Alike.{◌also◌}
-use Rattle.printing.proofs.Waits.{one_print}
+use Rattle.printing.proofs.Pages.{one_page}
 use Rattle.probe_input.proofs.put as put
 use Rattle.probe_input.proofs.front as front
 use Rattle.probe_input.proofs.part as part
@@ -21,7 +21,7 @@ contracts =
     record {
       of_put = λ κs a p x y u v e f. (refl, (e ∙ sym f) also refl also refl also refl);
       of_front = λ κs a p x y u v e f. (e ∙ sym f, refl);
-      of_part = λ κs a p x y u v e f. let q = one_print e f in (q.1, q.0 also refl);
-      of_sum = λ κs a p x y u v e f. let q = one_print e f in (q.1, q.0 also refl);
+      of_part = λ κs a p x y u v e f. (refl, one_page e f also refl);
+      of_sum = λ κs a p x y u v e f. (refl, one_page e f also refl);
       of_checksum = λ κs a p x y u v e f. (e ∙ sym f, refl);
     }

@@ -4,10 +4,10 @@
 
 ghost use Rattle.std.specs.Prelude.{◌≡◌, ◌*◌, ◌%◌, ◌^◌, take};
 ghost use Rattle.std.proofs.lemmas.List.Edits.{sets};
-ghost use Rattle.printing.specs.Text.{Prints};
+ghost use Rattle.printing.specs.Pages.{Shows};
 ghost use Rattle.probe_input.specs.Words.{checksum, part_text, sum_text};
 
-use printing::Show;
+use printing::{Page, Show};
 use std::io::Read;
 use std::rt::Stdin;
 
@@ -16,24 +16,6 @@ use std::rt::Stdin;
 pub struct Feed {
     pub at: usize,
     pub filled: usize,
-}
-
-#[derive(Clone, Copy)]
-pub enum Fed {
-    Is(u8, Feed),
-    End,
-}
-
-#[derive(Clone, Copy)]
-pub enum Filling {
-    Done(Feed),
-    Cut,
-}
-
-#[derive(Clone, Copy)]
-pub enum Drawn {
-    Is(u64, Feed),
-    Cut,
 }
 
 // A command's numbers; 0 where it has fewer.
@@ -46,41 +28,31 @@ pub struct Args {
     pub five: u64,
 }
 
-// A command's numbers and how many octets it has, or that its arguments are cut or too long.
+// A command's numbers, how many octets it has, and what is to be taken behind it.
 #[derive(Clone, Copy)]
-pub enum Given {
-    Is(Args, u64, Feed),
-    Bad,
+pub struct Given {
+    pub args: Args,
+    pub count: u64,
+    pub behind: Feed,
 }
 
-// How many octets a command takes, if any.
-#[derive(Clone, Copy)]
-pub enum Most {
-    Octets(u64),
-    None,
-}
-
-// The octets that one read brings. A failed read counts as the end.
-fn more(input: Stdin, buf: &mut [u8; 4096]) -> Fed {
+// The first octet that one read brings. A failed read counts as the end.
+fn more(input: Stdin, buf: &mut [u8; 4096]) -> Option<(u8, Feed)> {
     let mut from = input;
     let n = from.read(buf).unwrap_or(0);
     if n == 0 {
-        return Fed::End;
+        return None;
     }
-    Fed::Is(buf[0], Feed { at: 1, filled: n })
+    Some((buf[0], Feed { at: 1, filled: n }))
 }
 
-// The next octet.
-pub fn letter(input: Stdin, buf: &mut [u8; 4096], feed: Feed) -> Fed {
+// The next octet, if the input has not ended.
+pub fn letter(input: Stdin, buf: &mut [u8; 4096], feed: Feed) -> Option<(u8, Feed)> {
     let at = feed.at;
-    let filled = feed.filled;
-    if filled <= at {
+    if feed.filled <= at || 4096 <= at {
         return more(input, buf);
     }
-    if 4096 <= at {
-        return more(input, buf);
-    }
-    Fed::Is(buf[at], Feed { at: at + 1, filled })
+    Some((buf[at], Feed { at: at + 1, ..feed }))
 }
 
 fn store(to: &mut [u8], i: usize, x: u8) {
@@ -90,170 +62,132 @@ fn store(to: &mut [u8], i: usize, x: u8) {
 }
 
 // So many octets, of which a lent slice takes as many as it has room for.
-fn fill(input: Stdin, buf: &mut [u8; 4096], feed: Feed, to: &mut [u8], n: u64) -> Filling {
+fn fill(input: Stdin, buf: &mut [u8; 4096], feed: Feed, to: &mut [u8], n: u64) -> Option<Feed> {
     let mut at = feed;
-    let mut i: u64 = 0;
-    while i < n {
-        let Fed::Is(x, rest) = letter(input, buf, at) else {
-            return Filling::Cut;
-        };
+    for i in 0..n {
+        let (x, rest) = letter(input, buf, at)?;
         store(to, i as usize, x);
         at = rest;
-        i += 1;
     }
-    Filling::Done(at)
+    Some(at)
 }
 
 // A number of eight octets.
-fn number(input: Stdin, buf: &mut [u8; 4096], feed: Feed) -> Drawn {
+fn number(input: Stdin, buf: &mut [u8; 4096], feed: Feed) -> Option<(u64, Feed)> {
     let mut eight = [0u8; 8];
-    let filling = fill(input, buf, feed, &mut eight, 8);
-    match filling {
-        Filling::Cut => Drawn::Cut,
-        Filling::Done(rest) => Drawn::Is(octets::u64_at(&eight, 0), rest),
-    }
+    let rest = fill(input, buf, feed, &mut eight, 8)?;
+    Some((octets::u64_at(&eight, 0), rest))
 }
 
 // The first numbers of five, as many as are wanted.
-fn numbers(input: Stdin, buf: &mut [u8; 4096], feed: Feed, to: &mut [u64; 5], n: usize) -> Filling {
+fn numbers(
+    input: Stdin,
+    buf: &mut [u8; 4096],
+    feed: Feed,
+    to: &mut [u64; 5],
+    n: usize,
+) -> Option<Feed> {
     let mut at = feed;
-    let mut i: usize = 0;
-    while i < n {
-        let Drawn::Is(x, rest) = number(input, buf, at) else {
-            return Filling::Cut;
-        };
+    for i in 0..n {
+        let (x, rest) = number(input, buf, at)?;
         if i < 5 {
             to[i] = x;
         }
         at = rest;
-        i += 1;
     }
-    Filling::Done(at)
+    Some(at)
 }
 
 // How many numbers stand before a command's octets.
 fn before(letter: u8) -> usize {
     match letter {
         b'S' => 5,
-        b'f' => 4,
-        b'a' => 4,
-        b's' => 3,
-        b'y' => 3,
-        b't' => 2,
-        b'o' => 2,
-        b'v' => 2,
-        _ => alone(letter),
-    }
-}
-
-// Whether a command has one number before its octets.
-fn alone(letter: u8) -> usize {
-    match letter {
-        b'N' => 1,
-        b'P' => 1,
-        b'2' => 1,
-        b'4' => 1,
-        b'7' => 1,
-        b'k' => 1,
-        b'c' => 1,
-        b'u' => 1,
-        b'e' => 1,
+        b'f' | b'a' => 4,
+        b's' | b'y' => 3,
+        b't' | b'o' | b'v' => 2,
+        b'N' | b'P' | b'2' | b'4' | b'7' | b'k' | b'c' | b'u' | b'e' => 1,
         _ => 0,
     }
 }
 
-// The octets of a command: what is put into the buffer may be longer than it.
-fn most_of(letter: u8) -> Most {
+// The most octets of a command, if it takes any: what is put into the buffer may be longer than it.
+fn most_of(letter: u8) -> Option<u64> {
     match letter {
-        b'D' => Most::Octets(65600),
-        b'B' => Most::Octets(40000),
-        b'W' => Most::Octets(40000),
-        b'P' => Most::Octets(u64::MAX),
-        b'v' => Most::Octets(65600),
-        b'm' => Most::Octets(65600),
-        b'n' => Most::Octets(65600),
-        _ => text_most(letter),
-    }
-}
-
-// The strings of the header.
-fn text_most(letter: u8) -> Most {
-    match letter {
-        b'1' => Most::Octets(65600),
-        b'3' => Most::Octets(65600),
-        b'5' => Most::Octets(65600),
-        b'6' => Most::Octets(65600),
-        b'8' => Most::Octets(65600),
-        b'9' => Most::Octets(65600),
-        _ => Most::None,
+        b'B' | b'W' => Some(40000),
+        b'P' => Some(u64::MAX),
+        b'D' | b'v' | b'm' | b'n' => Some(65600),
+        // The strings of the header.
+        b'1' | b'3' | b'5' | b'6' | b'8' | b'9' => Some(65600),
+        _ => None,
     }
 }
 
 // Octets behind their length, at most so many.
-fn take(input: Stdin, buf: &mut [u8; 4096], feed: Feed, to: &mut [u8], most: u64) -> Drawn {
-    let Drawn::Is(n, rest) = number(input, buf, feed) else {
-        return Drawn::Cut;
-    };
+fn take(
+    input: Stdin,
+    buf: &mut [u8; 4096],
+    feed: Feed,
+    to: &mut [u8],
+    most: u64,
+) -> Option<(u64, Feed)> {
+    let (n, rest) = number(input, buf, feed)?;
     if most < n {
-        return Drawn::Cut;
+        return None;
     }
-    let Filling::Done(behind) = fill(input, buf, rest, to, n) else {
-        return Drawn::Cut;
-    };
-    Drawn::Is(n, behind)
+    let behind = fill(input, buf, rest, to, n)?;
+    Some((n, behind))
 }
 
 // The octets of a command, if it has any.
-fn octets_of(letter: u8, input: Stdin, buf: &mut [u8; 4096], feed: Feed, to: &mut [u8]) -> Drawn {
-    let most = most_of(letter);
-    match most {
-        Most::None => Drawn::Is(0, feed),
-        Most::Octets(n) => take(input, buf, feed, to, n),
-    }
+fn octets_of(
+    letter: u8,
+    input: Stdin,
+    buf: &mut [u8; 4096],
+    feed: Feed,
+    to: &mut [u8],
+) -> Option<(u64, Feed)> {
+    let Some(most) = most_of(letter) else {
+        return Some((0, feed));
+    };
+    take(input, buf, feed, to, most)
 }
 
 // How many numbers stand behind a command's octets.
 fn behind(letter: u8) -> usize {
-    if letter == b'W' {
-        return 1;
-    }
-    0
+    usize::from(letter == b'W')
 }
 
-// The arguments of a command: its numbers, and its octets in a lent slice.
+// The arguments of a command: its numbers, and its octets in a lent slice. None: they are cut or too long.
 pub fn arguments(
     letter: u8,
     input: Stdin,
     buf: &mut [u8; 4096],
     feed: Feed,
     to: &mut [u8],
-) -> Given {
+) -> Option<Given> {
     let mut five = [0u64; 5];
-    let Filling::Done(one) = numbers(input, buf, feed, &mut five, before(letter)) else {
-        return Given::Bad;
-    };
-    let Drawn::Is(n, two) = octets_of(letter, input, buf, one, to) else {
-        return Given::Bad;
-    };
-    let Filling::Done(three) = numbers(input, buf, two, &mut five, behind(letter)) else {
-        return Given::Bad;
-    };
-    let is = Args {
+    let one = numbers(input, buf, feed, &mut five, before(letter))?;
+    let (count, two) = octets_of(letter, input, buf, one, to)?;
+    let behind = numbers(input, buf, two, &mut five, behind(letter))?;
+    let args = Args {
         one: five[0],
         two: five[1],
         three: five[2],
         four: five[3],
         five: five[4],
     };
-    Given::Is(is, n, three)
+    Some(Given {
+        args,
+        count,
+        behind,
+    })
 }
 
 // Octets put at a place, as far as the slice reaches.
 pub fn put(to: &mut [u8], at: usize, xs: &[u8])
     ensures { to.new ≡ sets to.old at xs.now }
 {
-    let mut i = 0;
-    while i < xs.len() {
+    for i in 0..xs.len() {
         if to.len() <= at {
             return;
         }
@@ -261,7 +195,6 @@ pub fn put(to: &mut [u8], at: usize, xs: &[u8])
             return;
         }
         to[at + i] = xs[i];
-        i += 1;
     }
 }
 
@@ -273,12 +206,6 @@ pub fn front<'s>(s: &'s [u8], n: usize) -> &'s [u8]
         return &s[..n];
     }
     s
-}
-
-fn wide(x: u8) -> u64
-    ensures { result ≡ x }
-{
-    x as u64
 }
 
 // A product with 2^40 + 435, whose low 64 bits are kept.
@@ -296,29 +223,27 @@ fn checksum(xs: &[u8]) -> u64
     ensures { result ≡ checksum xs.now }
 {
     let mut h: u64 = 0xcbf2_9ce4_8422_2325;
-    let mut i = 0;
-    while i < xs.len() {
-        h = times_prime(h ^ wide(xs[i]));
-        i += 1;
+    for i in 0..xs.len() {
+        h = times_prime(h ^ u64::from(xs[i]));
     }
     h
 }
 
 // A part behind a space: its hex digits, or "-" for none.
-pub fn part(out: &mut [u8], n: usize, xs: &[u8]) -> usize
-    ensures { Prints out.old n (part_text xs.now) out.new result }
+pub fn part(page: &mut Page, xs: &[u8])
+    ensures { Shows page.old (part_text xs.now) page.new }
 {
-    let to = printing::octet(out, n, b' ');
+    page.octet(b' ');
     if xs.len() == 0 {
-        return printing::octet(out, to, b'-');
+        return page.octet(b'-');
     }
-    printing::show_all(out, to, Show::Hex, xs)
+    page.show_all(Show::Hex, xs);
 }
 
 // The checksum of a lent buffer behind a space.
-pub fn sum(out: &mut [u8], n: usize, xs: &[u8]) -> usize
-    ensures { Prints out.old n (sum_text xs.now) out.new result }
+pub fn sum(page: &mut Page, xs: &[u8])
+    ensures { Shows page.old (sum_text xs.now) page.new }
 {
-    let to = printing::octet(out, n, b' ');
-    printing::hex(out, to, 8, checksum(xs))
+    page.octet(b' ');
+    page.hex(8, checksum(xs));
 }

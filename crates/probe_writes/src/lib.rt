@@ -3,23 +3,17 @@
 #![tactic(auto)]
 
 use kinds::Basic;
-use printing::Show;
+use octets::Refused;
+use printing::{Page, Show};
 use probe_input::Args;
-use writer::{Answer, State, Wanted};
+use writer::{Standing, State, Wanted};
 
-// The writer's state, the sizes of the buffer and the book that are lent to it, and the used count.
+// Where the writer stands, and the sizes of the buffer and the book that are lent to it.
 #[derive(Clone, Copy)]
 pub struct Pen {
-    pub state: State,
+    pub from: Standing,
     pub size: usize,
     pub shelf: usize,
-    pub used: usize,
-}
-
-#[derive(Clone, Copy)]
-pub enum Penned {
-    On(Pen, usize),
-    Bad,
 }
 
 // The arguments that a call takes; a layout's number may complete it, and so change the book.
@@ -37,60 +31,50 @@ pub enum Sort {
 
 // The first octets of a lent buffer set.
 fn set_front(s: &mut [u8], n: usize, x: u8) {
-    let mut i = 0;
-    while i < n {
-        if s.len() <= i {
-            return;
-        }
-        s[i] = x;
-        i += 1;
-    }
+    let to = n.min(s.len());
+    s[..to].fill(x);
 }
 
 // Before any command nothing is lent.
 pub fn cleared() -> Pen {
-    let state = writing::fresh();
     Pen {
-        state,
+        from: writing::fresh(),
         size: 0,
         shelf: 0,
-        used: 0,
     }
 }
 
 // The command N: the size of the buffer.
-fn fresh(a: Args, sheet: &mut [u8], shelf: &mut [u8], n: usize) -> Penned {
+fn fresh(a: Args, sheet: &mut [u8], shelf: &mut [u8]) -> Option<Pen> {
     let size = a.one as usize;
     if sheet.len() < size {
-        return Penned::Bad;
+        return None;
     }
     set_front(sheet, size, 0xaa);
     set_front(shelf, octets::BOOK_ROOM, 0x55);
-    let state = writing::fresh();
-    let pen = Pen {
-        state,
+    Some(Pen {
+        from: writing::fresh(),
         size,
         shelf: octets::BOOK_ROOM,
-        used: 0,
-    };
-    Penned::On(pen, n)
+    })
 }
 
 // The command W: the book's octets, and how many of them are used.
-fn lent(pen: Pen, a: Args, xs: &[u8], shelf: &mut [u8], n: usize) -> Penned {
+fn lent(pen: Pen, a: Args, xs: &[u8], shelf: &mut [u8]) -> Pen {
     probe_input::put(shelf, 0, xs);
-    let state = pen.state;
-    let next = Pen {
-        state,
-        size: pen.size,
-        shelf: xs.len(),
+    let from = Standing {
         used: a.one as usize,
+        ..pen.from
     };
-    Penned::On(next, n)
+    Pen {
+        from,
+        shelf: xs.len(),
+        ..pen
+    }
 }
 
-// A turn of the header, in image order.
-fn header_turn(n: u64) -> Wanted {
+// A turn by its number in image order.
+fn turn(n: u64) -> Wanted {
     match n {
         0 => Wanted::Recorder,
         1 => Wanted::StartTime,
@@ -99,13 +83,7 @@ fn header_turn(n: u64) -> Wanted {
         4 => Wanted::Uri,
         5 => Wanted::ShortName,
         6 => Wanted::ServiceCount,
-        _ => Wanted::Service,
-    }
-}
-
-// A turn by its number in image order.
-fn turn(n: u64) -> Wanted {
-    match n {
+        7 => Wanted::Service,
         8 => Wanted::DocumentId,
         9 => Wanted::Element,
         10 => Wanted::TypeName,
@@ -113,24 +91,19 @@ fn turn(n: u64) -> Wanted {
         12 => Wanted::AttributeName,
         13 => Wanted::AttributeType,
         14 => Wanted::Value,
-        15 => Wanted::Nothing,
-        _ => header_turn(n),
+        _ => Wanted::Nothing,
     }
 }
 
 // The number itself, or the largest of 32 bits where it is larger: both are over every limit.
 fn cut(n: u64) -> u32 {
-    if n < 0xffff_ffff {
-        n as u32
-    } else {
-        0xffff_ffff
-    }
+    u32::try_from(n).unwrap_or(u32::MAX)
 }
 
 // The command S: a turn, and the state's numbers.
-fn placed(pen: Pen, a: Args, n: usize) -> Penned {
+fn placed(pen: Pen, a: Args) -> Option<Pen> {
     if 15 < a.one {
-        return Penned::Bad;
+        return None;
     }
     let state = State {
         place: a.two as usize,
@@ -139,102 +112,100 @@ fn placed(pen: Pen, a: Args, n: usize) -> Penned {
         start: a.four as usize,
         rows: cut(a.five),
     };
-    let next = Pen {
-        state,
-        size: pen.size,
-        shelf: pen.shelf,
-        used: pen.used,
-    };
-    Penned::On(next, n)
+    let from = Standing { state, ..pen.from };
+    Some(Pen { from, ..pen })
 }
 
 // The command i.
-fn image(sheet: &[u8], place: usize, out: &mut [u8], n: usize) -> usize {
-    let word = printing::show_all(out, n, Show::Plain, b"image");
-    let to = probe_input::part(out, word, probe_input::front(sheet, place));
-    printing::octet(out, to, b'\n')
+fn image(page: &mut Page, sheet: &[u8], place: usize) {
+    page.show_all(Show::Plain, b"image");
+    probe_input::part(page, probe_input::front(sheet, place));
+    page.octet(b'\n');
 }
 
 // A call that is given octets.
 fn text_call(
     letter: u8,
-    state: State,
+    from: Standing,
     sheet: &mut [u8],
     shelf: &[u8],
-    used: usize,
     xs: &[u8],
-) -> Answer {
+) -> Result<Standing, Refused> {
     match letter {
-        b'1' => writing::recorder(state, sheet, shelf, used, xs),
-        b'3' => writing::default_namespace(state, sheet, shelf, used, xs),
-        b'5' => writing::uri(state, sheet, shelf, used, xs),
-        b'6' => writing::short_name(state, sheet, shelf, used, xs),
-        b'8' => writing::service(state, sheet, shelf, used, xs),
-        b'9' => writing::document_id(state, sheet, shelf, used, xs),
-        b'm' => writing::type_name(state, sheet, shelf, used, xs),
-        _ => writing::attribute_name(state, sheet, shelf, used, xs),
+        b'1' => writing::recorder(from, sheet, shelf, xs),
+        b'3' => writing::default_namespace(from, sheet, shelf, xs),
+        b'5' => writing::uri(from, sheet, shelf, xs),
+        b'6' => writing::short_name(from, sheet, shelf, xs),
+        b'8' => writing::service(from, sheet, shelf, xs),
+        b'9' => writing::document_id(from, sheet, shelf, xs),
+        b'm' => writing::type_name(from, sheet, shelf, xs),
+        _ => writing::attribute_name(from, sheet, shelf, xs),
     }
 }
 
 // A call that is given a number of 32 bits.
 fn number_call(
     letter: u8,
-    s: State,
+    from: Standing,
     sheet: &mut [u8],
     shelf: &[u8],
-    used: usize,
     n: u32,
-) -> Answer {
+) -> Result<Standing, Refused> {
     match letter {
-        b'4' => writing::namespace_count(s, sheet, shelf, used, n),
-        b'7' => writing::service_count(s, sheet, shelf, used, n),
-        _ => writing::open_layout(s, sheet, shelf, used, n),
+        b'4' => writing::namespace_count(from, sheet, shelf, n),
+        b'7' => writing::service_count(from, sheet, shelf, n),
+        _ => writing::open_layout(from, sheet, shelf, n),
     }
 }
 
 // The commands c and u.
 fn layout_call(
     letter: u8,
-    s: State,
+    from: Standing,
     sheet: &mut [u8],
     shelf: &mut [u8],
-    used: usize,
     n: u32,
-) -> Answer {
+) -> Result<Standing, Refused> {
     if letter == b'c' {
-        return writing::attribute_count(s, sheet, shelf, used, n);
+        writing::attribute_count(from, sheet, shelf, n)
+    } else {
+        writing::attribute_type(from, sheet, shelf, n)
     }
-    writing::attribute_type(s, sheet, shelf, used, n)
 }
 
 // A call that is given a time.
 fn time_call(
     letter: u8,
-    s: State,
+    from: Standing,
     sheet: &mut [u8],
     shelf: &[u8],
-    used: usize,
     bits: u64,
-) -> Answer {
-    let time = kinds::signed64(bits);
+) -> Result<Standing, Refused> {
+    let time = bits.cast_signed();
     if letter == b'2' {
-        return writing::start_time(s, sheet, shelf, used, time);
+        writing::start_time(from, sheet, shelf, time)
+    } else {
+        writing::finish(from, sheet, shelf, time)
     }
-    writing::finish(s, sheet, shelf, used, time)
 }
 
 // The commands x and z.
-fn plain_call(letter: u8, s: State, sheet: &mut [u8], shelf: &[u8], used: usize) -> Answer {
+fn plain_call(
+    letter: u8,
+    from: Standing,
+    sheet: &mut [u8],
+    shelf: &[u8],
+) -> Result<Standing, Refused> {
     if letter == b'x' {
-        return writing::close_row(s, sheet, shelf, used);
+        writing::close_row(from, sheet, shelf)
+    } else {
+        writing::give_up(from, sheet, shelf)
     }
-    writing::give_up(s, sheet, shelf, used)
 }
 
 // The low octets of a number, as many as a basic type has.
 fn low(b: Basic, n: u64) -> u64 {
-    let w = writer::width_of(b);
-    match w {
+    match writer::width_of(b) {
         1 => n % 256,
         2 => n % 65536,
         4 => n % 4294967296,
@@ -244,81 +215,46 @@ fn low(b: Basic, n: u64) -> u64 {
 
 // The basic type of a low octet, or any where it is none's.
 fn basic(code: u64) -> Basic {
-    if code < 0x21 {
-        return Basic::Int;
-    }
-    if 0x2d < code {
-        return Basic::Int;
-    }
-    kinds::basic_of(code as u32)
+    Basic::try_from(cut(code)).unwrap_or(Basic::Int)
 }
 
 // A value: octets for hexBinary and string, else a number.
 fn value_call(
     b: Basic,
-    state: State,
+    from: Standing,
     sheet: &mut [u8],
     shelf: &[u8],
-    used: usize,
     bits: u64,
     xs: &[u8],
-) -> Answer {
+) -> Result<Standing, Refused> {
     if writer::suits_octets(b) {
-        return writing::value_octets(state, sheet, shelf, used, b, xs);
-    }
-    writing::value_number(state, sheet, shelf, used, b, low(b, bits))
-}
-
-// What arguments a digit's call takes.
-fn digit_sort(letter: u8) -> Sort {
-    match letter {
-        b'1' => Sort::Text,
-        b'2' => Sort::Time,
-        b'3' => Sort::Text,
-        b'4' => Sort::Number,
-        b'5' => Sort::Text,
-        b'6' => Sort::Text,
-        b'7' => Sort::Number,
-        b'8' => Sort::Text,
-        b'9' => Sort::Text,
-        _ => Sort::Unknown,
+        writing::value_octets(from, sheet, shelf, b, xs)
+    } else {
+        writing::value_number(from, sheet, shelf, b, low(b, bits))
     }
 }
 
 // What arguments a letter's call takes.
 fn sort_of(letter: u8) -> Sort {
     match letter {
-        b'k' => Sort::Number,
-        b'm' => Sort::Text,
-        b'c' => Sort::Layout,
-        b'n' => Sort::Text,
-        b'u' => Sort::Layout,
+        b'1' | b'3' | b'5' | b'6' | b'8' | b'9' | b'm' | b'n' => Sort::Text,
+        b'4' | b'7' | b'k' => Sort::Number,
+        b'c' | b'u' => Sort::Layout,
+        b'2' | b'e' => Sort::Time,
         b'o' => Sort::Row,
         b'v' => Sort::Value,
-        b'x' => Sort::Nothing,
-        b'z' => Sort::Nothing,
-        b'e' => Sort::Time,
-        _ => digit_sort(letter),
+        b'x' | b'z' => Sort::Nothing,
+        _ => Sort::Unknown,
     }
 }
 
 // Whether a call is known and its numbers are in their ranges.
-fn good(sort: Sort, one: u64, two: u64) -> bool {
+fn good(sort: Sort, a: Args) -> bool {
+    let most = u64::from(u32::MAX);
     match sort {
-        Sort::Number => one <= 0xffff_ffff,
-        Sort::Layout => one <= 0xffff_ffff,
-        Sort::Row => {
-            if 0xffff_ffff < one {
-                return false;
-            }
-            two <= 1
-        }
-        Sort::Value => {
-            if one < 0x21 {
-                return false;
-            }
-            one <= 0x2d
-        }
+        Sort::Number | Sort::Layout => a.one <= most,
+        Sort::Row => a.one <= most && a.two <= 1,
+        Sort::Value => (0x21..=0x2d).contains(&a.one),
         Sort::Unknown => false,
         _ => true,
     }
@@ -328,21 +264,19 @@ fn good(sort: Sort, one: u64, two: u64) -> bool {
 fn field_call(
     letter: u8,
     sort: Sort,
-    s: State,
+    from: Standing,
     sheet: &mut [u8],
     shelf: &[u8],
-    used: usize,
-    one: u64,
-    two: u64,
+    a: Args,
     xs: &[u8],
-) -> Answer {
+) -> Result<Standing, Refused> {
     match sort {
-        Sort::Text => text_call(letter, s, sheet, shelf, used, xs),
-        Sort::Number => number_call(letter, s, sheet, shelf, used, cut(one)),
-        Sort::Time => time_call(letter, s, sheet, shelf, used, one),
-        Sort::Row => writing::open_row(s, sheet, shelf, used, cut(one), two == 1),
-        Sort::Value => value_call(basic(one), s, sheet, shelf, used, two, xs),
-        _ => plain_call(letter, s, sheet, shelf, used),
+        Sort::Text => text_call(letter, from, sheet, shelf, xs),
+        Sort::Number => number_call(letter, from, sheet, shelf, cut(a.one)),
+        Sort::Time => time_call(letter, from, sheet, shelf, a.one),
+        Sort::Row => writing::open_row(from, sheet, shelf, cut(a.one), a.two == 1),
+        Sort::Value => value_call(basic(a.one), from, sheet, shelf, a.two, xs),
+        _ => plain_call(letter, from, sheet, shelf),
     }
 }
 
@@ -350,128 +284,111 @@ fn field_call(
 fn call(
     letter: u8,
     sort: Sort,
-    s: State,
+    from: Standing,
     sheet: &mut [u8],
     shelf: &mut [u8],
-    used: usize,
-    one: u64,
-    two: u64,
+    a: Args,
     xs: &[u8],
-) -> Answer {
+) -> Result<Standing, Refused> {
     match sort {
-        Sort::Layout => layout_call(letter, s, sheet, shelf, used, cut(one)),
-        _ => field_call(letter, sort, s, sheet, shelf, used, one, two, xs),
+        Sort::Layout => layout_call(letter, from, sheet, shelf, cut(a.one)),
+        _ => field_call(letter, sort, from, sheet, shelf, a, xs),
     }
 }
 
 // What a call answered.
-fn answer_words(out: &mut [u8], n: usize, answer: Answer) -> usize {
+fn answer_words(page: &mut Page, answer: Result<Standing, Refused>) {
     match answer {
-        Answer::Done(state, used) => {
-            let to = printing::named(out, n, b"done ", state.place as u64);
-            printing::named(out, to, b" ", used as u64)
+        Ok(next) => {
+            page.named(b"done ", next.state.place as u64);
+            page.named(b" ", next.used as u64);
         }
-        Answer::Refused(number, place) => printing::refused(out, n, number, place),
+        Err(r) => page.refused(r),
     }
 }
 
 // What a call answered, with the checksums of the buffer and the book.
-fn answer_line(answer: Answer, sheet: &[u8], shelf: &[u8], out: &mut [u8], n: usize) -> usize {
-    let words = answer_words(out, n, answer);
-    let one = probe_input::sum(out, words, sheet);
-    let two = probe_input::sum(out, one, shelf);
-    printing::octet(out, two, b'\n')
+fn answer_line(page: &mut Page, answer: Result<Standing, Refused>, sheet: &[u8], shelf: &[u8]) {
+    answer_words(page, answer);
+    probe_input::sum(page, sheet);
+    probe_input::sum(page, shelf);
+    page.octet(b'\n');
 }
 
 // The pen behind a call: a refusal leaves it as it was.
-fn moved(pen: Pen, answer: Answer) -> Pen {
+fn moved(pen: Pen, answer: &Result<Standing, Refused>) -> Pen {
     match answer {
-        Answer::Done(state, used) => Pen {
-            state,
-            size: pen.size,
-            shelf: pen.shelf,
-            used,
-        },
-        Answer::Refused(number, place) => pen,
+        Ok(from) => Pen { from: *from, ..pen },
+        Err(_) => pen,
     }
 }
 
 // A command over the buffer and the book that are lent.
 fn lent_turn(
+    page: &mut Page,
     letter: u8,
     pen: Pen,
     a: Args,
     xs: &[u8],
     sheet: &mut [u8],
     shelf: &mut [u8],
-    out: &mut [u8],
-    n: usize,
-) -> Penned {
+) -> Option<Pen> {
     if letter == b'P' {
         probe_input::put(sheet, a.one as usize, xs);
-        return Penned::On(pen, n);
+        return Some(pen);
     }
     if letter == b'i' {
-        let state = pen.state;
-        return Penned::On(pen, image(sheet, state.place, out, n));
+        image(page, sheet, pen.from.state.place);
+        return Some(pen);
     }
     let sort = sort_of(letter);
-    if !good(sort, a.one, a.two) {
-        return Penned::Bad;
+    if !good(sort, a) {
+        return None;
     }
-    let answer = call(
-        letter, sort, pen.state, sheet, shelf, pen.used, a.one, a.two, xs,
-    );
-    let to = answer_line(answer, sheet, shelf, out, n);
-    Penned::On(moved(pen, answer), to)
+    let answer = call(letter, sort, pen.from, sheet, shelf, a, xs);
+    let then = moved(pen, &answer);
+    answer_line(page, answer, sheet, shelf);
+    Some(then)
 }
 
 // A command over the parts that are lent of the buffer and the book.
 fn lent_parts(
+    page: &mut Page,
     letter: u8,
     pen: Pen,
     a: Args,
     xs: &[u8],
     sheet: &mut [u8],
     shelf: &mut [u8],
-    out: &mut [u8],
-    n: usize,
-) -> Penned {
-    let size = pen.size;
-    let length = pen.shelf;
-    if sheet.len() < size {
-        return Penned::Bad;
-    }
-    if shelf.len() < length {
-        return Penned::Bad;
+) -> Option<Pen> {
+    if sheet.len() < pen.size || shelf.len() < pen.shelf {
+        return None;
     }
     lent_turn(
+        page,
         letter,
         pen,
         a,
         xs,
-        &mut sheet[..size],
-        &mut shelf[..length],
-        out,
-        n,
+        &mut sheet[..pen.size],
+        &mut shelf[..pen.shelf],
     )
 }
 
-// A command of the writing half: what the octets that wait are then, or that the arguments are bad.
+// A command of the writing half: the pen then, or None where the arguments are bad.
 pub fn written(
+    page: &mut Page,
     letter: u8,
     pen: Pen,
     a: Args,
     xs: &[u8],
     sheet: &mut [u8],
     shelf: &mut [u8],
-    out: &mut [u8],
-    n: usize,
-) -> Penned {
+) -> Option<Pen> {
     match letter {
-        b'N' => fresh(a, sheet, shelf, n),
-        b'W' => lent(pen, a, xs, shelf, n),
-        b'S' => placed(pen, a, n),
-        _ => lent_parts(letter, pen, a, xs, sheet, shelf, out, n),
+        b'N' => fresh(a, sheet, shelf),
+        b'W' => Some(lent(pen, a, xs, shelf)),
+        b'S' => placed(pen, a),
+        _ => lent_parts(page, letter, pen, a, xs, sheet, shelf),
     }
 }

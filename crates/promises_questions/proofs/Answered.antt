@@ -26,7 +26,7 @@ use Rattle.kinds.specs.Values.{octets_of}
 use Rattle.questions.specs.Answers.{field_tells, kind_tells}
 use Rattle.octets.proofs.Asked.{nth_none, nth_some}
 use Rattle.texts.specs.Texts.{led_image}
-use Rattle.questions.proofs.Asked.{attribute_asked_lem, field_asked_lem, field_unasked}
+use Rattle.questions.proofs.Questions.{attribute_asked_lem, field_asked_lem, field_unasked}
 use Rattle.questions.proofs.After.{row_after, layout_after}
 use Rattle.header_questions.specs.Questions.{namespaces_place, services_place, namespace_asked, service_asked}
 use Rattle.promises.specs.BySteps.{Ending, BySteps, Meets}

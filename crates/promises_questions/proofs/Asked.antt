@@ -21,7 +21,7 @@ use Rattle.elements.proofs.Refusing.{number_stays, layout_stays, learn_stays, ro
 use Rattle.elements.proofs.Told.{element_layout, element_row}
 use Rattle.octets.specs.Asked.{first_of, nth}
 use Rattle.questions.specs.Questions.{kind_asked, book_asked, row_of, layout_of, row_asked, field_asked, layout_asked, attribute_asked}
-use Rattle.questions.proofs.Asked.{kind_forth}
+use Rattle.questions.proofs.Questions.{kind_forth}
 use Rattle.header_questions.specs.Questions.{namespaces_place, services_place, namespace_asked, service_asked}
 use Rattle.promises.specs.Refusals.{Only}
 use Rattle.promises.proofs.Numbers.{taken, given, In, only, only_with, only_then, only_choose, book_17, header_only}

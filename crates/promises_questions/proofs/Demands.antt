@@ -12,7 +12,7 @@ use Rattle.layouts.specs.Book.{Book}
 use Rattle.headers.specs.Header.{header_at}
 use Rattle.elements.specs.Walk.{lent_at}
 use Rattle.elements.specs.Reading.{Placed, Reading, headed, rows_of}
-use Rattle.questions.proofs.Asked.{field_unasked}
+use Rattle.questions.proofs.Questions.{field_unasked}
 use Rattle.questions.proofs.After.{row_kind, row_refused}
 use Rattle.promises.specs.BySteps.{Ending, ended, refused, BySteps, answer, FromFirst, no_header, then_steps, Carries}
 use Rattle.promises.specs.Resume.{CutAt, Taken, FirstLacking, Resumed}

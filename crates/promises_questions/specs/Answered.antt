@@ -1,5 +1,5 @@
 -- Demands 2 and 3 for the questions: at each element that a reading by steps meets, asked with what its own step is given, they answer that element; and of an accepted header all that it holds.
-use Rattle.std.specs.Prelude.{ℕ, ◌+◌, ◌≤◌, ◌≡◌, List, ◌∷◌, ◌++◌, length, drop}
+use Rattle.std.specs.Prelude.{ℕ, ◌+◌, ◌≤◌, ◌≡◌, List, ◌∷◌, ◌++◌, length, drop, Ok, Err}
 use Rattle.octets.specs.Reading.{Read, ok, no, number}
 use Rattle.kinds.specs.Kinds.{signed}
 use Rattle.layouts.specs.Layout.{Attribute, Layout}
@@ -10,13 +10,10 @@ use Rattle.elements.specs.Element.{Element, item, layout, row, finish}
 use Rattle.elements.specs.Walk.{Lent, lent_at}
 use Rattle.elements.specs.Reading.{Placed, Reading, reading, rows_of}
 use Rattle.reading.specs.Answers.{head_tells}
-use Rattle.reading.specs.declared.Headed.TheVariants as headed
 use Rattle.octets.specs.Asked.{nth, part_of}
 use Rattle.questions.specs.Questions.{field_asked, layout_asked, attribute_asked}
 use Rattle.kinds.specs.Values.{value_of, octets_of}
 use Rattle.questions.specs.Answers.{field_tells, kind_tells}
-use Rattle.questions.specs.declared.Fielded.TheVariants as fielded
-use Rattle.kinds.specs.declared.Kinded.TheVariants as kinded
 use Rattle.header_questions.specs.Questions.{namespaces_place, services_place, namespace_asked, service_asked}
 use Rattle.promises.specs.BySteps.{Ending, BySteps, Meets, Stops}
 use Rattle.promises.specs.Resume.{AllIn, layouts_of, FirstLacking}
@@ -43,10 +40,10 @@ AtEach {A} xs P = (n : ℕ) (x : A) (rest : List A) → drop n xs ≡ x ∷ rest
 pub record RowAnswered (s : List ℕ) (x : Lent) (r : Row) (next : ℕ) : Type 0 where
   pub field : Items (field_over s x) x.at r.fields next
   pub value : AtEach r.fields λ n f.
-      field_tells (field_over s x n) ≡ fielded.Is f.attribute.kind (value_of f.attribute.kind.basic f.value)
+      field_tells (field_over s x n) ≡ Ok (record { kind = f.attribute.kind; value = value_of f.attribute.kind.basic f.value })
   pub name : AtEach r.fields λ n f. part_of (λ y. y.attribute.name) (field_over s x n) ≡ f.attribute.name
   pub held : AtEach r.fields λ n f. part_of (λ y. octets_of y.value) (field_over s x n) ≡ octets_of f.value
-  pub behind : (n : ℕ) → length r.fields ≤ n → field_tells (field_over s x n) ≡ fielded.Refused 18 x.at
+  pub behind : (n : ℕ) → length r.fields ≤ n → field_tells (field_over s x n) ≡ Err (record { number = 18; place = x.at })
   pub other : layout_over s x ≡ no 19 x.at
 
 -- A layout: its type name, and every attribute of it by name and type; 18 at the layout behind the last. It is no row.
@@ -54,8 +51,8 @@ pub record LayoutAnswered (s : List ℕ) (x : Lent) (l : Layout) (next : ℕ) : 
   pub type_name : part_of (λ y. y.type_name) (layout_over s x) ≡ l.type_name
   pub attribute : Items (attribute_over s x) x.at l.attributes next
   pub name : AtEach l.attributes λ n a. part_of (λ y. y.name) (attribute_over s x n) ≡ a.name
-  pub kind : AtEach l.attributes λ n a. kind_tells (attribute_over s x n) ≡ kinded.Is a.kind
-  pub behind : (n : ℕ) → length l.attributes ≤ n → kind_tells (attribute_over s x n) ≡ kinded.Refused 18 x.at
+  pub kind : AtEach l.attributes λ n a. kind_tells (attribute_over s x n) ≡ Ok a.kind
+  pub behind : (n : ℕ) → length l.attributes ≤ n → kind_tells (attribute_over s x n) ≡ Err (record { number = 18; place = x.at })
   pub other : (n : ℕ) → field_over s x n ≡ no 19 x.at
 
 -- The end is neither.
@@ -70,7 +67,7 @@ Answered s x (finish n t) next = EndAnswered s x
 
 -- An accepted header: its numbers, its strings, and every item of both lists; behind the last 18 at the place where the list's count stands.
 pub record HeaderAnswered (s : List ℕ) (h : Header) (next : ℕ) : Type 0 where
-  pub numbers : head_tells (header_at s) ≡ headed.Is (record { start = signed 8 h.start; namespaces = length h.others; services = length h.services; next = next })
+  pub numbers : head_tells (header_at s) ≡ Ok (record { start = signed 8 h.start; namespaces = length h.others; services = length h.services; next = next })
   pub recorder : part_of (λ x. x.recorder) (header_at s) ≡ h.recorder
   pub default : part_of (λ x. x.default) (header_at s) ≡ h.default
   pub id : part_of (λ x. x.id) (header_at s) ≡ h.id

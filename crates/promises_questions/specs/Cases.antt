@@ -1,6 +1,7 @@
 -- The scope's cases that are marked as proved, as the rows of one list: each asks something of the specimen or of a change to it, and has the answer it must get.
-use Rattle.std.specs.Prelude.{ℕ, List, [], ◌∷◌, ◌++◌, Bool, true, false, take, set, ℤ, negsuc}
+use Rattle.std.specs.Prelude.{ℕ, List, [], ◌∷◌, ◌++◌, Bool, true, false, take, set, ℤ, negsuc, Result, Ok}
 use Rattle.octets.specs.Reading.{Read, ok, no, ◌then◌}
+use Rattle.octets.specs.declared.Refused.{Refused}
 use Rattle.kinds.specs.declared.Basic.{Basic}
 use Rattle.kinds.specs.declared.Basic.TheVariants.{UnsignedInt, Byte, Short}
 use Rattle.kinds.specs.Kinds.{signed}
@@ -10,8 +11,7 @@ use Rattle.elements.specs.Element.{layout, row, item, finish}
 use Rattle.elements.specs.Reading.{Placed, reading_from, reading, whole}
 use Rattle.questions.specs.Questions.{field_asked}
 use Rattle.questions.specs.Answers.{field_tells}
-use Rattle.questions.specs.declared.Fielded.{Fielded}
-use Rattle.questions.specs.declared.Fielded.TheVariants.{Is}
+use Rattle.questions.specs.declared.TypedValue.{TypedValue}
 use Rattle.kinds.specs.declared.Value.TheVariants as value
 use Rattle.promises.specs.Specimen.{specimen, shorts, layout_book, short_book, empty_book}
 
@@ -32,7 +32,7 @@ pub data Asked : Type 0 where
 pub data Answer : Type 0 where
   rows : Read ℕ → Answer
   elements : Read (List Placed) → Answer
-  field_is : Fielded → Answer
+  field_is : Result TypedValue Refused → Answer
   number : ℤ → Answer
 
 abbrev pub answers : Asked → Answer
@@ -99,9 +99,9 @@ cases =
     ∷ record { asked = resume specimen 104 1 empty_book 0; answer = elements (no 12 108) }
     -- Short FFFE is -2: where it stands, asked as a field, of the type 0000002c, and as a number; and the specimen's byte FE.
     ∷ record { asked = read shorts; answer = elements (ok (layout_with 52 Short ∷ row_with 87 true Short 10 0xfffe ∷ row_with 105 false Short 0 127 ∷ end_at 123 ∷ []) 139) }
-    ∷ record { asked = field shorts 87 0 short_book 31 1; answer = field_is (Is (d Short).kind (value.Short (negsuc 1))) }
+    ∷ record { asked = field shorts 87 0 short_book 31 1; answer = field_is (Ok (record { kind = (d Short).kind; value = value.Short (negsuc 1) })) }
     ∷ record { asked = sign 2 0xfffe; answer = number (negsuc 1) }
-    ∷ record { asked = field specimen 87 0 layout_book 31 1; answer = field_is (Is (d Byte).kind (value.Byte (negsuc 1))) }
+    ∷ record { asked = field specimen 87 0 layout_book 31 1; answer = field_is (Ok (record { kind = (d Byte).kind; value = value.Byte (negsuc 1) })) }
     ∷ []
 
 -- Every case gets its answer.

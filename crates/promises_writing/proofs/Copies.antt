@@ -25,7 +25,7 @@ use Rattle.reading.proofs.Times.{Timed, header_timed, step_timed}
 use Rattle.octets.specs.Asked.{first_of, nth}
 use Rattle.questions.specs.Questions.{kind_asked, book_asked, row_of, row_asked, field_asked}
 use Rattle.kinds.specs.Values.{bits_of, octets_of, value_of}
-use Rattle.questions.proofs.Asked.{kind_forth}
+use Rattle.questions.proofs.Questions.{kind_forth}
 use Rattle.writer.specs.Writer.{start_time, value, in_form, value_call, finish}
 use Rattle.promises_writing.specs.Copies.{Copies}
 

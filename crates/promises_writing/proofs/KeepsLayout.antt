@@ -5,10 +5,12 @@ use mathlib.Core.Path.{◌≡◌, refl, sym, ap, ◌∙◌, subst}
 use mathlib.Core.List.{List, [], ◌∷◌, ◌++◌, append_assoc}
 use mathlib.Core.Bool.{Bool, true, false}
 use native.Mathlib.Omega.{arith}
+use Rattle.std.specs.Prelude.{Result, Ok, Err}
 use native.Mathlib.Nat.{add-zero, zero-add}
 use lib.ListN.{length, length-append}
 use lib.Dec.{leb, ltb, eqb}
 use borrow.Author.Tests.{eqb-true, eqb-false, leb-true, ltb-true}
+use Rattle.octets.specs.declared.Fault as octets
 use Rattle.octets.specs.Limits.{most_attributes}
 use Rattle.octets.specs.Reading.{ok}
 use Rattle.octets.specs.Writing.{word, images, Each, Octet}
@@ -24,7 +26,7 @@ use Rattle.layouts.specs.Layout.{Attribute, Layout, layout_image, GoodAttribute,
 use Rattle.layouts.specs.Book.{Book, book_image, learning, learn}
 use Rattle.layouts.specs.Answers.{Judges}
 use Rattle.layouts.specs.declared.Learning.{Learning}
-use Rattle.layouts.specs.declared.Learning.TheVariants.{Known, New, Refused}
+use Rattle.layouts.specs.declared.Learning.TheVariants.{Known, New}
 use Rattle.layouts.proofs.Judging.{judges}
 use Rattle.layouts.proofs.Growing.{learnt, grown}
 use Rattle.elements.specs.Element.{layout}
@@ -33,8 +35,7 @@ use Rattle.writer.specs.declared.Wanted.{Wanted}
 use Rattle.writer.specs.declared.Wanted.TheVariants as wants
 use Rattle.writer.specs.declared.State.{State}
 use Rattle.writer.specs.Writer.{Call, open_layout, type_name, attribute_count, attribute_name, attribute_type, asks, Deed, put, attributes, does, breach}
-use Rattle.writing_parts.specs.declared.Fault.{Fault}
-use Rattle.writing_parts.specs.Faults.{fine, unless, refused_by}
+use Rattle.writing_parts.specs.Faults.{Fault, fine, unless, refused_by}
 use Rattle.writing_parts.specs.Answers.{learning_of, refusal}
 use Rattle.writing_parts.proofs.Faults.{fine_not, holds, is_read}
 use Rattle.writer.proofs.Bounds.{turn_count, open_head}
@@ -67,10 +68,10 @@ learns_of b l g e =
     go (learning b (length (book_image b)) l.number (layout_image l)) (judges b l 0)
     (subst (λ (n : ℕ). refusal (learning b (length (book_image b)) n (layout_image l)) ≡ fine) (number_first l g) e)
   where
-    go : (x : Learning) → Judges (length (book_image b)) b l 0 x → refusal x ≡ fine → Learns b l
-    go Known w h = record { next = b; learns = w }
-    go (New v) w h = record { next = b ++ l ∷ []; learns = w.0 }
-    go (Refused n) w h = absurd (fine_not refl h)
+    go : (x : Result Learning octets.Fault) → Judges (length (book_image b)) b l 0 x → refusal x ≡ fine → Learns b l
+    go (Ok Known) w h = record { next = b; learns = w }
+    go (Ok (New v)) w h = record { next = b ++ l ∷ []; learns = w.0 }
+    go (Err f) w h = absurd (fine_not refl h)
 
 -- A call that makes the open layout whole.
 record Completes (c : Call) (x : Spot) (done : List ℕ) (told : Account) : Type 0 where

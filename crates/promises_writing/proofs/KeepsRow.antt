@@ -25,8 +25,7 @@ use Rattle.kinds.specs.Forms.{Value, bits, held, value_image, GoodValue}
 use Rattle.headers.specs.Header.{header_image}
 use Rattle.elements.specs.Element.{row}
 use Rattle.elements.specs.Document.{Document, item_image, image}
-use Rattle.writing_parts.specs.declared.Fault.{Fault}
-use Rattle.writing_parts.specs.Faults.{fine, unless, ◌or◌}
+use Rattle.writing_parts.specs.Faults.{Fault, fine, unless, ◌or◌}
 use Rattle.writing_parts.proofs.Faults.{holds, both_fine}
 use Rattle.writer.specs.declared.Wanted.{Wanted}
 use Rattle.writer.specs.declared.Wanted.TheVariants as wants

@@ -6,11 +6,14 @@ use mathlib.Core.Bool.{Bool, true, false, ◌&&◌}
 use mathlib.Core.Option.{Option, some, none}
 use mathlib.Core.Logic.{inl, inr}
 use native.Mathlib.Omega.{arith}
+use Rattle.std.specs.Prelude.{Result, Ok, Err}
 use lib.ListN.{length, drop, length-replicate}
 use lib.Dec.{leb, ltb, eqb}
 use borrow.Author.Tests.{le-leb}
+use Rattle.octets.specs.declared.Fault as octets
 use Rattle.octets.specs.Limits.{most_attributes, most_listed}
 use Rattle.octets.specs.Reading.{Read, ok, no, choose, is_ok, be}
+use Rattle.octets.specs.Faults.{number_of}
 use Rattle.octets.proofs.Copies.{both_true}
 use Rattle.texts.specs.Texts as texts
 use Rattle.texts.specs.declared.Rule.{Rule}
@@ -25,9 +28,7 @@ use Rattle.layouts.specs.Book.{find, book_of, book_in}
 use Rattle.layouts.specs.declared.Learning.{Learning}
 use Rattle.layouts.specs.declared.Learning.TheVariants as learning
 use Rattle.layouts.proofs.Judging.{Learned, learned}
-use Rattle.writing_parts.specs.declared.Fault.{Fault}
-use Rattle.writing_parts.specs.declared.Fault.TheVariants.{None, Refused}
-use Rattle.writing_parts.specs.Faults.{fine, unless, refused_by, ◌or◌}
+use Rattle.writing_parts.specs.Faults.{Fault, None, Refused, fine, unless, refused_by, ◌or◌}
 use Rattle.writing_parts.specs.Answers.{learning_of, refusal}
 use Rattle.writing_parts.proofs.Faults.{fine_not, same_number, both_fine, holds}
 use Rattle.kinds.specs.Forms.{Value, bits, held}
@@ -129,13 +130,13 @@ module _ (s : State) (buffer lent : List ℕ) (used : ℕ) where
         xs : List ℕ
         xs = layout_so_far s buffer (deed c).octets
 
-        made : (x : Learning) → Learned (book_in lent used) used (be 4 xs 0) xs x → OnlyFault ns (refusal x)
-        made learning.Known w = fine_only
-        made (learning.New v) w = fine_only
-        made (learning.Refused n) (inl e) = refused_only n (subst (In ns) (sym e) ten)
-        made (learning.Refused n) (inr e) = refused_only n (subst (In ns) (sym e) eleven)
+        made : (x : Result Learning octets.Fault) → Learned (book_in lent used) used (be 4 xs 0) xs x → OnlyFault ns (refusal x)
+        made (Ok learning.Known) w = fine_only
+        made (Ok (learning.New v)) w = fine_only
+        made (Err f) (inl e) = refused_only (number_of f) (subst (λ (g : octets.Fault). In ns (number_of g)) (sym e) ten)
+        made (Err f) (inr e) = refused_only (number_of f) (subst (λ (g : octets.Fault). In ns (number_of g)) (sym e) eleven)
 
-        go : (t : Bool) → OnlyFault ns (refusal (choose t (λ _. learning_of (book_in lent used) used xs) (λ _. learning.Known)))
+        go : (t : Bool) → OnlyFault ns (refusal (choose t (λ _. learning_of (book_in lent used) used xs) (λ _. Ok learning.Known)))
         go false = fine_only
         go true = made (learning_of (book_in lent used) used xs) (learned (book_in lent used) used (be 4 xs 0) xs)
 

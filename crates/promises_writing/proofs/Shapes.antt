@@ -16,7 +16,7 @@ use Rattle.rows.specs.Row.{Row, FieldsOf}
 use Rattle.headers.specs.Header.{Header, header_image, GoodHeader}
 use Rattle.elements.specs.Element.{Item}
 use Rattle.elements.specs.Document.{Document, item_image, row_count, image, GoodItems, Good}
-use Rattle.writing_parts.specs.declared.Fault.{Fault}
+use Rattle.writing_parts.specs.Faults.{Fault}
 use Rattle.writer.specs.declared.Wanted.{Wanted}
 use Rattle.writer.specs.declared.Wanted.TheVariants as wants
 use Rattle.writer.specs.Writer.{Call, recorder, start_time, default_namespace, namespace_count, uri, service_count, open_layout, type_name, attribute_count, attribute_name, open_row, Written, room, asks, same_turn, Deed, put}

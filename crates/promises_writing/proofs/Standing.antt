@@ -7,6 +7,7 @@ use mathlib.Core.Bool.{Bool, true, false}
 use mathlib.Core.Option.{some}
 use mathlib.Core.Logic.{inl, inr}
 use native.Mathlib.Omega.{arith}
+use Rattle.std.specs.Prelude.{Ok}
 use native.Mathlib.Nat.{add-zero}
 use lib.ListN.{length, take, drop, replicate, length-append, length-drop, length-replicate}
 use lib.Seq.{take-append_seam, drop-append_seam, drop-append-add, drop-append-le, drop-drop, take_at, drop_at}
@@ -27,8 +28,7 @@ use Rattle.layouts.proofs.Growing.{Learnt}
 use Rattle.rows.specs.Row.{Row, field_image, length_image, row_image}
 use Rattle.elements.specs.Element.{row}
 use Rattle.elements.specs.Document.{item_image}
-use Rattle.writing_parts.specs.declared.Fault.{Fault}
-use Rattle.writing_parts.specs.Faults.{fine}
+use Rattle.writing_parts.specs.Faults.{Fault, fine}
 use Rattle.writing_parts.specs.Answers.{learning_of, refusal, added}
 use Rattle.writer.specs.declared.Wanted.{Wanted}
 use Rattle.writer.specs.declared.Wanted.TheVariants as wants
@@ -123,14 +123,14 @@ pub record Takes (lent : List ℕ) (b : Book) (l : Layout) (next : Book) : Type 
 
 pub takes_learnt : (lent : List ℕ) (b : Book) (l : Layout) (next : Book) → GoodLayout l → Learnt b l next → Takes lent b l next
 takes_learnt lent b l next g (inl h) =
-    let is : learning_of b (length (book_image b)) (layout_image l) ≡ Known = rw (number_first l g, h.1, h.2, same_refl (layout_image l)) in
+    let is : learning_of b (length (book_image b)) (layout_image l) ≡ Ok Known = rw (number_first l g, h.1, h.2, same_refl (layout_image l)) in
     record {
       learnt = rw is;
       book = rw (is, h.3) (over_nil (onto lent (book_image b)) (length (book_image b)));
       used = rw (is, h.3) (add-zero (length (book_image b)));
     }
 takes_learnt lent b l next g (inr h) =
-    let is : learning_of b (length (book_image b)) (layout_image l) ≡ New (length (book_image b) + length (layout_image l)) =
+    let is : learning_of b (length (book_image b)) (layout_image l) ≡ Ok (New (length (book_image b) + length (layout_image l))) =
     rw (number_first l g, h.0, lt-ltb (length b) most_layouts h.1, le-leb (length (book_image b) + length (layout_image l)) book_room h.2) in
     record {
       learnt = rw is;

@@ -14,8 +14,7 @@ use Rattle.texts.specs.declared.Rule.TheVariants.{Characters}
 use Rattle.layouts.specs.Book.{Book, book_image, GoodBook}
 use Rattle.headers.specs.Header.{Namespace, Header, namespace_image, header_image, GoodHeader, GoodNamespace}
 use Rattle.elements.proofs.Behind.{holding_of}
-use Rattle.writing_parts.specs.declared.Fault.{Fault}
-use Rattle.writing_parts.specs.Faults.{fine, unless}
+use Rattle.writing_parts.specs.Faults.{Fault, fine, unless}
 use Rattle.writer.specs.declared.Wanted.{Wanted}
 use Rattle.writer.specs.declared.Wanted.TheVariants as wants
 use Rattle.writer.specs.Writer.{Call, recorder, start_time, default_namespace, namespace_count, uri, short_name, service_count, service, document_id, Written, room, asks, order_of, put, turn_at, does, breach}

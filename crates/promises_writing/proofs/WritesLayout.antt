@@ -23,8 +23,7 @@ use Rattle.layouts.proofs.Growing.{learnt}
 use Rattle.elements.specs.Element.{layout}
 use Rattle.elements.specs.Document.{item_image}
 use Rattle.elements.proofs.Behind.{holding_of}
-use Rattle.writing_parts.specs.declared.Fault.{Fault}
-use Rattle.writing_parts.specs.Faults.{fine, unless, refused_by}
+use Rattle.writing_parts.specs.Faults.{Fault, fine, unless, refused_by}
 use Rattle.writer.specs.declared.Wanted.{Wanted}
 use Rattle.writer.specs.declared.Wanted.TheVariants as wants
 use Rattle.writer.specs.Writer.{Call, open_layout, type_name, attribute_count, attribute_name, attribute_type, order_of, attributes, does, breach}

@@ -24,8 +24,7 @@ use Rattle.kinds.specs.Forms.{Value, bits, held, value_image, GoodValue}
 use Rattle.elements.specs.Element.{row}
 use Rattle.elements.specs.Document.{item_image}
 use Rattle.elements.proofs.Behind.{holding_of}
-use Rattle.writing_parts.specs.declared.Fault.{Fault}
-use Rattle.writing_parts.specs.Faults.{fine, unless, ◌or◌}
+use Rattle.writing_parts.specs.Faults.{Fault, fine, unless, ◌or◌}
 use Rattle.writer.specs.declared.Wanted.TheVariants as wants
 use Rattle.writer.specs.Writer.{open_row, value, close_row, room, in_book, row_layout, suits, value_breach, is_next, does}
 use Rattle.writer.proofs.Tests.{length_size}

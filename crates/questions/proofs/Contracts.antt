@@ -1,15 +1,15 @@
 -- The contracts of the questions themselves: every input is taken, and each allows one answer; of a part handed back, one content. Assumes nothing.
 use mathlib.Core.Path.{refl, sym, ◌∙◌}
 use Rattle.octets.specs.OfContracts.{Settled, SettledSeen}
-use Rattle.questions.proofs.row_refusal as row_refusal
-use Rattle.questions.proofs.field as field
-use Rattle.questions.proofs.field_name as field_name
-use Rattle.questions.proofs.field_octets as field_octets
-use Rattle.questions.proofs.layout_refusal as layout_refusal
-use Rattle.questions.proofs.attribute_refusal as attribute_refusal
-use Rattle.questions.proofs.type_name as type_name
-use Rattle.questions.proofs.attribute_name as attribute_name
-use Rattle.questions.proofs.attribute_kind as attribute_kind
+use Rattle.questions.proofs.Asked.row_refusal as row_refusal
+use Rattle.questions.proofs.Asked.field as field
+use Rattle.questions.proofs.Asked.field_name as field_name
+use Rattle.questions.proofs.Asked.field_octets as field_octets
+use Rattle.questions.proofs.Asked.layout_refusal as layout_refusal
+use Rattle.questions.proofs.Asked.attribute_refusal as attribute_refusal
+use Rattle.questions.proofs.Asked.type_name as type_name
+use Rattle.questions.proofs.Asked.attribute_name as attribute_name
+use Rattle.questions.proofs.Asked.attribute_kind as attribute_kind
 
 pub record Contracts : Type 0 where
   pub of_row_refusal : Settled row_refusal.Kinds.ps row_refusal.Kinds.r row_refusal.Reads.Pre row_refusal.Reads.Post

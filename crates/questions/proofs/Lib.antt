@@ -1,3 +1,3 @@
-pub mod Asked
+pub mod Questions
 pub mod After
 pub mod Contracts

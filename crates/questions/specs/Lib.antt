@@ -1,3 +1,4 @@
 pub mod Questions
+pub mod Asked
 pub mod Answers
 pub mod Places

@@ -6,7 +6,9 @@ use Rattle.octets.specs.OfContracts.{Settled, SettledLent}
 use Rattle.octets.proofs.Alike.{◌also◌, put_back, as_it_was}
 use Rattle.elements.specs.Steps.{step_at, octets_left}
 use Rattle.elements.specs.Answers.{tells}
-use Rattle.elements.specs.declared.Stepping.{Stepping}
+use Rattle.elements.specs.declared.Step.{Step}
+use Rattle.octets.specs.Refusals.{Refusal}
+use Rattle.std.specs.Prelude.{Result}
 use Rattle.reading.specs.Answers.{Refuses}
 use Rattle.reading.proofs.header as header
 use Rattle.reading.proofs.step as step
@@ -17,7 +19,7 @@ pub record Contracts : Type 0 where
   pub of_step : SettledLent step.Kinds.ps step.Kinds.r (λ κs s. s) (λ κs. Refuses) step.Reads.Pre step.Reads.Post
   pub of_whole : Settled whole.Kinds.ps whole.Kinds.r whole.Reads.Pre whole.Reads.Post
 
-kept : (s : List ℕ) (at rows : ℕ) (o : List ℕ) (used : ℕ) (x : Stepping) → x ≡ tells (step_at s at rows o used) → Refuses x → octets_left o (step_at s at rows o used) ≡ o
+kept : (s : List ℕ) (at rows : ℕ) (o : List ℕ) (used : ℕ) (x : Result Step Refusal) → x ≡ tells (step_at s at rows o used) → Refuses x → octets_left o (step_at s at rows o used) ≡ o
 kept s at rows o used = as_it_was tells Refuses (λ st next z. z) (octets_left o) o (λ n p. refl) (step_at s at rows o used)
 
 pub contracts : Contracts

@@ -14,13 +14,13 @@ use Rattle.elements.specs.Element.{finish}
 use Rattle.elements.specs.Answers.{met_of}
 use Rattle.elements.specs.declared.Met.TheVariants as met
 use Rattle.reading.specs.Answers.{head_tells}
-use Rattle.reading.specs.declared.Headed.TheVariants as headed
+use Rattle.std.specs.Prelude.{Ok}
 
 -- A header with nothing in it but its start.
 abbrev started : List ℕ → List ℕ
 started time = word 4 4 ++ word 4 0 ++ time ++ replicate 12 0 ++ word 4 16 ++ replicate 16 0 ++ replicate 4 0xff
 
-pub start_earlier : head_tells (header_at (started (replicate 8 0xff))) ≡ headed.Is (record { start = negsuc 0; namespaces = 0; services = 0; next = 52 })
+pub start_earlier : head_tells (header_at (started (replicate 8 0xff))) ≡ Ok (record { start = negsuc 0; namespaces = 0; services = 0; next = 52 })
 unfolding word be part number_in spells utf8 octets_in led_in count exactly run namespace_at id_at header_from header_at signed
 start_earlier = refl
 

@@ -10,10 +10,8 @@ ghost use Rattle.elements.specs.Reading.{whole};
 ghost use Rattle.elements.specs.Answers.{tells};
 ghost use Rattle.reading.specs.Answers.{head_tells, check_tells};
 
-use elements::Stepping;
-use headers::Placing;
-use octets::Refusal;
-use walks::RowCount;
+use elements::Step;
+use octets::Refused;
 
 // The header's numbers: the start time, how many other namespaces and service definitions there are, and the place behind the header.
 #[derive(Clone, Copy)]
@@ -24,38 +22,17 @@ pub struct Head {
     pub next: usize,
 }
 
-#[derive(Clone, Copy)]
-pub enum Headed {
-    Is(Head),
-    Refused(u32, usize),
-}
-
-// The count of a document's rows, or the refusal of a first-octet reading.
-#[derive(Clone, Copy)]
-pub enum Checked {
-    Rows(usize),
-    Refused(u32, usize),
-}
-
 // The header of a document.
-pub fn header(doc: &[u8]) -> Headed
+pub fn header(doc: &[u8]) -> Result<Head, Refused>
     ensures { result ≡ head_tells (header_at doc.now) }
 {
-    let placing = headers::header_at(doc);
-    match placing {
-        Placing::Refused(n, p) => Headed::Refused(n, p),
-        Placing::At(places) => {
-            let start = places.start;
-            let namespaces = places.namespaces;
-            let services = places.services;
-            Headed::Is(Head {
-                start: kinds::signed64(octets::u64_at(doc, start)),
-                namespaces: octets::u32_at(doc, namespaces),
-                services: octets::u32_at(doc, services),
-                next: places.end,
-            })
-        }
-    }
+    let places = headers::header_at(doc)?;
+    Ok(Head {
+        start: octets::u64_at(doc, places.start).cast_signed(),
+        namespaces: octets::u32_at(doc, places.namespaces),
+        services: octets::u32_at(doc, places.services),
+        next: places.end,
+    })
 }
 
 // One step from any place, told the rows passed, over a lent book of which so many octets are used. A refusal leaves the book as it was.
@@ -65,30 +42,19 @@ pub fn step<'d, 'b>(
     rows: usize,
     book: &'b mut [u8],
     used: usize,
-) -> Stepping
+) -> Result<Step, Refused>
     ensures { (result ≡ tells (step_at doc.now at rows book.old used)) × (book.new ≡ octets_left book.old (step_at doc.now at rows book.old used)) }
 {
     let lent = book.len();
-    let guard = elements::lent_refusal(doc, rows, &book[..lent], used);
-    match guard {
-        Refusal::Refused(n, p) => Stepping::Refused(n, p),
-        Refusal::None => elements::element(doc, at, rows, book, used),
-    }
+    elements::lent_refusal(doc, rows, &book[..lent], used)?;
+    elements::element(doc, at, rows, book, used)
 }
 
 // The whole check: how many rows a document has.
-pub fn whole(doc: &[u8]) -> Checked
+pub fn whole(doc: &[u8]) -> Result<usize, Refused>
     ensures { result ≡ check_tells (whole doc.now) }
 {
-    let placing = headers::header_at(doc);
-    match placing {
-        Placing::Refused(n, p) => Checked::Refused(n, p),
-        Placing::At(places) => {
-            let rows = walks::rows_from(doc, places.end);
-            match rows {
-                RowCount::Refused(n, p) => Checked::Refused(n, p),
-                RowCount::Rows(n, end) => Checked::Rows(n),
-            }
-        }
-    }
+    let places = headers::header_at(doc)?;
+    let (rows, _) = walks::rows_from(doc, places.end)?;
+    Ok(rows)
 }

@@ -1,8 +1,9 @@
 -- What is found of a row over the octets of a book: the places of its parts, or its refusal. Each is told of a reading, which is the one asked for.
-use Rattle.std.specs.Prelude.{ℕ, ◌+◌, ◌≤◌, ◌≡◌, List, ◌∷◌, Bool, true, false, length, drop}
+use Rattle.std.specs.Prelude.{ℕ, ◌+◌, ◌≤◌, ◌≡◌, List, ◌∷◌, Bool, true, false, length, drop, Result, Ok, Err}
 use Rattle.octets.specs.Limits.{longest, book_room}
 use Rattle.octets.specs.Reading.{Read, ok, no, ◌then◌}
 use Rattle.octets.specs.Asked.{nth}
+use Rattle.octets.specs.declared.Refused.{Refused}
 use Rattle.octets.specs.declared.Room.TheVariants.{Stated}
 use Rattle.kinds.specs.declared.Basic.{Basic}
 use Rattle.kinds.specs.declared.Form.{Form}
@@ -14,9 +15,7 @@ use Rattle.layouts.specs.Answers.{Holds}
 use Rattle.rows.specs.Row.{Field, Row, fields_in, row_at}
 use Rattle.kinds.specs.Forms.{Value, value_in}
 use Rattle.row_fields.specs.declared.Lined.{Lined}
-use Rattle.row_fields.specs.declared.Lined.TheVariants as lined
-use Rattle.row_fields.specs.declared.FieldSpot.{FieldSpot}
-use Rattle.row_fields.specs.declared.FieldSpot.TheVariants as spot
+use Rattle.row_fields.specs.declared.Spot.{Spot}
 
 -- A kind inside a document that is not too long, and octets that are a book.
 pub record Open (s : List ℕ) (at : ℕ) (book : List ℕ) : Type 0 where
@@ -43,9 +42,9 @@ pub record Line (s book : List ℕ) (read : Read Row) (place count first end : �
   pub short : length s ≤ longest
   pub small : length book ≤ book_room
 
-abbrev pub Lines : List ℕ → List ℕ → Read Row → Lined → Type 0
-Lines s book read (lined.At place count first end) = Line s book read place count first end
-Lines s book read (lined.Refused n p) = read ≡ no n p
+abbrev pub Lines : List ℕ → List ℕ → Read Row → Result Lined Refused → Type 0
+Lines s book read (Ok l) = Line s book read l.place l.count l.first l.end
+Lines s book read (Err r) = read ≡ no r.number r.place
 
 -- The value of the field of an index stands at a place, and the field's attribute is that of the index.
 pub record NthField (s : List ℕ) (end : ℕ) (attributes : List Attribute) (fields : List Field) (n p : ℕ) : Type 0 where
@@ -79,9 +78,9 @@ pub record Spotted (s book : List ℕ) (read : Read Field) (attribute value : �
   pub short : length s ≤ longest
   pub small : length book ≤ book_room
 
-abbrev pub Spots : List ℕ → List ℕ → Read Field → FieldSpot → Type 0
-Spots s book read (spot.At attribute value) = Spotted s book read attribute value
-Spots s book read (spot.Refused n p) = read ≡ no n p
+abbrev pub Spots : List ℕ → List ℕ → Read Field → Result Spot Refused → Type 0
+Spots s book read (Ok p) = Spotted s book read p.attribute p.value
+Spots s book read (Err r) = read ≡ no r.number r.place
 
 -- Whether values of a form are octets behind a length.
 abbrev pub is_held : Form → Bool

@@ -17,35 +17,42 @@ ghost use Rattle.row_fields.specs.Places.{Lines, NthField, Open, Stood, Spots, i
 
 use kinds::{Basic, Form, Kind, Value};
 use layouts::Looked;
-use octets::{Ended, Room};
-use rows::Rowed;
+use octets::{Fault, Refused, Room};
 
 // A row over the octets of a book: the place of its layout there, how many fields it has, and where its values begin and end.
 #[derive(Clone, Copy)]
-enum Lined {
-    At(usize, u32, usize, usize),
-    Refused(u32, usize),
+struct Lined {
+    place: usize,
+    count: u32,
+    first: usize,
+    end: usize,
 }
 
 // The row whose layout's number stands at a place.
-fn row_here<'d, 'b>(doc: &'d [u8], at: usize, book: &'b [u8]) -> Lined
+fn row_here<'d, 'b>(doc: &'d [u8], at: usize, book: &'b [u8]) -> Result<Lined, Refused>
     requires { (at ≤ length doc.now) × (length doc.now ≤ longest) × (length book.now ≤ book_room) × Holds book.now }
     ensures { (b : Book) → Image book.now b → Lines doc.now book.now (row_at b doc.now at) result }
 {
     if doc.len() < at + 4 {
-        return Lined::Refused(1, at);
+        return Err(Refused {
+            fault: Fault::CutShort,
+            place: at,
+        });
     }
     let looked = layouts::look_in(book, octets::u32_at(doc, at));
-    match looked {
-        Looked::Missing(k) => Lined::Refused(12, at),
-        Looked::There(place) => {
-            let row = rows::row_end(doc, at, book, place);
-            match row {
-                Rowed::Refused(n, p) => Lined::Refused(n, p),
-                Rowed::Row(stated, count, end) => Lined::At(place, count, at + 8, end),
-            }
-        }
-    }
+    let Looked::There(place) = looked else {
+        return Err(Refused {
+            fault: Fault::NoLayout,
+            place: at,
+        });
+    };
+    let row = rows::row_end(doc, at, book, place)?;
+    Ok(Lined {
+        place,
+        count: row.count,
+        first: at + 8,
+        end: row.next,
+    })
 }
 
 // The place of value n of a row that is accepted: where the walk over the values before it ends.
@@ -62,37 +69,37 @@ fn value_place<'d, 'b>(
 {
     let attributes = layouts::attributes_at(book, place) + 4;
     let values = rows::fields_end(doc, first, Room::Stated(end, 0), book, attributes, n);
-    match values {
-        Ended::End(p) => p,
-        Ended::Refused(number, p) => p,
-    }
+    values.unwrap_or(end)
 }
 
 // Where a field stands: its attribute in the octets of the book, its value in the document.
 #[derive(Clone, Copy)]
-pub enum FieldSpot {
-    At(usize, usize),
-    Refused(u32, usize),
+pub struct Spot {
+    pub attribute: usize,
+    pub value: usize,
 }
 
 // Field n of the row whose kind stands at a place.
-pub fn field_here<'d, 'b>(doc: &'d [u8], at: usize, book: &'b [u8], n: usize) -> FieldSpot
+pub fn field_here<'d, 'b>(
+    doc: &'d [u8],
+    at: usize,
+    book: &'b [u8],
+    n: usize,
+) -> Result<Spot, Refused>
     requires { Open doc.now at book.now }
     ensures { (b : Book) → Image book.now b → Spots doc.now book.now (field_over b doc.now at n) result }
 {
-    let row = row_here(doc, at + 4, book);
-    match row {
-        Lined::Refused(m, p) => FieldSpot::Refused(m, p),
-        Lined::At(place, count, first, end) => {
-            if (count as usize) <= n {
-                return FieldSpot::Refused(18, at);
-            }
-            let spot = n as u32;
-            let attribute = layouts::attribute_place(book, place, spot);
-            let value = value_place(doc, first, end, book, place, spot);
-            FieldSpot::At(attribute, value)
-        }
+    let row = row_here(doc, at + 4, book)?;
+    if (row.count as usize) <= n {
+        return Err(Refused {
+            fault: Fault::NotThere,
+            place: at,
+        });
     }
+    let index = n as u32;
+    let attribute = layouts::attribute_place(book, row.place, index);
+    let value = value_place(doc, row.first, row.end, book, row.place, index);
+    Ok(Spot { attribute, value })
 }
 
 // The value of a basic type that stands at a place.
@@ -101,18 +108,18 @@ pub fn value_at(doc: &[u8], at: usize, basic: Basic) -> Value
     ensures { (v : Stood doc.now basic at) → result ≡ value_of basic v.value }
 {
     match basic {
-        Basic::Int => Value::Int(kinds::signed32(octets::u32_at(doc, at))),
+        Basic::Int => Value::Int(octets::u32_at(doc, at).cast_signed()),
         Basic::UnsignedInt => Value::UnsignedInt(octets::u32_at(doc, at)),
-        Basic::Long => Value::Long(kinds::signed64(octets::u64_at(doc, at))),
+        Basic::Long => Value::Long(octets::u64_at(doc, at).cast_signed()),
         Basic::UnsignedLong => Value::UnsignedLong(octets::u64_at(doc, at)),
         Basic::Float => Value::Float(octets::u32_at(doc, at)),
         Basic::Double => Value::Double(octets::u64_at(doc, at)),
         Basic::HexBinary => Value::HexBinary,
         Basic::String => Value::String,
         Basic::Boolean => Value::Boolean(octets::u8_at(doc, at) == 1),
-        Basic::Byte => Value::Byte(kinds::signed8(octets::u8_at(doc, at))),
+        Basic::Byte => Value::Byte(octets::u8_at(doc, at).cast_signed()),
         Basic::UnsignedByte => Value::UnsignedByte(octets::u8_at(doc, at)),
-        Basic::Short => Value::Short(kinds::signed16(octets::u16_at(doc, at))),
+        Basic::Short => Value::Short(octets::u16_at(doc, at).cast_signed()),
         Basic::UnsignedShort => Value::UnsignedShort(octets::u16_at(doc, at)),
     }
 }
@@ -121,10 +128,5 @@ pub fn value_at(doc: &[u8], at: usize, basic: Basic) -> Value
 pub fn is_held(kind: Kind) -> bool
     ensures { result ≡ is_held (form_of kind) }
 {
-    let form = kinds::form_of(kind);
-    match form {
-        Form::Fixed(w) => false,
-        Form::Truth => false,
-        Form::Led(rule) => true,
-    }
+    matches!(kinds::form_of(kind), Form::Led(_))
 }

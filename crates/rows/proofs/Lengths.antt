@@ -1,5 +1,6 @@
 -- The equations of a row's values behind its length, unstated or stated, and of the row itself: each is its definition at one outcome of its tests.
 use Prim.Native.Nat.{ℕ, suc, ◌+◌, ◌≤◌, ◌<◌}
+use Rattle.std.specs.Prelude.{Ok, Err}
 use mathlib.Core.Path.{◌≡◌, refl, sym, ap, ◌∙◌}
 use mathlib.Core.List.{List, [], ◌∷◌}
 use mathlib.Core.Bool.{Bool, true, false}
@@ -10,8 +11,6 @@ use native.Mathlib.Omega.{arith}
 use borrow.Author.Tests.{le-leb, lt-leb, eq-eqb, ne_eqb, eqb-true, eqb-false}
 use Rattle.octets.specs.Reading.{ok, no, choose, ends, be, reach}
 use Rattle.octets.specs.Answers.{says, Within}
-use Rattle.octets.specs.declared.Ended.{Ended}
-use Rattle.octets.specs.declared.Ended.TheVariants.{End, Refused}
 use Rattle.octets.specs.declared.Room.{Room}
 use Rattle.octets.specs.declared.Room.TheVariants.{Document, Stated}
 use Rattle.octets.proofs.Inverse.{after, either, chosen}
@@ -83,31 +82,36 @@ module _ (s : List ℕ) (at size : ℕ) where
       go true t h = absurd (omega arith)
       go false t h = values_past xs s at size (eqb-false size 0xffffffff t) h
 
-  pub values_by : (xs : List Attribute) (x : Ended) → reach (length_room at size) s ≤ length s → says x ≡ ends (fields_in (length_room at size) xs s (at + 4))
-      → ends (values_at xs s at size) ≡ says (fills (length_room at size) x)
-  values_by xs x h e = go (eqb size 0xffffffff) refl x h e
+  pub values_stopped : (xs : List Attribute) (n p : ℕ) → reach (length_room at size) s ≤ length s → ends (fields_in (length_room at size) xs s (at + 4)) ≡ no n p
+      → ends (values_at xs s at size) ≡ no n p
+  values_stopped xs n p h e = go (eqb size 0xffffffff) refl h e
     where
-      ended_at : (p : ℕ) (b : Bool) → eqb p (at + 4 + size) ≡ b → ends (fields_in (Stated (at + 4 + size) at) xs s (at + 4)) ≡ ok p p
-          → ends (filled xs s at (at + 4 + size)) ≡ says (choose b (λ _. End p) (λ _. Refused 13 at))
-      ended_at p true t e = filled_ok xs s at (at + 4 + size) p e (eqb-true p (at + 4 + size) t)
-      ended_at p false t e = filled_short xs s at (at + 4 + size) p e (eqb-false p (at + 4 + size) t)
+      go : (b : Bool) → eqb size 0xffffffff ≡ b → reach (choose b (λ _. Document) (λ _. Stated (at + 4 + size) at)) s ≤ length s
+          → ends (fields_in (choose b (λ _. Document) (λ _. Stated (at + 4 + size) at)) xs s (at + 4)) ≡ no n p → ends (values_at xs s at size) ≡ no n p
+      go true t h e = ap ends (values_open xs s at size (eqb-true size 0xffffffff t)) ∙ e
+      go false t h e = ap ends (values_stated xs s at size (eqb-false size 0xffffffff t) h) ∙ filled_no xs s at (at + 4 + size) n p e
 
-      go : (b : Bool) → eqb size 0xffffffff ≡ b → (x : Ended) → reach (choose b (λ _. Document) (λ _. Stated (at + 4 + size) at)) s ≤ length s
-          → says x ≡ ends (fields_in (choose b (λ _. Document) (λ _. Stated (at + 4 + size) at)) xs s (at + 4))
-          → ends (values_at xs s at size) ≡ says (fills (choose b (λ _. Document) (λ _. Stated (at + 4 + size) at)) x)
-      go true t (End p) h e = ap ends (values_open xs s at size (eqb-true size 0xffffffff t)) ∙ sym e
-      go true t (Refused n p) h e = ap ends (values_open xs s at size (eqb-true size 0xffffffff t)) ∙ sym e
-      go false t (End p) h e = ap ends (values_stated xs s at size (eqb-false size 0xffffffff t) h) ∙ ended_at p (eqb p (at + 4 + size)) refl (sym e)
-      go false t (Refused n p) h e =
-          ap ends (values_stated xs s at size (eqb-false size 0xffffffff t) h) ∙ filled_no xs s at (at + 4 + size) n p (sym e)
+  pub values_by : (xs : List Attribute) (p : ℕ) → reach (length_room at size) s ≤ length s → ends (fields_in (length_room at size) xs s (at + 4)) ≡ ok p p
+      → ends (values_at xs s at size) ≡ says (fills (length_room at size) p)
+  values_by xs p h e = go (eqb size 0xffffffff) refl h e
+    where
+      ended_at : (b : Bool) → eqb p (at + 4 + size) ≡ b → ends (fields_in (Stated (at + 4 + size) at) xs s (at + 4)) ≡ ok p p
+          → ends (filled xs s at (at + 4 + size)) ≡ says (choose b (λ _. Ok p) (λ _. Err (record { number = 13; place = at })))
+      ended_at true t e = filled_ok xs s at (at + 4 + size) p e (eqb-true p (at + 4 + size) t)
+      ended_at false t e = filled_short xs s at (at + 4 + size) p e (eqb-false p (at + 4 + size) t)
+
+      go : (b : Bool) → eqb size 0xffffffff ≡ b → reach (choose b (λ _. Document) (λ _. Stated (at + 4 + size) at)) s ≤ length s
+          → ends (fields_in (choose b (λ _. Document) (λ _. Stated (at + 4 + size) at)) xs s (at + 4)) ≡ ok p p
+          → ends (values_at xs s at size) ≡ says (fills (choose b (λ _. Document) (λ _. Stated (at + 4 + size) at)) p)
+      go true t h e = ap ends (values_open xs s at size (eqb-true size 0xffffffff t)) ∙ e
+      go false t h e = ap ends (values_stated xs s at size (eqb-false size 0xffffffff t) h) ∙ ended_at (eqb p (at + 4 + size)) refl e
 
 -- What is behind a place and in a room stays so.
-pub fills_within : (room : Room) (x : Ended) (at mid end n : ℕ) → at ≤ mid → end ≤ n → Within mid x end → Within at (fills room x) n
-fills_within room (Refused m p) at mid end n h k w = tt
-fills_within Document (End p) at mid end n h k w = (omega arith, omega arith)
-fills_within (Stated to l) (End p) at mid end n h k w = go (eqb p to)
+pub fills_within : (room : Room) (p at mid end n : ℕ) → at ≤ mid → end ≤ n → mid ≤ p → p ≤ end → Within at (fills room p) n
+fills_within Document p at mid end n h k l m = (omega arith, omega arith)
+fills_within (Stated to q) p at mid end n h k l m = go (eqb p to)
   where
-    go : (b : Bool) → Within at (choose b (λ _. End p) (λ _. Refused 13 l)) n
+    go : (b : Bool) → Within at (choose b (λ _. Ok p) (λ _. Err (record { number = 13; place = q }))) n
     go true = (omega arith, omega arith)
     go false = tt
 

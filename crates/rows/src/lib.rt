@@ -13,7 +13,7 @@ ghost use Rattle.layouts.specs.Answers.{Reads};
 ghost use Rattle.rows.specs.Row.{fields_in, values_at, named};
 ghost use Rattle.rows.specs.Answers.{Attributes, length_room, fills, shape, row_says, RowWithin};
 
-use octets::{Ended, Room};
+use octets::{Fault, Refused, Room};
 
 // The place behind the values of so many attributes, which stand at a place of a book.
 pub fn fields_end<'d, 'b>(
@@ -23,29 +23,19 @@ pub fn fields_end<'d, 'b>(
     book: &'b [u8],
     first: usize,
     count: u32,
-) -> Ended
+) -> Result<usize, Refused>
     requires { (at ≤ reach room doc.now) × (reach room doc.now ≤ length doc.now) × (length doc.now ≤ longest) × (length book.now ≤ longest) × Attributes book.now count first }
     ensures { ((xs : List Attribute) (last : ℕ) → run (attribute_at book.now) count first ≡ ok xs last → says result ≡ ends (fields_in room xs doc.now at)) × Within at result (reach room doc.now) }
 {
     let mut pos = at;
     let mut place = first;
-    let mut i: u32 = 0;
-    while i < count {
+    for _ in 0..count {
         let kind = texts::text_skip(book, place);
         let form = kinds::form_here(book, kind);
         place = kind + 4;
-        i += 1;
-        let one = kinds::value_end(doc, pos, room, form);
-        match one {
-            Ended::End(next) => {
-                pos = next;
-            }
-            Ended::Refused(n, p) => {
-                return Ended::Refused(n, p);
-            }
-        }
+        pos = kinds::value_end(doc, pos, room, form)?;
     }
-    Ended::End(pos)
+    Ok(pos)
 }
 
 // How far the values behind a row's length may reach: to the document's end where it is unstated, else just as far as it says.
@@ -60,21 +50,19 @@ fn length_room(at: usize, size: u32) -> Room
 }
 
 // The place behind values that ended in a room: 13 where they are not all that a stated length has room for.
-fn fill(room: Room, values: Ended) -> Ended
-    ensures { result ≡ fills room values }
+fn fill(room: Room, next: usize) -> Result<usize, Refused>
+    ensures { result ≡ fills room next }
 {
-    match values {
-        Ended::Refused(n, p) => Ended::Refused(n, p),
-        Ended::End(next) => match room {
-            Room::Document => Ended::End(next),
-            Room::Stated(end, length_at) => {
-                if next != end {
-                    return Ended::Refused(13, length_at);
-                }
-                Ended::End(next)
-            }
-        },
+    let Room::Stated(end, length_at) = room else {
+        return Ok(next);
+    };
+    if next != end {
+        return Err(Refused {
+            fault: Fault::RowLength,
+            place: length_at,
+        });
     }
+    Ok(next)
 }
 
 // The place behind a row's values, from its length on.
@@ -84,38 +72,53 @@ pub fn values_end<'d, 'b>(
     book: &'b [u8],
     first: usize,
     count: u32,
-) -> Ended
+) -> Result<usize, Refused>
     requires { (at + 4 ≤ length doc.now) × (length doc.now ≤ longest) × (length book.now ≤ longest) × Attributes book.now count first }
     ensures { ((xs : List Attribute) (last : ℕ) → run (attribute_at book.now) count first ≡ ok xs last → says result ≡ ends (values_at xs doc.now at (be 4 doc.now at))) × Within at result (length doc.now) }
 {
     let room = length_room(at, octets::u32_at(doc, at));
     if doc.len() < octets::reach(room, doc) {
-        return Ended::Refused(1, at);
+        return Err(Refused {
+            fault: Fault::CutShort,
+            place: at,
+        });
     }
-    fill(room, fields_end(doc, at + 4, room, book, first, count))
+    let next = fields_end(doc, at + 4, room, book, first, count)?;
+    fill(room, next)
 }
 
-// A row: whether its length is stated, how many fields it has, and the place behind it; or a refusal by number and place.
+// A row: whether its length is stated, how many fields it has, and the place behind it.
 #[derive(Clone, Copy)]
-pub enum Rowed {
-    Row(bool, u32, usize),
-    Refused(u32, usize),
+pub struct RowEnd {
+    pub stated: bool,
+    pub count: u32,
+    pub next: usize,
 }
 
 // The row whose layout's number stands at a place, over that layout, which stands at a place of a book.
-pub fn row_end<'d, 'b>(doc: &'d [u8], at: usize, book: &'b [u8], place: usize) -> Rowed
+pub fn row_end<'d, 'b>(
+    doc: &'d [u8],
+    at: usize,
+    book: &'b [u8],
+    place: usize,
+) -> Result<RowEnd, Refused>
     requires { (at + 4 ≤ length doc.now) × (length doc.now ≤ longest) × (length book.now ≤ longest) × Reads book.now place }
     ensures { ((n : ℕ) (l : Layout) (next : ℕ) → layout_at book.now place ≡ ok l next → row_says result ≡ shape (named doc.now at n (at + 4) (some l))) × RowWithin at result (length doc.now) }
 {
     let length_at = at + 4;
     if doc.len() < length_at + 4 {
-        return Rowed::Refused(1, length_at);
+        return Err(Refused {
+            fault: Fault::CutShort,
+            place: length_at,
+        });
     }
     let counted = layouts::attributes_at(book, place);
     let count = octets::u32_at(book, counted);
-    let values = values_end(doc, length_at, book, counted + 4, count);
-    match values {
-        Ended::Refused(n, p) => Rowed::Refused(n, p),
-        Ended::End(next) => Rowed::Row(octets::u32_at(doc, length_at) < 0xffff_ffff, count, next),
-    }
+    let next = values_end(doc, length_at, book, counted + 4, count)?;
+    let stated = octets::u32_at(doc, length_at) < 0xffff_ffff;
+    Ok(RowEnd {
+        stated,
+        count,
+        next,
+    })
 }

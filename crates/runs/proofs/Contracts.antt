@@ -2,20 +2,22 @@
 use Prim.Native.Nat.{ℕ}
 use mathlib.Core.Path.{◌≡◌, refl, sym, ◌∙◌}
 use mathlib.Core.List.{List}
+use Rattle.std.specs.Prelude.{Result}
+use Rattle.octets.specs.declared.Refused.{Refused}
 use Rattle.octets.specs.Reading.{Read, no}
 use Rattle.octets.specs.OfContracts.{SettledLent}
 use Rattle.octets.proofs.Alike.{◌also◌, put_back, as_it_was}
 use Rattle.elements.specs.Walk.{Walk, Lent, lent_at}
 use Rattle.runs.specs.Runs.{run_asked}
 use Rattle.runs.specs.Answers.{run_tells, book_left, words_left, Refuses}
-use Rattle.runs.specs.declared.Running.{Running}
+use Rattle.runs.specs.declared.Went.{Went}
 use Rattle.runs.proofs.run as run
 
 pub record Contracts : Type 0 where
   pub of_run : SettledLent run.Kinds.ps run.Kinds.r (λ κs s. s) (λ κs. Refuses) run.Reads.Pre run.Reads.Post
 
 -- What a refused run leaves.
-kept : (left : Read (Walk Lent) → List ℕ) (lent : List ℕ) → ((n p : ℕ) → left (no n p) ≡ lent) → (r : Read (Walk Lent)) (x : Running) → x ≡ run_tells r → Refuses x → left r ≡ lent
+kept : (left : Read (Walk Lent) → List ℕ) (lent : List ℕ) → ((n p : ℕ) → left (no n p) ≡ lent) → (r : Read (Walk Lent)) (x : Result Went Refused) → x ≡ run_tells r → Refuses x → left r ≡ lent
 kept = as_it_was run_tells Refuses (λ p next z. z)
 
 pub contracts : Contracts

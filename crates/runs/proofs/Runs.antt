@@ -7,6 +7,7 @@ use native.Mathlib.Omega.{arith}
 use lib.ListN.{length, set, take, drop, length-append, length-drop, drop_of_length-le}
 use lib.Seq.{take_all}
 use borrow.Rule.Slice.PartMut.{mid_of, put_mid}
+use Rattle.std.specs.Prelude.{Ok, Err}
 use Rattle.octets.specs.Reading.{ok, no}
 use Rattle.elements.specs.Element.{Stepped}
 use Rattle.elements.specs.Steps.{step_at}
@@ -17,7 +18,6 @@ use Rattle.walks.specs.Rows.{laid}
 use Rattle.walks.proofs.Rows.{laid_both, laid_from}
 use Rattle.runs.specs.Runs.{item_word, words_of, run_asked}
 use Rattle.runs.specs.Answers.{Ran}
-use Rattle.runs.specs.declared.Running.TheVariants as running
 
 words_append : (ps qs : List Seen) → words_of (ps ++ qs) ≡ words_of ps ++ words_of qs
 words_append [] qs = refl
@@ -97,21 +97,21 @@ module _ (s : List ℕ) (x : Lent) (lent : List ℕ) where
     -- What is answered.
     answer : (st : Stepped) (next : ℕ) → step_at s x.at x.rows x.octets x.used ≡ ok st next → (e : Option Stop)
         → walk (turn_over s) 4096 x ≡ record { seen = w.passed; spot = here; stop = e }
-        → Ran x.octets lent (run_asked s x) here.octets words (running.Went (record { count = n; next = here.at; rows = here.rows; used = here.used }))
+        → Ran x.octets lent (run_asked s x) here.octets words (Ok (record { count = n; next = here.at; rows = here.rows; used = here.used }))
     unfolding run_asked
     answer st next first e is =
         rw (first, is)
-        (ap (λ (k : ℕ). running.Went (record { count = k; next = here.at; rows = here.rows; used = here.used })) (sym w.count), refl, w.put)
+        (ap (λ (k : ℕ). Ok (record { count = k; next = here.at; rows = here.rows; used = here.used })) (sym w.count), refl, w.put)
 
     pub went_some : 0 < n → (e : Option Stop) → walk (turn_over s) 4096 x ≡ record { seen = w.passed; spot = here; stop = e }
-        → Ran x.octets lent (run_asked s x) here.octets words (running.Went (record { count = n; next = here.at; rows = here.rows; used = here.used }))
+        → Ran x.octets lent (run_asked s x) here.octets words (Ok (record { count = n; next = here.at; rows = here.rows; used = here.used }))
     went_some h e is = let (st, next, first) = first_read h in answer st next first e is
 
     pub went_end : (m t next : ℕ) → turn_over s here ≡ stops (ended m t next) → n < 4096
-        → Ran x.octets lent (run_asked s x) here.octets words (running.Went (record { count = n; next = here.at; rows = here.rows; used = here.used }))
+        → Ran x.octets lent (run_asked s x) here.octets words (Ok (record { count = n; next = here.at; rows = here.rows; used = here.used }))
     went_end m t next h room = go n refl
       where
-        go : (k : ℕ) → n ≡ k → Ran x.octets lent (run_asked s x) here.octets words (running.Went (record { count = n; next = here.at; rows = here.rows; used = here.used }))
+        go : (k : ℕ) → n ≡ k → Ran x.octets lent (run_asked s x) here.octets words (Ok (record { count = n; next = here.at; rows = here.rows; used = here.used }))
         go (suc k) q = went_some (omega arith) (some (ended m t next)) (run_stops (ended m t next) h room)
         go zero q =
             let y : Lent = here in
@@ -119,7 +119,7 @@ module _ (s : List ℕ) (x : Lent) (lent : List ℕ) where
             answer st next (subst (λ (z : Lent). step_at s z.at z.rows z.octets z.used ≡ ok st next) (sym (none_passed q)) reads) (some (ended m t next))
             (run_stops (ended m t next) h room)
 
-    pub went_refused : (m p : ℕ) → turn_over s here ≡ stops (refused m p) → n ≡ 0 → Ran x.octets lent (run_asked s x) here.octets words (running.Refused m p)
+    pub went_refused : (m p : ℕ) → turn_over s here ≡ stops (refused m p) → n ≡ 0 → Ran x.octets lent (run_asked s x) here.octets words (Err (record { number = m; place = p }))
     unfolding run_asked
     went_refused m p h q =
         let y : Lent = here in
@@ -133,6 +133,6 @@ module _ (s : List ℕ) (x : Lent) (lent : List ℕ) where
         nothing (r ∷ ps) z = absurd (omega arith)
 
   -- A run whose first step is refused leaves book and words.
-  pub asked_refused : (n p : ℕ) → step_at s x.at x.rows x.octets x.used ≡ no n p → Ran x.octets lent (run_asked s x) x.octets lent (running.Refused n p)
+  pub asked_refused : (n p : ℕ) → step_at s x.at x.rows x.octets x.used ≡ no n p → Ran x.octets lent (run_asked s x) x.octets lent (Err (record { number = n; place = p }))
   unfolding run_asked
   asked_refused n p e = rw e (refl, refl, refl)

@@ -11,8 +11,8 @@ ghost use Rattle.runs.specs.Answers.{met_word, Ran, run_tells, book_left, words_
 ghost use Rattle.octets.specs.Limits.{longest, most_rows};
 
 use elements::Met;
-use octets::Refusal;
-use walks::Moved;
+use octets::{Fault, Refused};
+use walks::{Known, Moved};
 
 // How many items a run has passed, and where it stands then.
 #[derive(Clone, Copy)]
@@ -23,18 +23,12 @@ pub struct Went {
     pub used: usize,
 }
 
-#[derive(Clone, Copy)]
-pub enum Running {
-    Went(Went),
-    Refused(u32, usize),
-}
-
 // A layout in one number.
 fn layout_word(number: u32, next: usize) -> u64
     requires { next < 1073741824 }
     ensures { result ≡ layout_word number next }
 {
-    (number as u64) * walks::LABEL + (next as u64)
+    u64::from(number) * walks::LABEL + (next as u64)
 }
 
 // An item in one number, by what is told of it.
@@ -54,11 +48,7 @@ fn reach(n: usize, rows: usize) -> usize
     requires { (n ≤ 4096) × (rows ≤ most_rows) }
     ensures { result ≡ reach_of n rows }
 {
-    let left = octets::MOST_ROWS - rows + 1;
-    if left < 4096 - n {
-        return left;
-    }
-    4096 - n
+    (4096 - n).min(octets::MOST_ROWS + 1 - rows)
 }
 
 // The run from a place on, at most 4,096 items, over a book that is known to be good: rows by plans as far as they go, else one item by the exact reader. A refusal of the first step is the run's.
@@ -69,95 +59,61 @@ fn items<'d, 'b, 'w>(
     book: &'b mut [u8],
     used: usize,
     words: &'w mut [u64],
-) -> Running
+) -> Result<Went, Refused>
     requires { (at ≤ length doc.now) × (length doc.now ≤ longest) × (rows ≤ most_rows) × IsBook book.old used × (length words.old ≡ 4096) }
     ensures { Ran book.old words.old (run_asked doc.now (lent_at at rows book.old used)) book.new words.new result }
 {
-    let mut numbers = [0u64; octets::MOST_LAYOUTS];
-    let mut places = [0u32; octets::MOST_LAYOUTS];
-    let mut steps = [0u16; plans::MOST_STEPS];
-    let mut tally = walks::index(&book[..used], &mut numbers, &mut places, &mut steps);
-    let mut pos = at;
-    let mut passed = rows;
-    let mut filled = used;
-    let mut n: usize = 0;
-    while n < 4096 {
-        if octets::MOST_ROWS < passed {
-            return Running::Went(Went {
-                count: n,
-                next: pos,
-                rows: passed,
-                used: filled,
-            });
+    let mut known = Known::new();
+    known.index(&book[..used]);
+    let mut went = Went {
+        count: 0,
+        next: at,
+        rows,
+        used,
+    };
+    while went.count < 4096 {
+        if octets::MOST_ROWS < went.rows {
+            return Ok(went);
         }
-        let most = reach(n, passed);
-        let moved = walks::go_on(
+        let most = reach(went.count, went.rows);
+        match walks::go_on(
             doc,
-            pos,
-            passed,
-            &book[..filled],
-            filled,
-            &numbers,
-            &places,
-            &steps,
-            tally.known,
-            &numbers,
-            &mut words[n..],
+            went.next,
+            went.rows,
+            &book[..went.used],
+            went.used,
+            &known,
+            &mut words[went.count..],
             most,
-        );
-        match moved {
-            Moved::Rows(next, count) => {
-                pos = next;
-                passed += count;
-                n += count;
-            }
-            Moved::Refused(number, place) => {
-                if n == 0 {
-                    return Running::Refused(number, place);
+        ) {
+            Err(refused) => {
+                if went.count == 0 {
+                    return Err(refused);
                 }
-                return Running::Went(Went {
-                    count: n,
-                    next: pos,
-                    rows: passed,
-                    used: filled,
-                });
+                return Ok(went);
             }
-            Moved::End(count, time, next) => {
-                return Running::Went(Went {
-                    count: n,
-                    next: pos,
-                    rows: passed,
-                    used: filled,
-                });
+            Ok(Moved::End(count, time, next)) => {
+                return Ok(went);
             }
-            Moved::Item(gone) => {
-                let met = gone.met;
-                words[n] = item_word(met, gone.next);
-                n += 1;
-                if filled < gone.used {
-                    elements::grow(doc, pos, gone.next, book, filled);
-                    tally = walks::keep(
-                        doc,
-                        pos + 4,
-                        filled,
-                        &mut numbers,
-                        &mut places,
-                        &mut steps,
-                        tally,
-                    );
+            Ok(Moved::Rows(next, count)) => {
+                went.count += count;
+                went.next = next;
+                went.rows += count;
+            }
+            Ok(Moved::Item(gone)) => {
+                words[went.count] = item_word(gone.met, gone.next);
+                went.count += 1;
+                if went.used < gone.used {
+                    elements::grow(doc, went.next, gone.next, book, went.used);
+                    known.keep(doc, went.next + 4, went.used);
                 }
-                pos = gone.next;
-                passed = gone.rows;
-                filled = gone.used;
+                went.next = gone.next;
+                went.rows = gone.rows;
+                went.used = gone.used;
             }
         }
     }
-    Running::Went(Went {
-        count: n,
-        next: pos,
-        rows: passed,
-        used: filled,
-    })
+    Ok(went)
 }
 
 // A run of steps from any place, told the rows passed, over a lent book of which so many octets are used: as many items as follow one another, at most 4,096. It is refused as its first step is; behind an item, the end and a refusal stop it, and are left to the step there.
@@ -168,20 +124,18 @@ pub fn run<'d, 'b, 'w>(
     book: &'b mut [u8],
     used: usize,
     words: &'w mut [u64; 4096],
-) -> Running
+) -> Result<Went, Refused>
     ensures { (result ≡ run_tells (run_asked doc.now (lent_at at rows book.old used)))
         × (book.new ≡ book_left book.old (run_asked doc.now (lent_at at rows book.old used)))
         × (words.new ≡ words_left words.old (run_asked doc.now (lent_at at rows book.old used))) }
 {
     let lent = book.len();
-    let guard = elements::lent_refusal(doc, rows, &book[..lent], used);
-    match guard {
-        Refusal::Refused(n, p) => Running::Refused(n, p),
-        Refusal::None => {
-            if doc.len() < at {
-                return Running::Refused(1, at);
-            }
-            items(doc, at, rows, book, used, words)
-        }
+    elements::lent_refusal(doc, rows, &book[..lent], used)?;
+    if doc.len() < at {
+        return Err(Refused {
+            fault: Fault::CutShort,
+            place: at,
+        });
     }
+    items(doc, at, rows, book, used, words)
 }

@@ -3,8 +3,6 @@ use mathlib.Core.Path.{refl, sym, ◌∙◌}
 use Rattle.octets.specs.OfContracts.{Once, OnceSeen}
 use Rattle.octets.proofs.Contracts.{says_once}
 use Rattle.octets.proofs.Inverse.{ok_place}
-use Rattle.texts.proofs.rule_holds as rule_holds
-use Rattle.texts.proofs.fault_of as fault_of
 use Rattle.texts.proofs.octets_end as octets_end
 use Rattle.texts.proofs.led_end as led_end
 use Rattle.texts.proofs.text_end as text_end
@@ -12,8 +10,6 @@ use Rattle.texts.proofs.text_skip as text_skip
 use Rattle.texts.proofs.led_part as led_part
 
 pub record Contracts : Type 0 where
-  pub of_rule_holds : Once rule_holds.Kinds.ps rule_holds.Kinds.r rule_holds.Reads.Pre rule_holds.Reads.Post
-  pub of_fault_of : Once fault_of.Kinds.ps fault_of.Kinds.r fault_of.Reads.Pre fault_of.Reads.Post
   pub of_octets_end : Once octets_end.Kinds.ps octets_end.Kinds.r octets_end.Reads.Pre octets_end.Reads.Post
   pub of_led_end : Once led_end.Kinds.ps led_end.Kinds.r led_end.Reads.Pre led_end.Reads.Post
   pub of_text_end : Once text_end.Kinds.ps text_end.Kinds.r text_end.Reads.Pre text_end.Reads.Post
@@ -23,8 +19,6 @@ pub record Contracts : Type 0 where
 pub contracts : Contracts
 contracts =
     record {
-      of_rule_holds = λ κs a p x y u v e f. (e ∙ sym f, refl);
-      of_fault_of = λ κs a p x y u v e f. (e ∙ sym f, refl);
       of_octets_end = λ κs a p x y u v e f. (says_once x y (e.0 ∙ sym f.0), refl);
       of_led_end = λ κs a p x y u v e f. (says_once x y (e.0 ∙ sym f.0), refl);
       of_text_end = λ κs a p x y u v e f. (says_once x y (e.0 ∙ sym f.0), refl);

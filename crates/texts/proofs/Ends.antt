@@ -9,8 +9,8 @@ use borrow.Author.Tests.{le-leb, lt-leb, leb-true}
 use Rattle.octets.specs.Reading.{ok, no, ends, is_ok, be, part, reach, overrun, number_in}
 use Rattle.octets.specs.declared.Room.{Room}
 use Rattle.octets.specs.declared.Room.TheVariants.{Document, Stated}
-use Rattle.octets.specs.declared.Ended.{Ended}
-use Rattle.octets.specs.declared.Ended.TheVariants.{End, Refused}
+use Rattle.std.specs.Prelude.{Result, Ok, Err}
+use Rattle.octets.specs.declared.Refused.{Refused}
 use Rattle.octets.specs.Answers.{says, Within}
 use Rattle.octets.proofs.Inverse.{after, chosen, ok_value, ok_place}
 use Rattle.octets.proofs.Fields.{roomy}
@@ -94,24 +94,24 @@ module _ (room : Room) (s : List ℕ) (at : ℕ) where
 
 -- What a function answers of octets by their rule, from what it was answered of them without.
 module _ (rule : Rule) (room : Room) (s : List ℕ) (at : ℕ) where
-  abbrev pub Answers : Ended → Type 0
+  abbrev pub Answers : Result ℕ Refused → Type 0
   Answers x = (says x ≡ ends (led_in rule room s at)) × Within at x (reach room s)
 
-  pub answers_none : {x : Ended} (n p : ℕ) → x ≡ Refused n p → says x ≡ ends (octets_in room s at) → Answers (Refused n p)
-  answers_none n p is e = (sym (led_stop room s at rule n p (sym e ∙ ap says is)), tt)
+  pub answers_none : {x : Result ℕ Refused} (r : Refused) → x ≡ Err r → says x ≡ ends (octets_in room s at) → Answers (Err r)
+  answers_none r is e = (sym (led_stop room s at rule r.number r.place (sym e ∙ ap says is)), tt)
 
-  module _ {x : Ended} (next : ℕ) (is : x ≡ End next) (e : says x ≡ ends (octets_in room s at)) where
-    pub answers_end : Behind at x (reach room s) → holds rule (part s (at + 4) (next - (at + 4))) ≡ true → Answers (End next)
+  module _ {x : Result ℕ Refused} (next : ℕ) (is : x ≡ Ok next) (e : says x ≡ ends (octets_in room s at)) where
+    pub answers_end : Behind at x (reach room s) → holds rule (part s (at + 4) (next - (at + 4))) ≡ true → Answers (Ok next)
     answers_end w t = let (h, g) = rw is at w in (sym (led_kept room s at rule next (sym e ∙ ap says is) t), (omega arith, g))
 
-    pub answers_bad : (n : ℕ) → n ≡ fault rule → holds rule (part s (at + 4) (next - (at + 4))) ≡ false → Answers (Refused n at)
+    pub answers_bad : (n : ℕ) → n ≡ fault rule → holds rule (part s (at + 4) (next - (at + 4))) ≡ false → Answers (Err (record { number = n; place = at }))
     answers_bad n q t = (ap (λ (k : ℕ). no k at) q ∙ sym (led_broken room s at rule next (sym e ∙ ap says is) t), tt)
 
 -- What passes its room's end is no end.
-pub overrun_behind : (x : Ended) (room : Room) (at end : ℕ) → says x ≡ overrun room at → Behind at x end
-overrun_behind (Refused n q) room at end e = tt
-overrun_behind (End q) Document at end e = absurd (let z : ◌≡◌ {A = ℕ} 0 1 = cc in omega arith)
-overrun_behind (End q) (Stated end' l) at end e = absurd (let z : ◌≡◌ {A = ℕ} 0 1 = cc in omega arith)
+pub overrun_behind : (x : Result ℕ Refused) (room : Room) (at end : ℕ) → says x ≡ overrun room at → Behind at x end
+overrun_behind (Err r) room at end e = tt
+overrun_behind (Ok q) Document at end e = absurd (let z : ◌≡◌ {A = ℕ} 0 1 = cc in omega arith)
+overrun_behind (Ok q) (Stated end' l) at end e = absurd (let z : ◌≡◌ {A = ℕ} 0 1 = cc in omega arith)
 
 -- What a room accepts, each that reaches as far does.
 pub led_carries : (rule : Rule) (s : List ℕ) (at : ℕ) (r q : Room) → reach r s ≤ reach q s → {xs : List ℕ} {m : ℕ} → led_in rule r s at ≡ ok xs m → led_in rule q s at ≡ ok xs m

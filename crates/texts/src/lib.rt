@@ -3,42 +3,21 @@
 
 #![tactic(auto)]
 
-ghost use Rattle.std.specs.Prelude.{◌≡◌, true, List, ℕ, ◌+◌, ◌-◌, ◌≤◌, length};
+ghost use Rattle.std.specs.Prelude.{◌≡◌, true, List, ℕ, ◌+◌, ◌≤◌, length};
 ghost use Rattle.octets.specs.Limits.{longest};
-ghost use Rattle.octets.specs.Reading.{ok, reach, be, part, ends, is_ok};
+ghost use Rattle.octets.specs.Reading.{ok, reach, be, ends, is_ok};
 ghost use Rattle.octets.specs.declared.Room.TheVariants.{Document};
 ghost use Rattle.octets.specs.Answers.{says, Within};
-ghost use Rattle.texts.specs.Texts.{holds, fault, octets_in, led_in, text};
+ghost use Rattle.texts.specs.Texts.{octets_in, led_in, text};
 ghost use Rattle.texts.specs.Answers.{Behind, Stands};
 
-use octets::{Ended, Room};
+use octets::{Fault, Refused, Room};
 
 // What octets behind a length have to be: anything, or the characters of a string, in UTF-8.
-#[derive(Clone, Copy)]
+#[derive(Clone, Copy, PartialEq, Eq)]
 pub enum Rule {
     Free,
     Characters,
-}
-
-// Whether the octets from a place to another are what a rule asks.
-pub fn rule_holds(rule: Rule, s: &[u8], from: usize, to: usize) -> bool
-    requires { (from ≤ to) × (to ≤ length s.now) }
-    ensures { result ≡ holds rule (part s.now from (to - from)) }
-{
-    match rule {
-        Rule::Free => true,
-        Rule::Characters => utf8::is_utf8(s, from, to),
-    }
-}
-
-// The refusal of octets that are not what a rule asks.
-pub fn fault_of(rule: Rule) -> u32
-    ensures { result ≡ fault rule }
-{
-    match rule {
-        Rule::Free => 0,
-        Rule::Characters => 24,
-    }
 }
 
 // The place behind the octets whose length stands at a place: the one place that says where they end.
@@ -50,40 +29,43 @@ fn led_behind(s: &[u8], at: usize) -> usize
 }
 
 // The place behind octets and their length, whatever they are.
-pub fn octets_end(s: &[u8], at: usize, room: Room) -> Ended
+pub fn octets_end(s: &[u8], at: usize, room: Room) -> Result<usize, Refused>
     requires { (at ≤ 4294967296) × (reach room s.now ≤ length s.now) × (length s.now ≤ longest) }
     ensures { (says result ≡ ends (octets_in room s.now at)) × Behind at result (reach room s.now) }
 {
     let end = octets::reach(room, s);
     if end < at + 4 {
-        return octets::overrun(room, at);
+        return Err(octets::overrun(room, at));
     }
     let next = led_behind(s, at);
     if end < next {
-        return octets::overrun(room, at);
+        return Err(octets::overrun(room, at));
     }
-    Ended::End(next)
+    Ok(next)
 }
 
 // The place behind octets and their length, by their rule.
-pub fn led_end(s: &[u8], at: usize, room: Room, rule: Rule) -> Ended
+pub fn led_end(s: &[u8], at: usize, room: Room, rule: Rule) -> Result<usize, Refused>
     requires { (at ≤ 4294967296) × (reach room s.now ≤ length s.now) × (length s.now ≤ longest) }
     ensures { (says result ≡ ends (led_in rule room s.now at)) × Within at result (reach room s.now) }
 {
-    let there = octets_end(s, at, room);
-    match there {
-        Ended::Refused(n, p) => Ended::Refused(n, p),
-        Ended::End(next) => {
-            if rule_holds(rule, s, at + 4, next) {
-                return Ended::End(next);
+    let next = octets_end(s, at, room)?;
+    match rule {
+        Rule::Free => Ok(next),
+        Rule::Characters => {
+            if utf8::is_utf8(s, at + 4, next) {
+                return Ok(next);
             }
-            Ended::Refused(fault_of(rule), at)
+            Err(Refused {
+                fault: Fault::NotUtf8,
+                place: at,
+            })
         }
     }
 }
 
 // The place behind a string of a document's header or of a layout.
-pub fn text_end(s: &[u8], at: usize) -> Ended
+pub fn text_end(s: &[u8], at: usize) -> Result<usize, Refused>
     requires { (at ≤ length s.now) × (length s.now ≤ longest) }
     ensures { (says result ≡ ends (text s.now at)) × Within at result (length s.now) }
 {

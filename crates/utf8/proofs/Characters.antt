@@ -13,8 +13,8 @@ use borrow.Author.Tests.{le-leb, lt-leb, leb-true, leb-false}
 use Rattle.octets.specs.Reading.{choose, part}
 use Rattle.utf8.specs.Utf8.{Range, within, forms, opens, spells, utf8}
 use Rattle.utf8.specs.Answers.{Ascii, Steps, Passes}
-use Rattle.utf8.specs.declared.Passed.{Passed}
-use Rattle.utf8.specs.declared.Passed.TheVariants.{To, None}
+use Rattle.std.specs.Prelude as std
+use Rattle.std.specs.Prelude.{Some, None}
 
 -- On which side of each line's first range an octet stands. What it opens depends on nothing else.
 abbrev pub sides : ℕ → List (List Range) → List Bool
@@ -85,11 +85,11 @@ module _ (s : List ℕ) (at to : ℕ) where
     pub step_inside : t ≡ true → at + 1 ≤ to
     step_inside e = (subst (Steps o p s at to) e step).0
 
-    pub step_pass : t ≡ true → (r : Passed) → Passes p s (at + 1) to r → Passes o s at to r
+    pub step_pass : t ≡ true → (r : std.Option ℕ) → Passes p s (at + 1) to r → Passes o s at to r
     step_pass e r f = go r f (subst (Steps o p s at to) e step)
       where
-        go : (r : Passed) → Passes p s (at + 1) to r → Steps o p s at to true → Passes o s at to r
-        go (To next) (past, inside, same) (h, on) = (omega arith, inside, on ∙ same)
+        go : (r : std.Option ℕ) → Passes p s (at + 1) to r → Steps o p s at to true → Passes o s at to r
+        go (Some next) (past, inside, same) (h, on) = (omega arith, inside, on ∙ same)
         go None same (h, on) = on ∙ same
 
     pub step_none : t ≡ false → Passes o s at to None
@@ -125,7 +125,7 @@ ascii_each s (suc k) at to h g p =
     ∙ ascii_each s k (at + 1) to (omega arith) g (λ i a b. p i (omega arith) (omega arith))
     ∙ ap (λ (n : ℕ). spells (some []) (part s n (to - n))) there
 
-pub ascii_passes : (s : List ℕ) (at next to : ℕ) → at ≤ next → next ≤ to → to ≤ length s → Ascii s at next → Passes (some []) s at to (To next)
+pub ascii_passes : (s : List ℕ) (at next to : ℕ) → at ≤ next → next ≤ to → to ≤ length s → Ascii s at next → Passes (some []) s at to (Some next)
 unfolding utf8
 ascii_passes s at next to h g k p =
     let end : at + (next - at) ≡ next = omega arith in
@@ -133,14 +133,14 @@ ascii_passes s at next to h g k p =
 
 -- Octets are UTF-8 just where those behind what was passed are, not where nothing was, and at the end.
 module _ (s : List ℕ) (at to : ℕ) (fits : to ≤ length s) where
-  abbrev Opened : Passed → Type 0
+  abbrev Opened : std.Option ℕ → Type 0
   Opened p = Passes (opens (get_or s at 0) forms) s (at + 1) to p
 
-  pub utf8_on : at < to → {p : Passed} (next : ℕ) → p ≡ To next → Opened p → (at < next) × (next ≤ to) × (utf8 (part s at (to - at)) ≡ utf8 (part s next (to - next)))
+  pub utf8_on : at < to → {p : std.Option ℕ} (next : ℕ) → p ≡ Some next → Opened p → (at < next) × (next ≤ to) × (utf8 (part s at (to - at)) ≡ utf8 (part s next (to - next)))
   unfolding utf8
   utf8_on h next e o = let (past, inside, same) = subst Opened e o in (omega arith, inside, opened s at to fits h ∙ same)
 
-  pub utf8_not : at < to → {p : Passed} → p ≡ None → Opened p → utf8 (part s at (to - at)) ≡ false
+  pub utf8_not : at < to → {p : std.Option ℕ} → p ≡ None → Opened p → utf8 (part s at (to - at)) ≡ false
   unfolding utf8
   utf8_not h e o = opened s at to fits h ∙ subst Opened e o
 

@@ -1,10 +1,9 @@
 -- What the functions of this crate answer.
-use Rattle.std.specs.Prelude.{ℕ, zero, suc, ◌+◌, ◌-◌, ◌*◌, ◌/◌, ◌^◌, ◌≤◌, ◌<◌, ◌≡◌, List, Bool, true, false, get_or}
+use Rattle.std.specs.Prelude.{ℕ, zero, suc, ◌+◌, ◌-◌, ◌*◌, ◌/◌, ◌^◌, ◌≤◌, ◌<◌, ◌≡◌, List, Bool, true, false, get_or, Some, None}
+use Rattle.std.specs.Prelude as std
 use Rattle.std.proofs.Math.Option.{Option}
 use Rattle.octets.specs.Reading.{part}
 use Rattle.utf8.specs.Utf8.{Range, spells, utf8}
-use Rattle.utf8.specs.declared.Passed.{Passed}
-use Rattle.utf8.specs.declared.Passed.TheVariants.{To, None}
 
 -- The number of so many octets of which each keeps its top bit alone.
 unfoldable pub marks : ℕ → List ℕ → ℕ → ℕ
@@ -25,6 +24,6 @@ Steps wanted later s at to true = (at + 1 ≤ to) × (spells wanted (part s at (
 Steps wanted later s at to false = spells wanted (part s at (to - at)) ≡ false
 
 -- The same of all that is wanted: octets are right from there to an end just where those behind what was passed are UTF-8, or never.
-abbrev pub Passes : Option (List Range) → List ℕ → ℕ → ℕ → Passed → Type 0
-Passes wanted s at to (To next) = (at ≤ next) × (next ≤ to) × (spells wanted (part s at (to - at)) ≡ utf8 (part s next (to - next)))
+abbrev pub Passes : Option (List Range) → List ℕ → ℕ → ℕ → std.Option ℕ → Type 0
+Passes wanted s at to (Some next) = (at ≤ next) × (next ≤ to) × (spells wanted (part s at (to - at)) ≡ utf8 (part s next (to - next)))
 Passes wanted s at to None = spells wanted (part s at (to - at)) ≡ false

@@ -9,13 +9,6 @@ ghost use Rattle.octets.specs.Reading.{part};
 ghost use Rattle.utf8.specs.Utf8.{Range, ◌‥◌, tail, forms, opens, utf8};
 ghost use Rattle.utf8.specs.Answers.{marks, Zeros, Ascii, Steps, Passes};
 
-// The place behind what was passed, or that no character stands there.
-#[derive(Clone, Copy)]
-enum Passed {
-    To(usize),
-    None,
-}
-
 // The top bits of the eight octets at a place, which are those that no ASCII octet has.
 fn marks_at(s: &[u8], at: usize) -> u64
     requires { at + 8 ≤ length s.now }
@@ -28,7 +21,7 @@ fn marks_at(s: &[u8], at: usize) -> u64
 fn unmarked(m: u64) -> usize
     ensures { Zeros m result }
 {
-    (u64::leading_zeros(m) / 8) as usize
+    (m.leading_zeros() / 8) as usize
 }
 
 // A place up to which fewer than eight octets are ASCII: by the eight that end with them, of which the others are blotted out.
@@ -62,13 +55,7 @@ fn stands(s: &[u8], at: usize, to: usize, low: u8, high: u8) -> bool
     requires { (at ≤ to) × (to ≤ length s.now) }
     ensures { (rest : List Range) → Steps (some (low ‥ high ∷ rest)) (some rest) s.now at to result }
 {
-    if at == to {
-        return false;
-    }
-    if s[at] < low {
-        return false;
-    }
-    s[at] <= high
+    at < to && low <= s[at] && s[at] <= high
 }
 
 // Whether the second octet of a character of three stands there, by the first.
@@ -105,34 +92,34 @@ fn second_of_four(x: u8, s: &[u8], at: usize, to: usize) -> bool
     false
 }
 
-// The one tail that ends a character, and the two.
-fn pass_tail(s: &[u8], at: usize, to: usize) -> Passed
+// The place behind the one tail that ends a character, or none where it does not stand there; then the same of two.
+fn pass_tail(s: &[u8], at: usize, to: usize) -> Option<usize>
     requires { (at ≤ to) × (to ≤ length s.now) }
     ensures { Passes (some (tail ∷ [])) s.now at to result }
 {
     if stands(s, at, to, 0x80, 0xbf) {
-        return Passed::To(at + 1);
+        return Some(at + 1);
     }
-    Passed::None
+    None
 }
 
-fn pass_tails(s: &[u8], at: usize, to: usize) -> Passed
+fn pass_tails(s: &[u8], at: usize, to: usize) -> Option<usize>
     requires { (at ≤ to) × (to ≤ length s.now) }
     ensures { Passes (some (tail ∷ tail ∷ [])) s.now at to result }
 {
     if stands(s, at, to, 0x80, 0xbf) {
         return pass_tail(s, at + 1, to);
     }
-    Passed::None
+    None
 }
 
-// What has to follow a first octet that is not ASCII.
-fn pass_rest(x: u8, s: &[u8], at: usize, to: usize) -> Passed
+// The place behind what has to follow a first octet that is not ASCII, or none.
+fn pass_rest(x: u8, s: &[u8], at: usize, to: usize) -> Option<usize>
     requires { (0x80 ≤ x) × (at ≤ to) × (to ≤ length s.now) }
     ensures { Passes (opens x forms) s.now at to result }
 {
     if x < 0xc2 {
-        return Passed::None;
+        return None;
     }
     if x < 0xe0 {
         return pass_tail(s, at, to);
@@ -141,22 +128,22 @@ fn pass_rest(x: u8, s: &[u8], at: usize, to: usize) -> Passed
         if second_of_three(x, s, at, to) {
             return pass_tail(s, at + 1, to);
         }
-        return Passed::None;
+        return None;
     }
     if second_of_four(x, s, at, to) {
         return pass_tails(s, at + 1, to);
     }
-    Passed::None
+    None
 }
 
-// One whole character; an ASCII one with those that follow it.
-fn pass(s: &[u8], at: usize, to: usize) -> Passed
+// The place behind one whole character, an ASCII one with those that follow it; or none.
+fn pass(s: &[u8], at: usize, to: usize) -> Option<usize>
     requires { (at < to) × (to ≤ length s.now) }
     ensures { Passes (opens (get_or s.now at 0) forms) s.now (at + 1) to result }
 {
     let x = s[at];
     if x < 0x80 {
-        return Passed::To(ascii_to(s, at + 1, to));
+        return Some(ascii_to(s, at + 1, to));
     }
     pass_rest(x, s, at + 1, to)
 }
@@ -192,7 +179,7 @@ pub fn is_utf8(s: &[u8], from: usize, to: usize) -> bool
     }
     let mut i = ascii_front(s, from, to);
     while i < to {
-        let Passed::To(next) = pass(s, i, to) else {
+        let Some(next) = pass(s, i, to) else {
             return false;
         };
         i = next;

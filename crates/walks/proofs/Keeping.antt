@@ -6,7 +6,7 @@ use mathlib.Core.Bool.{true, false}
 use mathlib.Core.Option.{Option, some}
 use native.Mathlib.Omega.{arith}
 use native.Mathlib.Numerals.{add-one}
-use lib.ListN.{length, get_or, set, take, length-set, length-append}
+use lib.ListN.{length, get_or, set, take, replicate, length-set, length-append, length-replicate}
 use lib.Seq.{get_or-set_same, get_or-set_other, get_or-take, take-suc-set}
 use Rattle.octets.specs.Limits.{most_layouts}
 use Rattle.octets.specs.Reading.{Read, ok, no}
@@ -17,18 +17,25 @@ use Rattle.layouts.proofs.Parts.{layout_extends}
 use Rattle.layouts.proofs.Growing.{good_nil}
 use Rattle.plans.specs.Plan.{plan_for, Begins}
 use Rattle.plans.proofs.Making.{begins_kept, begins_behind}
-use Rattle.walks.specs.Kept.{nothing, holds, grown, tallied, mark_of, marks, PlansFrom, as_option, standing, all, Numbered, Shelved, Kept, Keeps}
-use Rattle.walks.specs.declared.Tally.{Tally}
+use Rattle.walks.specs.Kept.{Tally, tally_of, nothing, empty, holds, grown, tallied, mark_of, marks, PlansFrom, as_option, standing, all, Numbered, Shelved, Kept, Keeps}
+use Rattle.walks.specs.declared.Known.{Known}
 use Rattle.walks.proofs.Marks.{tallied_more, marks_more, plans_stay, plans_more}
 
--- Nothing kept of the empty book.
-pub kept_none : (shelf numbers places steps : List ℕ) → length numbers ≡ 64 → length places ≡ 64 → length steps ≡ 1216 → Kept shelf numbers places steps nothing []
+-- Nothing kept of the empty book, whatever stands in the numbers, places and steps.
+pub kept_none : (shelf numbers places steps : List ℕ) → length numbers ≡ 64 → length places ≡ 64 → length steps ≡ 1216
+    → Kept shelf (record { numbers = numbers; places = places; steps = steps; count = 0; filled = 64 }) []
 kept_none shelf numbers places steps n p s =
     record {
       planned = record { numbered = record { good = good_nil; count = refl; long = n; marked = refl }; long = s; plans = tt };
       shelved = record { long = p; stands = refl };
       tally = refl;
     }
+
+pub kept_empty : (shelf : List ℕ) → Kept shelf empty []
+kept_empty shelf =
+    let short : List ℕ = replicate 64 0 in
+    let long : List ℕ = replicate 1216 0 in
+    kept_none shelf short short long (length-replicate {A = ℕ} 64 0) (length-replicate {A = ℕ} 64 0) (length-replicate {A = ℕ} 1216 0)
 
 -- One more in a list kept from its front.
 put_behind : {A : Type 0} (xs : List A) (k : ℕ) (v : A) → k < length xs → take (k + 1) (set xs k v) ≡ take k xs ++ v ∷ []
@@ -42,40 +49,43 @@ all_append : (b c : Book) → all (b ++ c) ≡ all b ++ all c
 all_append [] c = refl
 all_append (l ∷ b) c = ap (λ (xs : List (Option Layout)). some l ∷ xs) (all_append b c)
 
-module _ (shelf numbers places steps : List ℕ) (t : Tally) (book : Book) (k : Kept shelf numbers places steps t book) (room : t.known < most_layouts) (l : Layout)
-    (good : GoodBook (book ++ l ∷ [])) (place next : ℕ) (reads : layout_at shelf place ≡ ok l next) where
-  numbered_more : Numbered (set numbers t.known (mark_of t l)) (t.known + 1) (book ++ l ∷ [])
+module _ (shelf : List ℕ) (k : Known) (book : Book) (kept : Kept shelf k book) (room : k.count < most_layouts) (l : Layout) (good : GoodBook (book ++ l ∷ []))
+    (place next : ℕ) (reads : layout_at shelf place ≡ ok l next) (k₁ : Known) (h : Keeps l place k k₁) where
+  counted : k₁.count ≡ k.count + 1
+  counted = ap (λ (t : Tally). t.known) h.tally
+
+  numbered_more : Numbered k₁ (book ++ l ∷ [])
   numbered_more =
-      let n = k.planned.numbered in
+      let n = kept.planned.numbered in
       record {
         good = good;
-        count = length-append book (l ∷ []) ∙ ap (λ (m : ℕ). m + 1) n.count;
-        long = length-set numbers t.known (mark_of t l) ∙ n.long;
+        count = length-append book (l ∷ []) ∙ (ap (λ (m : ℕ). m + 1) n.count ∙ sym counted);
+        long = ap length h.number ∙ (length-set k.numbers k.count (mark_of (tally_of k) l) ∙ n.long);
         marked =
-            put_behind numbers t.known (mark_of t l) (omega (arith, n.long))
-            ∙ (ap (λ (xs : List ℕ). xs ++ mark_of t l ∷ []) n.marked
-            ∙ (ap (λ (x : Tally). marks nothing book ++ mark_of x l ∷ []) k.tally ∙ sym (marks_more nothing book l)));
+            rw (counted, h.number)
+            (put_behind k.numbers k.count (mark_of (tally_of k) l) (omega (arith, n.long))
+            ∙ (ap (λ (xs : List ℕ). xs ++ mark_of (tally_of k) l ∷ []) n.marked
+            ∙ (ap (λ (x : Tally). marks nothing book ++ mark_of x l ∷ []) kept.tally ∙ sym (marks_more nothing book l))));
       }
 
-  shelved_more : Shelved shelf (set places t.known place) (t.known + 1) (book ++ l ∷ [])
+  shelved_more : Shelved shelf k₁ (book ++ l ∷ [])
   shelved_more =
-      let s = k.shelved in
+      let s = kept.shelved in
       record {
-        long = length-set places t.known place ∙ s.long;
+        long = ap length h.place_is ∙ (length-set k.places k.count place ∙ s.long);
         stands =
-            ap (standing shelf) (put_behind places t.known place (omega (arith, s.long)))
-            ∙ (standing_append shelf (take t.known places) (place ∷ []) ∙ rw (s.stands, reads) (sym (all_append book (l ∷ []))));
+            rw (counted, h.place_is)
+            (ap (standing shelf) (put_behind k.places k.count place (omega (arith, s.long)))
+            ∙ (standing_append shelf (take k.count k.places) (place ∷ []) ∙ rw (s.stands, reads) (sym (all_append book (l ∷ [])))));
       }
 
-  pub kept_more : (numbers₁ places₁ steps₁ : List ℕ) (r : Tally) → Keeps l place numbers places steps t numbers₁ places₁ steps₁ r
-      → Kept shelf numbers₁ places₁ steps₁ r (book ++ l ∷ [])
-  kept_more numbers₁ places₁ steps₁ r h =
-      rw (h.number, h.place_is, h.tally)
-      (record {
-        planned = record { numbered = numbered_more; long = h.long; plans = h.plans book k.tally k.planned.plans };
+  pub kept_more : Kept shelf k₁ (book ++ l ∷ [])
+  kept_more =
+      record {
+        planned = record { numbered = numbered_more; long = h.long; plans = h.plans book kept.tally kept.planned.plans };
         shelved = shelved_more;
-        tally = ap (λ (x : Tally). grown x l) k.tally ∙ sym (tallied_more nothing book l);
-      })
+        tally = h.tally ∙ (ap (λ (x : Tally). grown x l) kept.tally ∙ sym (tallied_more nothing book l));
+      }
 
 -- More octets behind a shelf change nothing of what stands in it.
 stands_on : (s more ps : List ℕ) (book : Book) → Each Octet s → standing s ps ≡ all book → standing (s ++ more) ps ≡ all book
@@ -91,13 +101,12 @@ stands_on s more (p ∷ ps) (l ∷ book) o e =
     here (ok m next) q f = ap as_option (layout_extends s more p m next o q) ∙ f
     here (no n m) q f = absurd (let z : ◌≡◌ {A = ℕ} 0 1 = cc in omega arith)
 
-pub kept_extends : (shelf more numbers places steps : List ℕ) (t : Tally) (book : Book) → Each Octet shelf → Kept shelf numbers places steps t book
-    → Kept (shelf ++ more) numbers places steps t book
-kept_extends shelf more numbers places steps t book o k =
+pub kept_extends : (shelf more : List ℕ) (k : Known) (book : Book) → Each Octet shelf → Kept shelf k book → Kept (shelf ++ more) k book
+kept_extends shelf more k book o kept =
     record {
-      planned = k.planned;
-      shelved = record { long = k.shelved.long; stands = stands_on shelf more (take t.known places) book o k.shelved.stands };
-      tally = k.tally;
+      planned = kept.planned;
+      shelved = record { long = kept.shelved.long; stands = stands_on shelf more (take k.count k.places) book o kept.shelved.stands };
+      tally = kept.tally;
     }
 
 -- The plans of a book behind a plan that was put, or for which there was no room: what was put leaves the steps before it.

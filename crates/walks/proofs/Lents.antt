@@ -20,7 +20,7 @@ use Rattle.elements.specs.Walk.{Seen, goes, Spot, spot_at, turn_at}
 use Rattle.elements.proofs.Behind.{holding_octets, holding_book}
 use Rattle.elements.proofs.Told.{holding_same}
 use Rattle.walks.specs.Kept.{Kept, Keeps, Image}
-use Rattle.walks.specs.declared.Tally.{Tally}
+use Rattle.walks.specs.declared.Known.{Known}
 use Rattle.walks.specs.Answers.{Bears}
 use Rattle.walks.proofs.Keeping.{kept_more, kept_extends}
 use Rattle.walks.proofs.Moves.{Newly, item_old, item_grows, item_newly}
@@ -48,28 +48,27 @@ module _ (octets : List ℕ) (used : ℕ) (book : Book) (o : Each Octet octets) 
         subst (λ (k : ℕ). layout_at (shelf ++ layout_image l) k ≡ ok l (k + length (layout_image l))) shelf_long
         (subst (λ (xs : List ℕ). layout_at (shelf ++ xs) (length shelf) ≡ ok l (length shelf + length (layout_image l))) (append-nil (layout_image l)) (layout_back l shelf [] good))
 
-    pub kept_grown : {numbers places steps : List ℕ} {t : Tally} → Kept shelf numbers places steps t book → t.known < most_layouts → GoodLayout l → GoodBook (book ++ l ∷ [])
-        → {numbers₁ places₁ steps₁ : List ℕ} {t₁ : Tally} → Keeps l used numbers places steps t numbers₁ places₁ steps₁ t₁
-        → Kept (take (length (book_image (book ++ l ∷ []))) (holding (book ++ l ∷ []) octets)) numbers₁ places₁ steps₁ t₁ (book ++ l ∷ [])
-    kept_grown {numbers} {places} {steps} {t} k room good_l good {numbers₁} {places₁} {steps₁} {t₁} h =
+    pub kept_grown : {k : Known} → Kept shelf k book → k.count < most_layouts → GoodLayout l → GoodBook (book ++ l ∷ []) → {k₁ : Known} → Keeps l used k k₁
+        → Kept (take (length (book_image (book ++ l ∷ []))) (holding (book ++ l ∷ []) octets)) k₁ (book ++ l ∷ [])
+    kept_grown {k} kept room good_l good {k₁} h =
         rw grown_shelf
-        (kept_more (shelf ++ layout_image l) numbers places steps t book (kept_extends shelf (layout_image l) numbers places steps t book (each_take Octet used octets o) k) room l good used
-        (used + length (layout_image l)) (reads good_l) numbers₁ places₁ steps₁ t₁ h)
+        (kept_more (shelf ++ layout_image l) k book (kept_extends shelf (layout_image l) k book (each_take Octet used octets o) kept) room l good used
+        (used + length (layout_image l)) (reads good_l) k₁ h)
 
 -- What is carried with lent octets: they hold a book, whose layouts are kept by their places there.
-pub record Carried (octets : List ℕ) (used : ℕ) (numbers places steps : List ℕ) (t : Tally) : Type 0 where
+pub record Carried (octets : List ℕ) (used : ℕ) (k : Known) : Type 0 where
   pub octets_are : Each Octet octets
   pub is : IsBook octets used
-  pub kept : Kept (take used octets) numbers places steps t (book_in octets used)
+  pub kept : Kept (take used octets) k (book_in octets used)
 
-module _ (octets : List ℕ) (used : ℕ) (numbers places steps : List ℕ) (t : Tally) (c : Carried octets used numbers places steps t) where
+module _ (octets : List ℕ) (used : ℕ) (k : Known) (c : Carried octets used k) where
   abbrev held : Book
   held = book_in octets used
 
   pub carried_lent : Lent octets used held
   carried_lent = lent_book_lem octets used c.octets_are c.is
 
-  pub carried_bears : Bears (take used octets) used numbers places steps t.known held
+  pub carried_bears : Bears (take used octets) used k held
   carried_bears = record { planned = c.kept.planned; shelved = c.kept.shelved; size = carried_lent.size }
 
   -- Behind an item: what was carried, or the octets with the new layout put behind the used ones.
@@ -87,10 +86,9 @@ module _ (octets : List ℕ) (used : ℕ) (numbers places steps : List ℕ) (t :
       pub carried_newly : Newly s at p.next held y.book
       carried_newly = item_newly s o short at rows held p y e (omega (arith, carried_lent.size)) carried_lent.good
 
-      pub carried_new : (exit : List ℕ) → exit ≡ holding y.book octets → {numbers₁ places₁ steps₁ : List ℕ} {t₁ : Tally}
-          → Keeps carried_newly.layout used numbers places steps t numbers₁ places₁ steps₁ t₁
-          → Carried exit (length (book_image y.book)) numbers₁ places₁ steps₁ t₁ × (book_in exit (length (book_image y.book)) ≡ y.book)
-      carried_new exit left {numbers₁} {places₁} {steps₁} {t₁} h =
+      pub carried_new : (exit : List ℕ) → exit ≡ holding y.book octets → {k₁ : Known} → Keeps carried_newly.layout used k k₁
+          → Carried exit (length (book_image y.book)) k₁ × (book_in exit (length (book_image y.book)) ≡ y.book)
+      carried_new exit left {k₁} h =
           let n = carried_newly in
           let lent = carried_lent in
           let (is, same) = holding_book y.book octets n.good lent.room in

@@ -14,8 +14,7 @@ use Rattle.layouts.specs.Layout.{Layout, GoodLayout}
 use Rattle.layouts.specs.Book.{Book, find, numbers_of, position, Distinct}
 use Rattle.layouts.proofs.Finding.{none_some}
 use Rattle.plans.specs.Plan.{plan_for, Begins}
-use Rattle.walks.specs.Kept.{nothing, holds, grown, tallied, mark_of, marks, PlansFrom}
-use Rattle.walks.specs.declared.Tally.{Tally}
+use Rattle.walks.specs.Kept.{Tally, nothing, holds, grown, tallied, mark_of, marks, PlansFrom}
 
 -- One layout more behind a book.
 pub tallied_more : (t : Tally) (b : Book) (l : Layout) → tallied t (b ++ l ∷ []) ≡ grown (tallied t b) l

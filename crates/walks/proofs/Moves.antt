@@ -1,5 +1,6 @@
 -- One turn in code: what is told of a step that was read is the turn, with the position of its layout in the book behind it; and what an item leaves of the book.
 use Prim.Native.Nat.{ℕ, ◌+◌, ◌≤◌, ◌<◌}
+use Rattle.std.specs.Prelude.{Ok}
 use mathlib.Core.Path.{◌≡◌, refl, sym, ap, ◌∙◌, subst}
 use mathlib.Core.List.{List, [], ◌∷◌, ◌++◌}
 use mathlib.Core.Logic.{inl, inr}
@@ -22,6 +23,7 @@ use Rattle.elements.specs.Walk.{ended, refused, Seen, Turn, goes, stops, number_
 use Rattle.elements.proofs.Behind.{element_book, element_new, element_old}
 use Rattle.elements.proofs.Turns.{Took, took_at, turn_moves}
 use Rattle.elements.proofs.Went.{Went, at_layout, at_row, at_finish, went}
+use Rattle.walks.specs.declared.Known.{Known}
 use Rattle.walks.specs.Answers.{moved_of, step_moved, ByTurn, GoesOn}
 
 -- The position of the number behind an item's kind, in the book before it, is that of its layout in the book behind it.
@@ -46,13 +48,13 @@ same_position s at rows b st next i e is = go (went s at rows b st next e)
 
 -- So a step and that position tell the turn.
 pub step_moved_lem : (s : List ℕ) (at rows : ℕ) (b : Book) (n : ℕ) → (at + 4 + 4 ≤ length s → n ≡ be 4 s (at + 4)) → (st : Stepped) (next : ℕ) → element_at s at rows b ≡ ok st next
-    → step_moved (step_of st next) (position n b) ≡ moved_of (turn_at s (spot_at at rows b))
+    → Ok (step_moved (step_of st next) (position n b)) ≡ moved_of (turn_at s (spot_at at rows b))
 step_moved_lem s at rows b n is st next e = rw e (go st.element refl)
   where
     place : (i : Item) → st.element ≡ item i → position n b ≡ position (number_of i) st.book
     place i q = let (room, same) = same_position s at rows b st next i e q in ap (λ (k : ℕ). position k b) (is room) ∙ sym same
 
-    go : (x : Element) → st.element ≡ x → step_moved (step_of st next) (position n b) ≡ moved_of (turn_by spot_of at st next x)
+    go : (x : Element) → st.element ≡ x → Ok (step_moved (step_of st next) (position n b)) ≡ moved_of (turn_by spot_of at st next x)
     go (item (layout l)) q = rw (q, place (layout l) q) refl
     go (item (row r)) q = rw (q, place (row r) q) refl
     go (finish m t) q = rw q refl
@@ -107,8 +109,8 @@ module _ (s : List ℕ) (o : Each Octet s) (short : length s ≤ longest) (at ro
     item_left octets exit left = left rows took.stepped took.reads ∙ ap (λ (z : Book). holding z octets) (sym book_is)
 
 -- A turn, whatever it met, is how a walk goes on where no row is passed by a plan.
-pub turned_on : {s : List ℕ} {x : Spot} {numbers : List ℕ} {known most : ℕ} {entry exit : List ℕ} (labels : List ℕ) (t : Turn Spot)
-    → ByTurn s x numbers known most entry exit (moved_of t) → GoesOn s x numbers known labels most entry exit (moved_of t)
-turned_on labels (goes p y) b = b
-turned_on labels (stops (ended n t next)) b = b
-turned_on labels (stops (refused n p)) b = b
+pub turned_on : {s : List ℕ} {x : Spot} {k : Known} {most : ℕ} {entry exit : List ℕ} (t : Turn Spot)
+    → ByTurn s x k most entry exit (moved_of t) → GoesOn s x k most entry exit (moved_of t)
+turned_on (goes p y) b = b
+turned_on (stops (ended n t next)) b = b
+turned_on (stops (refused n p)) b = b

@@ -5,6 +5,8 @@ use mathlib.Core.List.{List, [], ◌∷◌}
 use mathlib.Core.Logic.{◌⊎◌, inl, inr}
 use native.Mathlib.Omega.{arith}
 use lib.ListN.{length}
+use Rattle.std.specs.Prelude.{Result, Ok, Err}
+use Rattle.octets.specs.declared.Refused.{Refused}
 use Rattle.octets.specs.Reading.{is_ok}
 use Rattle.octets.specs.Writing.{Each}
 use Rattle.layouts.specs.Book.{Book}
@@ -19,17 +21,18 @@ use Rattle.elements.proofs.Growth.{turn_in_book}
 use Rattle.walks.specs.Kept.{Numbered}
 use Rattle.walks.specs.Rows.{words_by, laid, Refuses, HasPlan, Strides}
 use Rattle.walks.specs.Answers.{ByTurn, GoesOn}
+use Rattle.walks.specs.declared.Known.{Known}
 use Rattle.walks.specs.declared.Moved.{Moved}
 use Rattle.walks.specs.declared.Moved.TheVariants as moved
 use Rattle.walks.proofs.Rows.{passage_none}
 
-module _ (s numbers : List ℕ) (known : ℕ) (book : Book) (k : Numbered numbers known book) where
+module _ (s : List ℕ) (known : Known) (book : Book) (k : Numbered known book) where
   -- Rows with plans one behind another, so many at most or to where no such row stands.
   record Goes (at rows most : ℕ) (ps : List Seen) (next : ℕ) : Type 0 where
     path : Path (turn_at s) (spot_at at rows book) ps (spot_at next (rows + length ps) book)
-    plans : Each (HasPlan numbers) ps
+    plans : Each (HasPlan known.numbers) ps
     few : length ps ≤ most
-    stops : length ps < most → Refuses s next book numbers known
+    stops : length ps < most → Refuses s next book known
 
   module _ {at rows most next : ℕ} {p : Seen} {ps : List Seen} (g : Goes at rows most (p ∷ ps) next) where
     first : TookRow s at rows book p g.path.0
@@ -58,7 +61,7 @@ module _ (s numbers : List ℕ) (known : ℕ) (book : Book) (k : Numbered number
         let has = turn_in_book s (spot_at at rows book) g.path.0 p g.path.1 in
         let below = (position_found (number_of p.which) g.path.0.book has.layout has.found).0 in
         let size = ap (λ (y : Spot). length y.book) r.spot in
-        let no_row = subst (λ (m : ℕ). Refuses s m book numbers known) here (h.stops (omega (arith, g.few))) in
+        let no_row = subst (λ (m : ℕ). Refuses s m book known) here (h.stops (omega (arith, g.few))) in
         let plan = g.plans.0 ∙ (ap number_of r.is ∙ (row_says_lem s (at + 4) r.read p.next book r.reads).number) in
         let refused = no_row p.position (omega (arith, has.index, k.count)) plan r.kind in
         let read = ap is_ok r.reads in
@@ -76,9 +79,9 @@ module _ (s numbers : List ℕ) (known : ℕ) (book : Book) (k : Numbered number
       (rw (same, seen) refl, place)
 
   -- So two answers are one, and so are the words that they put.
-  module _ (labels : List ℕ) (most : ℕ) (entry : List ℕ) (at rows : ℕ) where
+  module _ (most : ℕ) (entry : List ℕ) (at rows : ℕ) where
     abbrev Says : List ℕ → ℕ → ℕ → Type 0
-    Says exit next count = Strides s (spot_at at rows book) numbers known labels most entry exit next count
+    Says exit next count = Strides s (spot_at at rows book) known most entry exit next count
 
     goes_by : {exit : List ℕ} {next count : ℕ} (e : Says exit next count) → Goes at rows most e.passage.seen next
     goes_by e = let p = e.passage in record { path = p.path; plans = p.planned; few = omega (arith, p.is_count, e.few); stops = λ h. e.stops (omega (arith, p.is_count)) }
@@ -90,38 +93,38 @@ module _ (s numbers : List ℕ) (known : ℕ) (book : Book) (k : Numbered number
         let (seen, place) = once p.seen q.seen at rows most _ _ (goes_by e) (goes_by f) in (
           place,
           sym p.is_count ∙ (ap (λ (ps : List Seen). length ps) seen ∙ q.is_count),
-          p.put ∙ (ap (λ (ps : List Seen). laid 0 (words_by labels ps) entry) seen ∙ sym q.put),
+          p.put ∙ (ap (λ (ps : List Seen). laid 0 (words_by known.numbers ps) entry) seen ∙ sym q.put),
         )
 
     -- How it went on: over rows, or by a turn, and then over none.
-    abbrev Over : List ℕ → Moved → Type 0
-    Over exit r = (next : ℕ) × (count : ℕ) × (r ≡ moved.Rows next count) × (0 < count) × Says exit next count
+    abbrev Over : List ℕ → Result Moved Refused → Type 0
+    Over exit r = (next : ℕ) × (count : ℕ) × (r ≡ Ok (moved.Rows next count)) × (0 < count) × Says exit next count
 
-    abbrev Turned : List ℕ → Moved → Type 0
-    Turned exit r = ByTurn s (spot_at at rows book) numbers known most entry exit r
+    abbrev Turned : List ℕ → Result Moved Refused → Type 0
+    Turned exit r = ByTurn s (spot_at at rows book) known most entry exit r
 
-    abbrev On : List ℕ → Moved → Type 0
-    On exit r = GoesOn s (spot_at at rows book) numbers known labels most entry exit r
+    abbrev On : List ℕ → Result Moved Refused → Type 0
+    On exit r = GoesOn s (spot_at at rows book) known most entry exit r
 
-    either : {exit : List ℕ} (r : Moved) → On exit r → Over exit r ⊎ Turned exit r
-    either (moved.Rows next count) (some, e) = inl (next, count, refl, some, e)
-    either (moved.Item g) e = inr e
-    either (moved.End n t next) e = inr e
-    either (moved.Refused n p) e = inr e
+    either : {exit : List ℕ} (r : Result Moved Refused) → On exit r → Over exit r ⊎ Turned exit r
+    either (Ok (moved.Rows next count)) (some, e) = inl (next, count, refl, some, e)
+    either (Ok (moved.Item g)) e = inr e
+    either (Ok (moved.End n t next)) e = inr e
+    either (Err p) e = inr e
 
-    not_both : {u v : List ℕ} {r t : Moved} → at ≤ length s → Over u r → Turned v t → ⊥
+    not_both : {u v : List ℕ} {r t : Result Moved Refused} → at ≤ length s → Over u r → Turned v t → ⊥
     not_both inside (next, count, _, some, e) t =
-        let none : Says entry at 0 = record { passage = passage_none s at rows book numbers labels entry; inside = inside; few = omega arith; stops = t.stops } in
+        let none : Says entry at 0 = record { passage = passage_none s at rows book known entry; inside = inside; few = omega arith; stops = t.stops } in
         let same = (strides_once e none).1 in
         omega arith
 
-    pub goes_on_once : at ≤ length s → (r t : Moved) {u v : List ℕ} → On u r → On v t → (r ≡ t) × (u ≡ v)
+    pub goes_on_once : at ≤ length s → (r t : Result Moved Refused) {u v : List ℕ} → On u r → On v t → (r ≡ t) × (u ≡ v)
     goes_on_once inside r t {u} {v} e f = go (either r e) (either t f)
       where
         go : Over u r ⊎ Turned u r → Over v t ⊎ Turned v t → (r ≡ t) × (u ≡ v)
         go (inl (next, count, is, _, d)) (inl (end, more, is₁, _, g)) =
             let (place, number, words) = strides_once d g in
-            (is ∙ ((λ i. moved.Rows (place i) (number i)) ∙ sym is₁), words)
+            (is ∙ ((λ i. Ok (moved.Rows (place i) (number i))) ∙ sym is₁), words)
         go (inl d) (inr g) = absurd (not_both inside d g)
         go (inr d) (inl g) = absurd (not_both inside g d)
         go (inr d) (inr g) = (d.is ∙ sym g.is, d.kept ∙ sym g.kept)

@@ -1,10 +1,12 @@
 -- The one invariant of a loop of turns: a way from where it began, and all that is kept of the book behind it. It goes on over rows, by an item, and with an item whose layout is new and is kept.
 use Prim.Native.Nat.{ℕ, ◌+◌, ◌≤◌, ◌<◌}
-use mathlib.Core.Path.{◌≡◌, refl, sym, subst}
+use mathlib.Core.Path.{◌≡◌, refl, sym, ap, subst}
 use mathlib.Core.List.{List, [], ◌∷◌, ◌++◌}
 use native.Mathlib.Omega.{arith}
 use lib.IntN.{ℤ}
 use lib.ListN.{length}
+use Rattle.std.specs.Prelude.{Ok, Err}
+use Rattle.octets.specs.declared.Refused.{Refused}
 use Rattle.octets.specs.Limits.{longest}
 use Rattle.octets.specs.Reading.{ok}
 use Rattle.octets.specs.Writing.{Each, Octet}
@@ -17,19 +19,19 @@ use Rattle.elements.proofs.Through.{rows_few, path_rows, path_moves}
 use Rattle.walks.specs.Kept.{Kept, Keeps}
 use Rattle.walks.specs.Rows.{Strides}
 use Rattle.walks.specs.Answers.{gone_of, moved_of, Bears}
-use Rattle.walks.specs.declared.Tally.{Tally}
+use Rattle.walks.specs.declared.Known.{Known}
 use Rattle.walks.specs.declared.Gone.{Gone}
 use Rattle.walks.specs.declared.Moved.TheVariants as moved
 use Rattle.walks.proofs.Keeping.{kept_more}
 use Rattle.walks.proofs.Moves.{Newly, item_spot, item_moves, item_old, item_newly}
 
 -- The turn that an answer tells of.
-pub moved_item : (t : Turn Spot) (g : Gone) → moved_of t ≡ moved.Item g → (p : Seen) × (y : Spot) × (t ≡ goes p y) × (gone_of p y ≡ g)
+pub moved_item : (t : Turn Spot) (g : Gone) → moved_of t ≡ Ok (moved.Item g) → (p : Seen) × (y : Spot) × (t ≡ goes p y) × (gone_of p y ≡ g)
 moved_item (goes p y) g e = (p, y, refl, (let same : gone_of p y ≡ g = cc in same))
 moved_item (stops (ended n t next)) g e = absurd (let z : ◌≡◌ {A = ℕ} 0 1 = cc in omega arith)
 moved_item (stops (refused n p)) g e = absurd (let z : ◌≡◌ {A = ℕ} 0 1 = cc in omega arith)
 
-pub moved_end : (t : Turn Spot) (n next : ℕ) (time : ℤ) → moved_of t ≡ moved.End n time next → (u : ℕ) × (t ≡ stops (ended n u next)) × (signed 8 u ≡ time)
+pub moved_end : (t : Turn Spot) (n next : ℕ) (time : ℤ) → moved_of t ≡ Ok (moved.End n time next) → (u : ℕ) × (t ≡ stops (ended n u next)) × (signed 8 u ≡ time)
 moved_end (goes p y) n next time e = absurd (let z : ◌≡◌ {A = ℕ} 0 1 = cc in omega arith)
 moved_end (stops (ended m u end)) n next time e =
     let a : m ≡ n = cc in
@@ -37,30 +39,29 @@ moved_end (stops (ended m u end)) n next time e =
     (u, rw (a, b) refl, (let same : signed 8 u ≡ time = cc in same))
 moved_end (stops (refused m p)) n next time e = absurd (let z : ◌≡◌ {A = ℕ} 0 1 = cc in omega arith)
 
-pub moved_refused : (t : Turn Spot) (n p : ℕ) → moved_of t ≡ moved.Refused n p → t ≡ stops (refused n p)
-moved_refused (goes q y) n p e = absurd (let z : ◌≡◌ {A = ℕ} 0 1 = cc in omega arith)
-moved_refused (stops (ended m u end)) n p e = absurd (let z : ◌≡◌ {A = ℕ} 0 1 = cc in omega arith)
-moved_refused (stops (refused m q)) n p e = let a : m ≡ n = cc in let b : q ≡ p = cc in rw (a, b) refl
+pub moved_refused : (t : Turn Spot) (r : Refused) → moved_of t ≡ Err r → t ≡ stops (refused r.number r.place)
+moved_refused (goes q y) r e = absurd (let z : ◌≡◌ {A = ℕ} 0 1 = cc in omega arith)
+moved_refused (stops (ended m u end)) r e = absurd (let z : ◌≡◌ {A = ℕ} 0 1 = cc in omega arith)
+moved_refused (stops (refused m q)) r e = let same : ◌≡◌ {A = Refused} (record { number = m; place = q }) r = cc in ap (λ (x : Refused). stops (refused x.number x.place)) same
 
 -- A way that began at a spot and is now at a place, with the book behind it kept by a shelf.
-pub record OnWay (s : List ℕ) (x : Spot) (passed : List Seen) (shelf numbers places steps : List ℕ) (t : Tally) (at rows used : ℕ) : Type 0 where
+pub record OnWay (s : List ℕ) (x : Spot) (passed : List Seen) (shelf : List ℕ) (k : Known) (at rows used : ℕ) : Type 0 where
   pub book : Book
-  pub kept : Kept shelf numbers places steps t book
+  pub kept : Kept shelf k book
   pub size : length (book_image book) ≡ used
   pub path : Path (turn_at s) x passed (spot_at at rows book)
   pub inside : at ≤ length s
 
-pub way_start : (s shelf numbers places steps : List ℕ) (t : Tally) (at rows : ℕ) (book : Book) → at ≤ length s → Kept shelf numbers places steps t book
-    → OnWay s (spot_at at rows book) [] shelf numbers places steps t at rows (length (book_image book))
-way_start s shelf numbers places steps t at rows book h k = record { book = book; kept = k; size = refl; path = refl; inside = h }
+pub way_start : (s shelf : List ℕ) (k : Known) (at rows : ℕ) (book : Book) → at ≤ length s → Kept shelf k book → OnWay s (spot_at at rows book) [] shelf k at rows (length (book_image book))
+way_start s shelf k at rows book h kept = record { book = book; kept = kept; size = refl; path = refl; inside = h }
 
-module _ (s : List ℕ) (o : Each Octet s) (short : length s ≤ longest) (x : Spot) (passed : List Seen) (shelf numbers places steps : List ℕ) (t : Tally) (at rows used : ℕ)
-    (w : OnWay s x passed shelf numbers places steps t at rows used) where
+module _ (s : List ℕ) (o : Each Octet s) (short : length s ≤ longest) (x : Spot) (passed : List Seen) (shelf : List ℕ) (k : Known) (at rows used : ℕ)
+    (w : OnWay s x passed shelf k at rows used) where
   abbrev here : Spot
   here = spot_at at rows w.book
 
   -- What a turn from here bears.
-  pub way_bears : Bears shelf used numbers places steps t.known w.book
+  pub way_bears : Bears shelf used k w.book
   way_bears = record { planned = w.kept.planned; shelved = w.kept.shelved; size = w.size }
 
   -- The rows passed are not more than the octets.
@@ -68,24 +69,23 @@ module _ (s : List ℕ) (o : Each Octet s) (short : length s ≤ longest) (x : S
   way_few = omega (arith, path_rows s passed x here w.path, path_moves s o short passed x here w.path, rows_few passed)
 
   -- Over rows.
-  pub way_rows : {labels entry exit : List ℕ} {most next count : ℕ} → Strides s here numbers t.known labels most entry exit next count
-      → (more : List Seen) × OnWay s x (passed ++ more) shelf numbers places steps t next (rows + count) used × (at + count ≤ next)
-  way_rows {labels} {entry} {exit} {most} {next} {count} h =
+  pub way_rows : {entry exit : List ℕ} {most next count : ℕ} → Strides s here k most entry exit next count
+      → (more : List Seen) × OnWay s x (passed ++ more) shelf k next (rows + count) used × (at + count ≤ next)
+  way_rows {entry} {exit} {most} {next} {count} h =
       let p = h.passage in (
         p.seen,
-        subst (λ (n : ℕ). OnWay s x (passed ++ p.seen) shelf numbers places steps t next (rows + n) used) p.is_count
+        subst (λ (n : ℕ). OnWay s x (passed ++ p.seen) shelf k next (rows + n) used) p.is_count
             (record { book = w.book; kept = w.kept; size = w.size; path = path_join (turn_at s) passed p.seen x here _ w.path p.path; inside = h.inside }),
         subst (λ (n : ℕ). at + n ≤ next) p.is_count (path_moves s o short p.seen here _ p.path),
       )
 
   -- One item on.
   module _ (p : Seen) (y : Spot) (e : turn_at s here ≡ goes p y) where
-    on : (shelf₁ numbers₁ places₁ steps₁ : List ℕ) (t₁ : Tally) → Kept shelf₁ numbers₁ places₁ steps₁ t₁ y.book
-        → OnWay s x (passed ++ p ∷ []) shelf₁ numbers₁ places₁ steps₁ t₁ p.next y.rows (length (book_image y.book))
-    on shelf₁ numbers₁ places₁ steps₁ t₁ k =
+    on : (shelf₁ : List ℕ) (k₁ : Known) → Kept shelf₁ k₁ y.book → OnWay s x (passed ++ p ∷ []) shelf₁ k₁ p.next y.rows (length (book_image y.book))
+    on shelf₁ k₁ kept =
         record {
           book = y.book;
-          kept = k;
+          kept = kept;
           size = refl;
           path =
               subst (λ (z : Spot). Path (turn_at s) x (passed ++ p ∷ []) z) (item_spot s o short at rows w.book p y e)
@@ -94,21 +94,19 @@ module _ (s : List ℕ) (o : Each Octet s) (short : length s ≤ longest) (x : S
         }
 
     -- Its layout is not new: what is kept stays.
-    pub way_old : length (book_image y.book) ≤ used → OnWay s x (passed ++ p ∷ []) shelf numbers places steps t p.next y.rows (length (book_image y.book))
+    pub way_old : length (book_image y.book) ≤ used → OnWay s x (passed ++ p ∷ []) shelf k p.next y.rows (length (book_image y.book))
     way_old old =
         let same = item_old s o short at rows w.book p y e (omega (arith, w.size)) in
-        on shelf numbers places steps t (subst (Kept shelf numbers places steps t) (sym same) w.kept)
+        on shelf k (subst (Kept shelf k) (sym same) w.kept)
 
     -- It is new.
     pub way_newly : used < length (book_image y.book) → Newly s at p.next w.book y.book
     way_newly more = item_newly s o short at rows w.book p y e (omega (arith, w.size)) w.kept.planned.numbered.good
 
     -- It is kept by a place of the shelf.
-    pub way_new : (n : Newly s at p.next w.book y.book) (place next : ℕ) → layout_at shelf place ≡ ok n.layout next
-        → {numbers₁ places₁ steps₁ : List ℕ} {t₁ : Tally} → Keeps n.layout place numbers places steps t numbers₁ places₁ steps₁ t₁
-        → OnWay s x (passed ++ p ∷ []) shelf numbers₁ places₁ steps₁ t₁ p.next y.rows (length (book_image y.book))
-    way_new n place next reads {numbers₁} {places₁} {steps₁} {t₁} h =
-        on shelf numbers₁ places₁ steps₁ t₁
-        (subst (Kept shelf numbers₁ places₁ steps₁ t₁) (sym n.is)
-        (kept_more shelf numbers places steps t w.book w.kept (omega (arith, n.few, w.kept.planned.numbered.count)) n.layout (subst GoodBook n.is n.good) place next reads
-        numbers₁ places₁ steps₁ t₁ h))
+    pub way_new : (n : Newly s at p.next w.book y.book) (place next : ℕ) → layout_at shelf place ≡ ok n.layout next → {k₁ : Known} → Keeps n.layout place k k₁
+        → OnWay s x (passed ++ p ∷ []) shelf k₁ p.next y.rows (length (book_image y.book))
+    way_new n place next reads {k₁} h =
+        on shelf k₁
+        (subst (Kept shelf k₁) (sym n.is)
+        (kept_more shelf k w.book w.kept (omega (arith, n.few, w.kept.planned.numbered.count)) n.layout (subst GoodBook n.is n.good) place next reads k₁ h))

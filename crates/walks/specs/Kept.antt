@@ -1,18 +1,28 @@
 -- What a walk keeps of a book's layouts, in their order: their numbers, the places at which they stand in the octets of a shelf, and their plans.
-use Rattle.std.specs.Prelude.{ℕ, ◌+◌, ◌*◌, ◌<◌, ◌≡◌, List, [], ◌∷◌, ◌++◌, Bool, true, length, get_or, set, take, leb}
+use Rattle.std.specs.Prelude.{ℕ, ◌+◌, ◌*◌, ◌<◌, ◌≡◌, List, [], ◌∷◌, ◌++◌, Bool, true, length, get_or, set, take, replicate, leb}
+use Rattle.std.specs.Prelude as std
 use Rattle.std.proofs.Math.Option.{Option, some, none}
 use Rattle.octets.specs.Reading.{Read, ok, no, choose}
 use Rattle.layouts.specs.Layout.{Layout, layout_at}
 use Rattle.layouts.specs.Book.{Book, book_image, GoodBook}
 use Rattle.plans.specs.Plan.{plan_for, Begins, most_steps}
 use Rattle.octets.specs.Limits.{most_layouts}
-use Rattle.walks.specs.declared.Tally.{Tally}
-use Rattle.walks.specs.declared.PlanAt.{PlanAt}
-use Rattle.walks.specs.declared.PlanAt.TheVariants as plan_at
+use Rattle.walks.specs.declared.Known.{Known}
+
+-- How many layouts were counted, and the index behind the last plan.
+pub record Tally : Type 0 where
+  pub known : ℕ
+  pub filled : ℕ
+
+abbrev pub tally_of : Known → Tally
+tally_of k = record { known = k.count; filled = k.filled }
 
 -- Before any layout: the first 64 steps say where plans stand, and plans are put behind them.
 abbrev pub nothing : Tally
 nothing = record { known = 0; filled = most_layouts }
+
+abbrev pub empty : Known
+empty = record { numbers = replicate most_layouts 0; places = replicate most_layouts 0; steps = replicate most_steps 0; count = 0; filled = most_layouts }
 
 -- Whether a layout's plan leaves eight steps to each layout that may follow, of 64 in all: the first ends before step 712, each other eight further on. Then it has one.
 abbrev pub holds : Tally → Layout → Bool
@@ -54,49 +64,49 @@ all [] = []
 all (l ∷ rest) = some l ∷ all rest
 
 -- The numbers known are those of a good book's layouts.
-pub record Numbered (numbers : List ℕ) (known : ℕ) (book : Book) : Type 0 where
+pub record Numbered (k : Known) (book : Book) : Type 0 where
   pub good : GoodBook book
-  pub count : length book ≡ known
-  pub long : length numbers ≡ most_layouts
-  pub marked : take known numbers ≡ marks nothing book
+  pub count : length book ≡ k.count
+  pub long : length k.numbers ≡ most_layouts
+  pub marked : take k.count k.numbers ≡ marks nothing book
 
 -- Index i of the places known is where the i-th layout of the book stands.
-pub record Shelved (shelf places : List ℕ) (known : ℕ) (book : Book) : Type 0 where
-  pub long : length places ≡ most_layouts
-  pub stands : standing shelf (take known places) ≡ all book
+pub record Shelved (shelf : List ℕ) (k : Known) (book : Book) : Type 0 where
+  pub long : length k.places ≡ most_layouts
+  pub stands : standing shelf (take k.count k.places) ≡ all book
 
 -- The plans that there is room for stand in the steps.
-pub record Planned (numbers steps : List ℕ) (known : ℕ) (book : Book) : Type 0 where
-  pub numbered : Numbered numbers known book
-  pub long : length steps ≡ most_steps
-  pub plans : PlansFrom steps nothing book
+pub record Planned (k : Known) (book : Book) : Type 0 where
+  pub numbered : Numbered k book
+  pub long : length k.steps ≡ most_steps
+  pub plans : PlansFrom k.steps nothing book
 
-pub record Plans (numbers steps : List ℕ) (known : ℕ) : Type 0 where
+pub record Plans (k : Known) : Type 0 where
   pub book : Book
-  pub planned : Planned numbers steps known book
+  pub planned : Planned k book
 
 -- All that is kept of a book.
-pub record Kept (shelf numbers places steps : List ℕ) (t : Tally) (book : Book) : Type 0 where
-  pub planned : Planned numbers steps t.known book
-  pub shelved : Shelved shelf places t.known book
-  pub tally : t ≡ tallied nothing book
+pub record Kept (shelf : List ℕ) (k : Known) (book : Book) : Type 0 where
+  pub planned : Planned k book
+  pub shelved : Shelved shelf k book
+  pub tally : tally_of k ≡ tallied nothing book
 
 -- None of the numbers known is this one.
-abbrev pub Lacks : List ℕ → ℕ → ℕ → Type 0
-Lacks numbers known n = (i : ℕ) → i < known → get_or numbers i 0 ≡ n → ⊥
+abbrev pub Lacks : Known → ℕ → Type 0
+Lacks k n = (i : ℕ) → i < k.count → get_or k.numbers i 0 ≡ n → ⊥
 
 -- The index of a number among those known, by a layout of that number which has a plan; or that there is none in any book of theirs.
-abbrev pub Indexes : List ℕ → ℕ → ℕ → PlanAt → Type 0
-Indexes numbers known n (plan_at.Index i) = (i < known) × (get_or numbers i 0 ≡ n)
-Indexes numbers known n plan_at.None = (book : Book) → Numbered numbers known book → Lacks numbers known n
+abbrev pub Indexes : Known → ℕ → std.Option ℕ → Type 0
+Indexes k n (std.Some i) = (i < k.count) × (get_or k.numbers i 0 ≡ n)
+Indexes k n std.None = (book : Book) → Numbered k book → Lacks k n
 
 -- A layout at a place is kept behind those known: its number and its place are put behind theirs, it is counted, and its plan, if it has one, is put behind theirs, which stay.
-pub record Keeps (l : Layout) (place : ℕ) (numbers places steps : List ℕ) (t : Tally) (numbers₁ places₁ steps₁ : List ℕ) (r : Tally) : Type 0 where
-  pub number : numbers₁ ≡ set numbers t.known (mark_of t l)
-  pub place_is : places₁ ≡ set places t.known place
-  pub tally : r ≡ grown t l
-  pub long : length steps₁ ≡ most_steps
-  pub plans : (book : Book) → t ≡ tallied nothing book → PlansFrom steps nothing book → PlansFrom steps₁ nothing (book ++ l ∷ [])
+pub record Keeps (l : Layout) (place : ℕ) (k k₁ : Known) : Type 0 where
+  pub number : k₁.numbers ≡ set k.numbers k.count (mark_of (tally_of k) l)
+  pub place_is : k₁.places ≡ set k.places k.count place
+  pub tally : tally_of k₁ ≡ grown (tally_of k) l
+  pub long : length k₁.steps ≡ most_steps
+  pub plans : (book : Book) → tally_of k ≡ tallied nothing book → PlansFrom k.steps nothing book → PlansFrom k₁.steps nothing (book ++ l ∷ [])
 
 -- Octets that are the image of a good book.
 pub record Image (s : List ℕ) (book : Book) : Type 0 where

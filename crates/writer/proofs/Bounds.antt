@@ -6,7 +6,7 @@ use Prim.Native.Nat.{ℕ, ◌+◌, ◌≤◌, ◌<◌}
 use native.Mathlib.Omega.{arith}
 use lib.ListN.{get_or}
 use lib.Dec.{leb}
-use borrow.Author.Tests.{leb-true, eqb-true, ltb-true, ltb-false, le-leb, lt-leb, lt-ltb, le-ltb}
+use borrow.Author.Tests.{leb-true, eqb-true, ltb-true, ltb-false, le-leb, lt-ltb, le-ltb}
 use Rattle.octets.specs.Limits.{most_rows}
 use Rattle.octets.specs.Reading.{choose}
 use Rattle.octets.proofs.Copies.{both_true}
@@ -70,52 +70,24 @@ bounds s size e =
       head = λ o. leb-true _ _ (chosen_true (is_open s.turn) _ t₁ o);
     }
 
--- The tests in their order, each with those before it passed.
-module _ (s : State) (size : ℕ) where
-  pub place_over : room size < s.place → bounded s size ≡ false
+-- Where the tests before it are passed, what is open is left.
+module _ (s : State) (size : ℕ) (p : s.place ≤ room size) (l : (asks s.turn).least ≤ s.count) (m : s.count ≤ (asks s.turn).most) (r : s.rows ≤ most_rows) where
+  head_left : bounded s size ≡ choose (is_open s.turn) (λ _. leb (s.start + (asks s.turn).head) s.place) (λ _. true)
   unfolding bounded
-  place_over h = rw (lt-leb s.place (room size) h) refl
+  head_left =
+      rw (
+        le-leb s.place (room size) p,
+        le-leb (asks s.turn).least s.count l,
+        le-leb s.count (asks s.turn).most m,
+        le-leb s.rows most_rows r,
+      )
+      refl
 
-  module _ (p : s.place ≤ room size) where
-    pub count_under : s.count < (asks s.turn).least → bounded s size ≡ false
-    unfolding bounded
-    count_under h = rw (le-leb s.place (room size) p, lt-leb (asks s.turn).least s.count h) refl
+  pub none_open : (asks s.turn).head ≡ 0 → bounded s size ≡ true
+  none_open h = head_left ∙ rw (le-ltb 0 (asks s.turn).head (omega arith)) refl
 
-    module _ (l : (asks s.turn).least ≤ s.count) where
-      pub count_over : (asks s.turn).most < s.count → bounded s size ≡ false
-      unfolding bounded
-      count_over h = rw (le-leb s.place (room size) p, le-leb (asks s.turn).least s.count l, lt-leb s.count (asks s.turn).most h) refl
-
-      module _ (m : s.count ≤ (asks s.turn).most) where
-        pub rows_over : most_rows < s.rows → bounded s size ≡ false
-        unfolding bounded
-        rows_over h =
-            rw (
-              le-leb s.place (room size) p,
-              le-leb (asks s.turn).least s.count l,
-              le-leb s.count (asks s.turn).most m,
-              lt-leb s.rows most_rows h,
-            )
-            refl
-
-        module _ (r : s.rows ≤ most_rows) where
-          -- What is open is left.
-          head_left : bounded s size ≡ choose (is_open s.turn) (λ _. leb (s.start + (asks s.turn).head) s.place) (λ _. true)
-          unfolding bounded
-          head_left =
-              rw (
-                le-leb s.place (room size) p,
-                le-leb (asks s.turn).least s.count l,
-                le-leb s.count (asks s.turn).most m,
-                le-leb s.rows most_rows r,
-              )
-              refl
-
-          pub none_open : (asks s.turn).head ≡ 0 → bounded s size ≡ true
-          none_open h = head_left ∙ rw (le-ltb 0 (asks s.turn).head (omega arith)) refl
-
-          pub one_open : 0 < (asks s.turn).head → bounded s size ≡ leb (s.start + (asks s.turn).head) s.place
-          one_open h = head_left ∙ rw (lt-ltb 0 (asks s.turn).head h) refl
+  pub one_open : 0 < (asks s.turn).head → bounded s size ≡ leb (s.start + (asks s.turn).head) s.place
+  one_open h = head_left ∙ rw (lt-ltb 0 (asks s.turn).head h) refl
 
 pub bounded_is : (s : State) (size : ℕ) → Bounds s size → bounded s size ≡ true
 bounded_is s size b = go (is_open s.turn) refl

@@ -11,9 +11,8 @@ use Rattle.octets.specs.Reading.{Read, ok, no, is_ok, value_or}
 use Rattle.octets.proofs.Copies.{both_true}
 use Rattle.octets.proofs.Inverse.{no_ok, settle}
 use Rattle.layouts.specs.Book.{Book, book_of, book_in}
-use Rattle.writing_parts.specs.declared.Fault.{Fault}
-use Rattle.writing_parts.specs.declared.Fault.TheVariants as faults
-use Rattle.writing_parts.specs.Faults.{fine, unless}
+use Rattle.writing_parts.specs.Faults as faults
+use Rattle.writing_parts.specs.Faults.{Fault, fine, unless}
 use Rattle.writing_parts.specs.Answers.{refusal}
 use Rattle.writing_parts.proofs.Faults.{both_fine, holds}
 use Rattle.writer.specs.declared.State.{State}

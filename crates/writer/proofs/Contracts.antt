@@ -2,6 +2,7 @@
 use mathlib.Core.Path.{refl, sym, ◌∙◌}
 use mathlib.Core.List.{[]}
 use Rattle.octets.specs.OfContracts.{Once}
+use Rattle.writing_parts.proofs.Faults.{faulted_once}
 use Rattle.writer.proofs.at_most as at_most
 use Rattle.writer.proofs.sixteen as sixteen
 use Rattle.writer.proofs.type_fault as type_fault
@@ -30,15 +31,15 @@ pub record Contracts : Type 0 where
 pub contracts : Contracts
 contracts =
     record {
-      of_at_most = λ κs a p x y u v e f. (e ∙ sym f, refl);
-      of_sixteen = λ κs a p x y u v e f. (e ∙ sym f, refl);
-      of_type_fault = λ κs a p x y u v e f. (e 0 0 ∙ sym (f 0 0), refl);
-      of_layout_fault = λ κs a p x y u v e f. (e ∙ sym f, refl);
-      of_value_fault = λ κs a p x y u v e f. (e ∙ sym f, refl);
-      of_close_fault = λ κs a p x y u v e f. (e ∙ sym f, refl);
+      of_at_most = λ κs a p x y u v e f. (faulted_once x y (e ∙ sym f), refl);
+      of_sixteen = λ κs a p x y u v e f. (faulted_once x y (e ∙ sym f), refl);
+      of_type_fault = λ κs a p x y u v e f. (faulted_once x y (e 0 0 ∙ sym (f 0 0)), refl);
+      of_layout_fault = λ κs a p x y u v e f. (faulted_once x y (e ∙ sym f), refl);
+      of_value_fault = λ κs a p x y u v e f. (faulted_once x y (e ∙ sym f), refl);
+      of_close_fault = λ κs a p x y u v e f. (faulted_once x y (e ∙ sym f), refl);
       of_suits_number = λ κs a p x y u v e f. (e ∙ sym f, refl);
       of_suits_octets = λ κs a p x y u v e f. (e [] ∙ sym (f []), refl);
-      of_breach = λ κs a p x y u v e f. (e ∙ sym f, refl);
-      of_value_breach = λ κs a p x y u v e f. (e ∙ sym f, refl);
+      of_breach = λ κs a p x y u v e f. (faulted_once x y (e ∙ sym f), refl);
+      of_value_breach = λ κs a p x y u v e f. (faulted_once x y (e ∙ sym f), refl);
       of_width_of = λ κs a p x y u v e f. (e.0 ∙ sym f.0, refl);
     }

@@ -10,6 +10,7 @@ use native.Mathlib.Nat.{le_refl}
 use lib.ListN.{length, drop, length-append, length-drop, length-replicate}
 use lib.Dec.{leb, ltb, eqb}
 use borrow.Author.Tests.{leb-true, leb-false, eqb-true, eqb-false, ltb-true}
+use Rattle.std.specs.Prelude.{Ok}
 use Rattle.octets.specs.Limits.{most_rows, book_room, most_attributes, most_listed}
 use Rattle.octets.specs.Reading.{ok, choose, is_ok, be}
 use Rattle.octets.specs.Writing.{word, Each, Octet}
@@ -25,8 +26,7 @@ use Rattle.layouts.proofs.Finding.{each_find}
 use Rattle.layouts.proofs.Checks.{book_short, book_over}
 use Rattle.rows.specs.Row.{length_image}
 use Rattle.kinds.specs.Forms.{Value}
-use Rattle.writing_parts.specs.declared.Fault.{Fault}
-use Rattle.writing_parts.specs.Faults.{fine, unless, refused_by}
+use Rattle.writing_parts.specs.Faults.{Fault, fine, unless, refused_by}
 use Rattle.writing_parts.specs.Answers.{learning_of, added}
 use Rattle.writing_parts.proofs.Faults.{both_fine, fine_not, holds}
 use Rattle.writing_parts.proofs.Over.{over_length, over_behind}
@@ -108,7 +108,7 @@ new_fits s buffer book used d h = go d.completes
     xs : List ℕ
     xs = layout_so_far s buffer d.octets
 
-    go : (t : Bool) → used + length (added (choose t (λ _. learning_of book used xs) (λ _. Known)) xs) ≤ book_room
+    go : (t : Bool) → used + length (added (choose t (λ _. learning_of book used xs) (λ _. Ok Known)) xs) ≤ book_room
     go false = omega arith
     go true = added_fits book used xs h
 

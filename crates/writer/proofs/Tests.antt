@@ -12,17 +12,15 @@ use Rattle.octets.proofs.Spans.{length_word}
 use Rattle.octets.proofs.Copies.{both_true}
 use Rattle.layouts.specs.Book.{book_of, book_in}
 use Rattle.rows.specs.Row.{length_image}
-use Rattle.writing_parts.specs.declared.Fault.{Fault}
-use Rattle.writing_parts.specs.declared.Fault.TheVariants as faults
-use Rattle.writing_parts.specs.Faults.{fine, unless, ◌or◌}
+use Rattle.writing_parts.specs.Faults as faults
+use Rattle.writing_parts.specs.Faults.{Fault, fine, unless, ◌or◌}
 use Rattle.writing_parts.specs.Answers.{refusal}
 use Rattle.writing_parts.proofs.Faults.{both_fine, holds}
 use Rattle.writing_parts.proofs.Over.{over_nil}
 use Rattle.writer.specs.declared.Wanted.{Wanted}
 use Rattle.writer.specs.declared.State.{State}
-use Rattle.writer.specs.declared.Answer.TheVariants.{Done, Refused}
 use Rattle.writer.specs.Writer.{room, bounded, Deed, put, learns, taken, fault_of, deed_answer}
-use Rattle.writer.specs.Answers.{Left, left, early, late, deed_leaves, rest_leaves}
+use Rattle.writer.specs.Answers.{Left, left, done, refused, early, late, deed_leaves, rest_leaves}
 
 -- 17, then 20.
 module _ (s : State) (size : ℕ) (lent : List ℕ) (used : ℕ) (mine : Bool) where
@@ -49,7 +47,7 @@ module _ (s : State) (size : ℕ) (lent : List ℕ) (used : ℕ) (mine : Bool) w
 
 -- A deed's answer is its first refusal, or goes on behind 17 and 20.
 module _ (s : State) (buffer lent : List ℕ) (used : ℕ) (d : Deed) where
-  leaves_early : (n : ℕ) → early s (length buffer) lent used d.in_turn ≡ faults.Refused n → deed_leaves s buffer lent used d ≡ left (Refused n s.place) buffer lent
+  leaves_early : (n : ℕ) → early s (length buffer) lent used d.in_turn ≡ faults.Refused n → deed_leaves s buffer lent used d ≡ left (refused n s.place) buffer lent
   unfolding deed_leaves deed_answer fault_of early
   leaves_early n e = rw e refl
 
@@ -57,23 +55,20 @@ module _ (s : State) (buffer lent : List ℕ) (used : ℕ) (d : Deed) where
   unfolding deed_leaves rest_leaves deed_answer fault_of early late
   leaves_ready e = rw e refl
 
-  pub leaves_fault : (n : ℕ) → d.fault ≡ faults.Refused n → rest_leaves s buffer lent used d ≡ left (Refused n s.place) buffer lent
+  pub leaves_fault : (n : ℕ) → d.fault ≡ faults.Refused n → rest_leaves s buffer lent used d ≡ left (refused n s.place) buffer lent
   unfolding rest_leaves late
   leaves_fault n e = rw e refl
 
   module _ (f : d.fault ≡ fine) where
-    pub leaves_layout : (n : ℕ) → refusal (learns s buffer (book_in lent used) used d) ≡ faults.Refused n → rest_leaves s buffer lent used d ≡ left (Refused n s.place) buffer lent
+    pub leaves_late : (n : ℕ) → refusal (learns s buffer (book_in lent used) used d) or unless (leb (d.at + length d.octets) (room (length buffer))) 23 ≡ faults.Refused n
+        → rest_leaves s buffer lent used d ≡ left (refused n s.place) buffer lent
     unfolding rest_leaves late
-    leaves_layout n a = rw (f, a) refl
+    leaves_late n a = rw (f, a) refl
 
     module _ (a : refusal (learns s buffer (book_in lent used) used d) ≡ fine) where
-      pub leaves_23 : leb (d.at + length d.octets) (room (length buffer)) ≡ false → rest_leaves s buffer lent used d ≡ left (Refused 23 s.place) buffer lent
-      unfolding rest_leaves late
-      leaves_23 e = rw (f, a, e) refl
-
       pub leaves_done : leb (d.at + length d.octets) (room (length buffer)) ≡ true
           → rest_leaves s buffer lent used d
-          ≡ left (Done d.next (used + length (taken s buffer (book_in lent used) used d))) (over buffer d.at d.octets) (over lent used (taken s buffer (book_in lent used) used d))
+          ≡ left (done d.next (used + length (taken s buffer (book_in lent used) used d))) (over buffer d.at d.octets) (over lent used (taken s buffer (book_in lent used) used d))
       unfolding rest_leaves late
       leaves_done e = rw (f, a, e) refl
 
@@ -82,16 +77,16 @@ module _ (s : State) (buffer lent : List ℕ) (used : ℕ) (d : Deed) where
       nothing_new : refusal (learns s buffer (book_in lent used) used d) ≡ fine
       nothing_new = rw o refl
 
-      pub leaves_full : leb (d.at + length d.octets) (room (length buffer)) ≡ false → rest_leaves s buffer lent used d ≡ left (Refused 23 s.place) buffer lent
-      leaves_full e = leaves_23 nothing_new e
+      pub leaves_full : leb (d.at + length d.octets) (room (length buffer)) ≡ false → rest_leaves s buffer lent used d ≡ left (refused 23 s.place) buffer lent
+      leaves_full e = leaves_late 23 (rw (nothing_new, e) refl)
 
       pub leaves_put : leb (d.at + length d.octets) (room (length buffer)) ≡ true
-          → rest_leaves s buffer lent used d ≡ left (Done d.next used) (over buffer d.at d.octets) lent
+          → rest_leaves s buffer lent used d ≡ left (done d.next used) (over buffer d.at d.octets) lent
       leaves_put e = leaves_done nothing_new e ∙ rw (o, over_nil lent used, add-zero used) refl
 
   -- The same, from what the code was answered about 17 and 20.
   module _ (r : Fault) (is : r ≡ early s (length buffer) lent used d.in_turn) where
-    pub stopped : (n : ℕ) → r ≡ faults.Refused n → left (Refused n s.place) buffer lent ≡ deed_leaves s buffer lent used d
+    pub stopped : (n : ℕ) → r ≡ faults.Refused n → left (refused n s.place) buffer lent ≡ deed_leaves s buffer lent used d
     stopped n e = sym (leaves_early n (sym is ∙ e))
 
     pub passed : r ≡ fine → deed_leaves s buffer lent used d ≡ rest_leaves s buffer lent used d
@@ -101,11 +96,11 @@ module _ (s : State) (buffer lent : List ℕ) (used : ℕ) (d : Deed) where
     at_ready e = ready s (length buffer) lent used d.in_turn (sym is ∙ e)
 
 -- A deed whose own fault is another. With 17 and 20 put before its own, it leaves behind them what the deed leaves.
-abbrev pub faulted : Deed → Fault → Deed
-faulted d f = record { in_turn = d.in_turn; fault = f; at = d.at; octets = d.octets; next = d.next; completes = d.completes }
+abbrev pub with_fault : Deed → Fault → Deed
+with_fault d f = record { in_turn = d.in_turn; fault = f; at = d.at; octets = d.octets; next = d.next; completes = d.completes }
 
 module _ (s : State) (buffer lent : List ℕ) (used : ℕ) (d : Deed) {r f : Fault} (is : r ≡ early s (length buffer) lent used d.in_turn) (all : f ≡ r or d.fault) where
-  pub all_faults : rest_leaves s buffer lent used (faulted d f) ≡ deed_leaves s buffer lent used d
+  pub all_faults : rest_leaves s buffer lent used (with_fault d f) ≡ deed_leaves s buffer lent used d
   unfolding deed_leaves rest_leaves deed_answer fault_of early late
   all_faults = rw (all, is) refl
 

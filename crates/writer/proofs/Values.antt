@@ -1,9 +1,9 @@
--- Values and the closing of a row: their own faults by what the book was asked, and how wide a number is. Assumes nothing.
+-- Values and the closing of a row: their own faults by what the book was asked, and the octets of a number. Assumes nothing.
 use mathlib.Core.Path.{◌≡◌, refl, ap}
 use mathlib.Core.List.{List, [], ◌∷◌}
 use mathlib.Core.Bool.{Bool, true, false, ◌&&◌}
 use mathlib.Core.Option.{Option, some, none}
-use Prim.Native.Nat.{ℕ, ◌-◌, ◌≤◌}
+use Prim.Native.Nat.{ℕ, ◌-◌}
 use native.Mathlib.Omega.{arith}
 use lib.ListN.{length, drop, length-drop}
 use lib.Dec.{leb, eqb}
@@ -12,14 +12,12 @@ use Rattle.octets.specs.Writing.{word}
 use Rattle.texts.specs.Texts as texts
 use Rattle.texts.specs.declared.Rule.{Rule}
 use Rattle.kinds.specs.declared.Basic.{Basic}
-use Rattle.kinds.specs.declared.Basic.TheVariants as basic
 use Rattle.kinds.specs.declared.Form.{Form}
 use Rattle.kinds.specs.declared.Form.TheVariants as form
 use Rattle.kinds.specs.Kinds.{code_of, form_by}
 use Rattle.layouts.specs.Layout.{Attribute, Layout}
 use Rattle.kinds.specs.Forms.{Value, bits, value_image}
-use Rattle.writing_parts.specs.declared.Fault.TheVariants.{Refused}
-use Rattle.writing_parts.specs.Faults.{fine, unless, ◌or◌}
+use Rattle.writing_parts.specs.Faults.{Refused, fine, unless, ◌or◌}
 use Rattle.writing_parts.proofs.Faults.{holds}
 use Rattle.writing_parts.specs.Answers.{first_of, next_of}
 use Rattle.writing_parts.specs.declared.Next.{Next}
@@ -75,18 +73,3 @@ unfolding word
 number_image (form.Fixed w) n = refl
 number_image form.Truth n = refl
 number_image (form.Led rule) n = refl
-
-pub width_most : (b : Basic) → width_of (form_by b) ≤ 8
-width_most basic.Int = omega arith
-width_most basic.UnsignedInt = omega arith
-width_most basic.Long = omega arith
-width_most basic.UnsignedLong = omega arith
-width_most basic.Float = omega arith
-width_most basic.Double = omega arith
-width_most basic.HexBinary = omega arith
-width_most basic.String = omega arith
-width_most basic.Boolean = omega arith
-width_most basic.Byte = omega arith
-width_most basic.UnsignedByte = omega arith
-width_most basic.Short = omega arith
-width_most basic.UnsignedShort = omega arith

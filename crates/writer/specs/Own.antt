@@ -6,9 +6,7 @@ use Rattle.kinds.specs.declared.Form.TheVariants as form
 use Rattle.kinds.specs.Kinds.{code_of}
 use Rattle.writing_parts.specs.declared.Next.{Next}
 use Rattle.writing_parts.specs.declared.Next.TheVariants as next
-use Rattle.writing_parts.specs.declared.Fault.{Fault}
-use Rattle.writing_parts.specs.declared.Fault.TheVariants.{Refused}
-use Rattle.writing_parts.specs.Faults.{fine, unless}
+use Rattle.writing_parts.specs.Faults.{Fault, Refused, fine, unless}
 
 -- The octets of a number of a form.
 abbrev pub width_of : Form → ℕ

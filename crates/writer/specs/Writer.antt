@@ -1,9 +1,10 @@
 -- The writer: what one call answers and leaves, from every state whatever.
-use Rattle.std.specs.Prelude.{ℕ, ◌+◌, ◌-◌, ◌^◌, min, List, [], ◌∷◌, ◌++◌, Bool, true, false, ◌&&◌, length, drop, replicate, leb, ltb, eqb}
+use Rattle.std.specs.Prelude.{ℕ, ◌+◌, ◌-◌, ◌^◌, min, List, [], ◌∷◌, ◌++◌, Bool, true, false, ◌&&◌, length, drop, replicate, leb, ltb, eqb, Result, Ok}
 use Rattle.std.proofs.Math.Option.{Option, some, none}
 use Rattle.octets.specs.Limits.{longest, most_rows, most_attributes, most_listed}
 use Rattle.octets.specs.Reading.{Read, ok, no, ◌then◌, choose, is_ok, be, part}
 use Rattle.octets.specs.Writing.{word, over}
+use Rattle.octets.specs.declared.Fault as octets
 use Rattle.texts.specs.Texts as texts
 use Rattle.texts.specs.Texts.{holds, led_image}
 use Rattle.texts.specs.declared.Rule.{Rule}
@@ -20,9 +21,8 @@ use Rattle.rows.specs.Row.{length_image}
 use Rattle.kinds.specs.Forms.{Value, bits, held, value_image}
 use Rattle.layouts.specs.declared.Learning.{Learning}
 use Rattle.layouts.specs.declared.Learning.TheVariants as learned
-use Rattle.writing_parts.specs.declared.Fault.{Fault}
-use Rattle.writing_parts.specs.declared.Fault.TheVariants as faults
-use Rattle.writing_parts.specs.Faults.{fine, unless, refused_by, ◌or◌}
+use Rattle.writing_parts.specs.Faults as faults
+use Rattle.writing_parts.specs.Faults.{Fault, fine, unless, refused_by, ◌or◌}
 use Rattle.writing_parts.specs.Answers.{learning_of, refusal, added}
 use Rattle.writer.specs.declared.Wanted.{Wanted}
 use Rattle.writer.specs.declared.Wanted.TheVariants as wants
@@ -282,8 +282,8 @@ unfoldable pub layout_so_far : State → List ℕ → List ℕ → List ℕ
 layout_so_far s buffer xs = part buffer (s.start + 4) (s.place - (s.start + 4)) ++ xs
 
 -- What the book makes of the layout that a call completes; one that completes none gives it nothing to learn, as a layout that is known.
-abbrev pub learns : State → List ℕ → Book → ℕ → Deed → Learning
-learns s buffer book used d = choose d.completes (λ _. learning_of book used (layout_so_far s buffer d.octets)) (λ _. learned.Known)
+abbrev pub learns : State → List ℕ → Book → ℕ → Deed → Result Learning octets.Fault
+learns s buffer book used d = choose d.completes (λ _. learning_of book used (layout_so_far s buffer d.octets)) (λ _. Ok learned.Known)
 
 -- The first fault of a call: 17, for the book; 20, for a state out of its bounds or a call out of turn; its own; 10 and 11, where it completes a layout; last 23, its octets do not fit in the room.
 unfoldable pub fault_of : State → List ℕ → List ℕ → ℕ → Deed → Fault

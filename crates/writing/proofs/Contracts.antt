@@ -2,12 +2,14 @@
 use Prim.Native.Nat.{ℕ}
 use mathlib.Core.Path.{◌≡◌, refl, sym, ap, ◌∙◌, subst}
 use mathlib.Core.List.{List}
+use Rattle.std.specs.Prelude.{Result}
+use Rattle.octets.specs.declared.Refused.{Refused}
 use Rattle.octets.specs.Reading.{Read, ok, no}
 use Rattle.octets.specs.OfContracts.{Settled, SettledLent}
 use Rattle.octets.proofs.Alike.{◌also◌, put_back}
 use Rattle.layouts.specs.Book.{book_in}
 use Rattle.writer.specs.declared.State.{State}
-use Rattle.writer.specs.declared.Answer.{Answer}
+use Rattle.writer.specs.declared.Standing.{Standing}
 use Rattle.writer.specs.Writer.{Call, Written, does, deed_answer}
 use Rattle.writer.specs.Answers.{Left, left, left_of, deed_leaves, call_leaves, Refuses}
 use Rattle.giving.proofs.Contracts.{one_answer}
@@ -59,7 +61,7 @@ pub record Contracts : Type 0 where
   pub of_finish : SettledLent finish.Kinds.ps finish.Kinds.r (λ κs s. s) (λ κs. Refuses) finish.Reads.Pre finish.Reads.Post
 
 -- A refused call leaves buffer and book.
-unchanged : {x : Answer} {b k : List ℕ} (s : State) (buffer lent : List ℕ) (used : ℕ) (c : Call) → left x b k ≡ call_leaves s buffer lent used c → Refuses x → (b ≡ buffer) × (k ≡ lent)
+unchanged : {x : Result Standing Refused} {b k : List ℕ} (s : State) (buffer lent : List ℕ) (used : ℕ) (c : Call) → left x b k ≡ call_leaves s buffer lent used c → Refuses x → (b ≡ buffer) × (k ≡ lent)
 unfolding call_leaves deed_leaves
 unchanged {x} {b} {k} s buffer lent used c e h = go (deed_answer s buffer lent used (does s buffer (book_in lent used) c)) e
   where

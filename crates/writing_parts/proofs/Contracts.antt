@@ -4,15 +4,12 @@ use mathlib.Core.Path.{◌≡◌, refl, sym, ap, ◌∙◌}
 use mathlib.Core.List.{List}
 use mathlib.Core.Bool.{Bool, true, false}
 use native.Mathlib.Omega.{arith}
+use Rattle.std.specs.Prelude.{Option, Some, None, Result, Ok, Err}
 use Rattle.octets.specs.OfContracts.{Once}
 use Rattle.octets.proofs.Alike.{◌also◌}
 use Rattle.writing_parts.specs.Answers.{Puts, Completes}
-use Rattle.writing_parts.specs.declared.Put.{Put}
-use Rattle.writing_parts.specs.declared.Put.TheVariants.{To, Full}
-use Rattle.writing_parts.specs.declared.Completed.{Completed}
-use Rattle.writing_parts.specs.declared.Completed.TheVariants as completed
-use Rattle.writing_parts.proofs.Faults.{fine_not, same_number}
-use Rattle.writing_parts.proofs.first_fault as first_fault
+use Rattle.octets.specs.declared.Fault as octets
+use Rattle.writing_parts.proofs.Faults.{or_fine, same_number, one_fault}
 use Rattle.writing_parts.proofs.word4 as word4
 use Rattle.writing_parts.proofs.word8 as word8
 use Rattle.writing_parts.proofs.pair as pair
@@ -27,12 +24,10 @@ use Rattle.writing_parts.proofs.row_next as row_next
 use Rattle.writing_parts.proofs.length_octets as length_octets
 use Rattle.writing_parts.proofs.lay_length as lay_length
 use Rattle.writing_parts.proofs.meet as meet
-use Rattle.writing_parts.proofs.refusal_of as refusal_of
 use Rattle.writing_parts.proofs.enter as enter
 use Rattle.writing_parts.proofs.complete as complete
 
 pub record Contracts : Type 0 where
-  pub of_first_fault : Once first_fault.Kinds.ps first_fault.Kinds.r first_fault.Reads.Pre first_fault.Reads.Post
   pub of_word4 : Once word4.Kinds.ps word4.Kinds.r word4.Reads.Pre word4.Reads.Post
   pub of_word8 : Once word8.Kinds.ps word8.Kinds.r word8.Reads.Pre word8.Reads.Post
   pub of_pair : Once pair.Kinds.ps pair.Kinds.r pair.Reads.Pre pair.Reads.Post
@@ -47,7 +42,6 @@ pub record Contracts : Type 0 where
   pub of_length_octets : Once length_octets.Kinds.ps length_octets.Kinds.r length_octets.Reads.Pre length_octets.Reads.Post
   pub of_lay_length : Once lay_length.Kinds.ps lay_length.Kinds.r lay_length.Reads.Pre lay_length.Reads.Post
   pub of_meet : Once meet.Kinds.ps meet.Kinds.r meet.Reads.Pre meet.Reads.Post
-  pub of_refusal_of : Once refusal_of.Kinds.ps refusal_of.Kinds.r refusal_of.Reads.Pre refusal_of.Reads.Post
   pub of_enter : Once enter.Kinds.ps enter.Kinds.r enter.Reads.Pre enter.Reads.Post
   pub of_complete : Once complete.Kinds.ps complete.Kinds.r complete.Reads.Pre complete.Reads.Post
 
@@ -55,37 +49,27 @@ not_both : {C : Type 0} {t : Bool} → t ≡ true → t ≡ false → C
 not_both e f = absurd (let z : ◌≡◌ {A = ℕ} 0 1 = cc in omega arith)
 
 -- Octets are put or there is no room, and the buffer is given for both.
-puts_once : (buffer b c : List ℕ) (at : ℕ) (xs : List ℕ) (x y : Put) → Puts buffer b at xs x → Puts buffer c at xs y → (x ≡ y) × (b ≡ c)
-puts_once buffer b c at xs (To p) (To q) e f = (ap To (e.1 ∙ sym f.1), e.2 ∙ sym f.2)
-puts_once buffer b c at xs (To p) Full e f = not_both e.0 f.0
-puts_once buffer b c at xs Full (To q) e f = not_both f.0 e.0
-puts_once buffer b c at xs Full Full e f = (refl, e.1 ∙ sym f.1)
+puts_once : (buffer b c : List ℕ) (at : ℕ) (xs : List ℕ) (x y : Option ℕ) → Puts buffer b at xs x → Puts buffer c at xs y → (x ≡ y) × (b ≡ c)
+puts_once buffer b c at xs (Some p) (Some q) e f = (ap Some (e.1 ∙ sym f.1), e.2 ∙ sym f.2)
+puts_once buffer b c at xs (Some p) None e f = not_both e.0 f.0
+puts_once buffer b c at xs None (Some q) e f = not_both f.0 e.0
+puts_once buffer b c at xs None None e f = (refl, e.1 ∙ sym f.1)
 
--- A layout is completed, has no room or is refused by the book, and buffer and book are given for all three.
-completes_once : (buffer b c lent k l : List ℕ) (used from at : ℕ) (xs : List ℕ) (x y : Completed) → Completes buffer b lent k used from at xs x
+-- A layout is completed or refused, and buffer and book are given for both.
+completes_once : (buffer b c lent k l : List ℕ) (used from at : ℕ) (xs : List ℕ) (x y : Result (ℕ × ℕ) octets.Fault) → Completes buffer b lent k used from at xs x
     → Completes buffer c lent l used from at xs y → (x ≡ y) × (b ≡ c) × (k ≡ l)
-completes_once buffer b c lent k l used from at xs (completed.Done p t) (completed.Done q u) e f =
-    let put = puts_once buffer b c at xs (To p) (To q) e.1 f.1 in
-    let place : p ≡ q = ap end_of put.0 in
-    (λ i. completed.Done (place i) ((e.2 ∙ sym f.2) i), put.1, e.3 ∙ sym f.3)
-  where
-    end_of : Put → ℕ
-    end_of (To r) = r
-    end_of Full = 0
-completes_once buffer b c lent k l used from at xs (completed.Done p t) completed.Full e f = not_both e.1.0 f.1.0
-completes_once buffer b c lent k l used from at xs (completed.Done p t) (completed.Refused m) e f = absurd (fine_not f.0 e.0)
-completes_once buffer b c lent k l used from at xs completed.Full (completed.Done q u) e f = not_both f.1.0 e.1.0
-completes_once buffer b c lent k l used from at xs completed.Full completed.Full e f = (refl, e.1.1 ∙ sym f.1.1, e.2 ∙ sym f.2)
-completes_once buffer b c lent k l used from at xs completed.Full (completed.Refused m) e f = absurd (fine_not f.0 e.0)
-completes_once buffer b c lent k l used from at xs (completed.Refused n) (completed.Done q u) e f = absurd (fine_not e.0 f.0)
-completes_once buffer b c lent k l used from at xs (completed.Refused n) completed.Full e f = absurd (fine_not e.0 f.0)
-completes_once buffer b c lent k l used from at xs (completed.Refused n) (completed.Refused m) e f =
-    (ap completed.Refused (same_number (sym e.0 ∙ f.0)), e.1 ∙ sym f.1, e.2 ∙ sym f.2)
+completes_once buffer b c lent k l used from at xs (Ok (p, t)) (Ok (q, u)) e f =
+    let place : p ≡ q = e.1.1 ∙ sym f.1.1 in
+    let total : t ≡ u = e.2 ∙ sym f.2 in
+    (λ i. Ok (place i, total i), e.1.2 ∙ sym f.1.2, e.3 ∙ sym f.3)
+completes_once buffer b c lent k l used from at xs (Ok (p, t)) (Err m) e f = absurd (or_fine 23 f.0 e.0 e.1.0)
+completes_once buffer b c lent k l used from at xs (Err n) (Ok (q, u)) e f = absurd (or_fine 23 e.0 f.0 f.1.0)
+completes_once buffer b c lent k l used from at xs (Err n) (Err m) e f =
+    (ap Err (one_fault n m (same_number (sym e.0 ∙ f.0))), e.1 ∙ sym f.1, e.2 ∙ sym f.2)
 
 pub contracts : Contracts
 contracts =
     record {
-      of_first_fault = λ κs a p x y u v e f. (e ∙ sym f, refl);
       of_word4 = λ κs a p x y u v e f. (e ∙ sym f, refl);
       of_word8 = λ κs a p x y u v e f. (e ∙ sym f, refl);
       of_pair = λ κs a p x y u v e f. (e ∙ sym f, refl);
@@ -100,7 +84,6 @@ contracts =
       of_length_octets = λ κs a p x y u v e f. (e ∙ sym f, refl);
       of_lay_length = λ κs a p x y u v e f. (refl, (e ∙ sym f) also refl);
       of_meet = λ κs a p x y u v e f. (e ∙ sym f, refl);
-      of_refusal_of = λ κs a p x y u v e f. (e ∙ sym f, refl);
       of_enter = λ κs a p x y u v e f. (e.0 ∙ sym f.0, (e.1 ∙ sym f.1) also refl);
       of_complete = λ κs a p x y u v e f. let q = completes_once a.0.now _ _ a.1.0.now _ _ a.1.1.0 a.1.1.1.0 a.1.1.1.1.0 a.1.1.1.1.1.0.now x y e f in (q.0, q.1 also q.2 also refl);
     }

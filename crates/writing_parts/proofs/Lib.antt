@@ -1,4 +1,5 @@
 pub mod Over
 pub mod Meets
 pub mod Faults
+pub mod Placed
 pub mod Contracts

@@ -5,12 +5,14 @@ use Prim.Native.Nat.{ℕ, ◌+◌, ◌≤◌}
 use native.Mathlib.Omega.{arith}
 use lib.ListN.{length, take}
 use lib.Seq.{length-take-le}
+use Rattle.std.specs.Prelude.{Result, Ok, Err}
+use Rattle.octets.specs.declared.Fault.{Fault}
 use Rattle.octets.specs.Limits.{longest, book_room}
 use Rattle.octets.specs.Reading.{be}
 use Rattle.octets.specs.Writing.{Each, Octet}
 use Rattle.layouts.specs.Book.{Book, IsBook}
 use Rattle.layouts.specs.declared.Learning.{Learning}
-use Rattle.layouts.specs.declared.Learning.TheVariants.{Known, New, Refused}
+use Rattle.layouts.specs.declared.Learning.TheVariants.{Known, New}
 use Rattle.layouts.proofs.Walks.{lent_book_lem}
 use Rattle.layouts.proofs.Judging.{Learned, learned}
 use Rattle.writing_parts.specs.Answers.{learning_of, added}
@@ -30,7 +32,7 @@ module _ (octets : List ℕ) (used : ℕ) (o : Each Octet octets) (is : IsBook o
 pub added_fits : (book : Book) (used : ℕ) (xs : List ℕ) → used ≤ book_room → used + length (added (learning_of book used xs) xs) ≤ book_room
 added_fits book used xs h = go (learning_of book used xs) (learned book used (be 4 xs 0) xs)
   where
-    go : (x : Learning) → Learned book used (be 4 xs 0) xs x → used + length (added x xs) ≤ book_room
-    go Known w = omega arith
-    go (New v) w = w.2
-    go (Refused n) w = omega arith
+    go : (x : Result Learning Fault) → Learned book used (be 4 xs 0) xs x → used + length (added x xs) ≤ book_room
+    go (Ok Known) w = omega arith
+    go (Ok (New v)) w = w.2
+    go (Err f) w = omega arith

@@ -1,8 +1,17 @@
 -- The fault of a call: nothing against it, or the number of a refusal. It has no place: all refusals of a call have one, which its answer gives.
-use Rattle.std.specs.Prelude.{ℕ, Bool}
+use Rattle.std.specs.Prelude.{ℕ, Bool, Result, Ok, Err}
 use Rattle.octets.specs.Reading.{Read, ok, no, choose}
-use Rattle.writing_parts.specs.declared.Fault.{Fault}
-use Rattle.writing_parts.specs.declared.Fault.TheVariants.{None, Refused}
+use Rattle.octets.specs.Faults.{number_of}
+use Rattle.octets.specs.declared.Fault as octets
+
+pub data Fault : Type 0 where
+  None : Fault
+  Refused : ℕ → Fault
+
+-- What a function of the code says of it: a fault by its number.
+abbrev pub faulted : Result (Unit {0}) octets.Fault → Fault
+faulted (Ok u) = None
+faulted (Err f) = Refused (number_of f)
 
 abbrev pub fine : Fault
 fine = None

@@ -3,7 +3,7 @@
 
 #![tactic(auto)]
 
-ghost use Rattle.std.specs.Prelude.{◌≡◌, ◌++◌, ℕ, ◌+◌, ◌-◌, ◌^◌, ◌≤◌, min, length, drop, replicate, leb, ltb};
+ghost use Rattle.std.specs.Prelude.{◌≡◌, ◌++◌, ℕ, ◌+◌, ◌-◌, ◌^◌, ◌≤◌, min, length, drop, replicate, leb, ltb, Ok};
 ghost use Rattle.octets.specs.Limits.{longest};
 ghost use Rattle.octets.specs.Reading.{ok, be};
 ghost use Rattle.octets.specs.Writing.{word, over};
@@ -11,33 +11,11 @@ ghost use Rattle.layouts.specs.Layout.{Layout, layout_at};
 ghost use Rattle.layouts.specs.Book.{find, book_in, IsBook};
 ghost use Rattle.layouts.specs.Answers.{Reads};
 ghost use Rattle.rows.specs.Row.{length_image};
-ghost use Rattle.writing_parts.specs.Faults.{◌or◌};
-ghost use Rattle.writing_parts.specs.Answers.{Puts, Completes, first_of, next_of, learning_of, refusal, added};
+ghost use Rattle.writing_parts.specs.Answers.{Puts, Completes, first_of, next_of, learning_of, added};
 
 use kinds::Basic;
 use layouts::{Learning, Looked};
-
-// Octets put, with the place behind them; or that they do not fit in the room.
-#[derive(Clone, Copy)]
-pub enum Put {
-    To(usize),
-    Full,
-}
-
-// A layout completed, with the place behind it and the used count; or that its last octets do not fit in the room; or its refusal.
-#[derive(Clone, Copy)]
-pub enum Completed {
-    Done(usize, usize),
-    Full,
-    Refused(u32),
-}
-
-// Nothing against a call so far, or a refusal's number.
-#[derive(Clone, Copy)]
-pub enum Fault {
-    None,
-    Refused(u32),
-}
+use octets::Fault;
 
 // The next field of a row: its layout is not in the book, no field is left, or its basic type.
 #[derive(Clone, Copy)]
@@ -45,16 +23,6 @@ pub enum Next {
     Unknown,
     Missing,
     Of(Basic),
-}
-
-// The first of two faults.
-pub fn first_fault(a: Fault, b: Fault) -> Fault
-    ensures { result ≡ a or b }
-{
-    if let Fault::Refused(n) = a {
-        return Fault::Refused(n);
-    }
-    b
 }
 
 // A number of four octets.
@@ -90,10 +58,8 @@ pub fn fits_octets(n: u64, w: usize) -> bool
     ensures { result ≡ ltb n (256 ^ w) }
 {
     let mut left = n;
-    let mut i = 0;
-    while i < w {
+    for _ in 0..w {
         left = left / 256;
-        i += 1;
     }
     left == 0
 }
@@ -102,14 +68,7 @@ pub fn fits_octets(n: u64, w: usize) -> bool
 pub fn fits(left: usize, a: usize, b: usize, c: usize) -> bool
     ensures { result ≡ leb (a + (b + c)) left }
 {
-    if left < a {
-        return false;
-    }
-    let more = left - a;
-    if more < b {
-        return false;
-    }
-    c <= more - b
+    a <= left && b <= left - a && c <= left - a - b
 }
 
 // Three runs of octets laid one behind another from a place on; the place behind them.
@@ -132,41 +91,25 @@ pub fn lay3<'h, 'x, 't, 'b>(
 pub fn room_of(len: usize) -> usize
     ensures { result ≡ min len longest }
 {
-    if len < octets::LONGEST {
-        len
-    } else {
-        octets::LONGEST
-    }
+    len.min(octets::LONGEST)
 }
 
-// Three runs of octets put one behind another at a place, where they fit in the room.
+// Three runs of octets put one behind another at a place, where they fit in the room; the place behind them.
 pub fn put_runs<'b, 'h, 'x, 't>(
     buf: &'b mut [u8],
     at: usize,
     head: &'h [u8],
     body: &'x [u8],
     tail: &'t [u8],
-) -> Put
+) -> Option<usize>
     requires { at ≤ min (length buf.old) longest }
     ensures { Puts buf.old buf.new at (head.now ++ (body.now ++ tail.now)) result }
 {
     let room = room_of(buf.len());
     if !fits(room - at, head.len(), body.len(), tail.len()) {
-        return Put::Full;
+        return None;
     }
-    Put::To(lay3(buf, at, head, body, tail))
-}
-
-// So many octets of zero put at the start of the rest that is lent.
-fn put_zeros(rest: &mut [u8], n: usize)
-    requires { n ≤ length rest.old }
-    ensures { rest.new ≡ replicate n 0 ++ drop n rest.old }
-{
-    let mut i = 0;
-    while i < n {
-        rest[i] = 0;
-        i += 1;
-    }
+    Some(lay3(buf, at, head, body, tail))
 }
 
 // So many octets of zero laid over a lent buffer from a place on.
@@ -174,7 +117,7 @@ pub fn lay_zeros(buf: &mut [u8], at: usize, n: usize)
     requires { at + n ≤ length buf.old }
     ensures { buf.new ≡ over buf.old at (replicate n 0) }
 {
-    put_zeros(&mut buf[at..], n);
+    buf[at..at + n].fill(0);
 }
 
 // Field n of the layout at a place that is known to be accepted.
@@ -186,8 +129,7 @@ fn next_at(s: &[u8], at: usize, n: u32) -> Next
         return Next::Missing;
     }
     let kind = layouts::attribute_kind(s, at, n);
-    let basic = kind.basic;
-    Next::Of(basic)
+    Next::Of(kind.basic)
 }
 
 // Field n of the layout of a number.
@@ -195,8 +137,7 @@ pub fn next_of(book: &[u8], used: usize, number: u32, n: u32) -> Next
     requires { IsBook book.now used }
     ensures { result ≡ next_of (find number (book_in book.now used)) n }
 {
-    let looked = layouts::find(book, used, number);
-    match looked {
+    match layouts::find(book, used, number) {
         Looked::There(p) => next_at(&book[..used], p, n),
         Looked::Missing(k) => Next::Unknown,
     }
@@ -215,9 +156,10 @@ pub fn length_octets(stated: bool, size: usize) -> [u8; 4]
     ensures { result ≡ length_image stated size }
 {
     if stated {
-        return word4(size as u64);
+        word4(size as u64)
+    } else {
+        octets::OPEN
     }
-    octets::OPEN
 }
 
 // The length of the row that starts at a place and ends at another, laid where it stands; one that is not stated stays so.
@@ -231,23 +173,17 @@ pub fn lay_length(buf: &mut [u8], start: usize, end: usize)
 }
 
 // What a book makes of a layout's octets, two runs one behind the other, by the number that they begin with.
-pub fn meet<'b, 'f, 'l>(book: &'b [u8], used: usize, front: &'f [u8], last: &'l [u8]) -> Learning
+pub fn meet<'b, 'f, 'l>(
+    book: &'b [u8],
+    used: usize,
+    front: &'f [u8],
+    last: &'l [u8],
+) -> Result<Learning, Fault>
     requires { IsBook book.now used × (4 ≤ length front.now) }
     ensures { result ≡ learning_of (book_in book.now used) used (front.now ++ last.now) }
 {
     let looked = layouts::find(book, used, octets::u32_at(front, 0));
     layouts::judge_runs(front, last, &book[..used], looked, used)
-}
-
-// The refusal of a layout, if it is one.
-pub fn refusal_of(learning: Learning) -> Fault
-    ensures { result ≡ refusal learning }
-{
-    match learning {
-        Learning::Known => Fault::None,
-        Learning::New(v) => Fault::None,
-        Learning::Refused(n) => Fault::Refused(n),
-    }
 }
 
 // A layout that is new laid behind the used octets; the used count.
@@ -258,17 +194,16 @@ pub fn enter<'b, 'f, 'l>(
     front: &'f [u8],
     last: &'l [u8],
 ) -> usize
-    requires { used + length (added learning (front.now ++ last.now)) ≤ length book.old }
-    ensures { (result ≡ used + length (added learning (front.now ++ last.now))) × (book.new ≡ over book.old used (added learning (front.now ++ last.now))) }
+    requires { used + length (added (Ok learning) (front.now ++ last.now)) ≤ length book.old }
+    ensures { (result ≡ used + length (added (Ok learning) (front.now ++ last.now))) × (book.new ≡ over book.old used (added (Ok learning) (front.now ++ last.now))) }
 {
     match learning {
         Learning::Known => used,
         Learning::New(v) => lay3(book, used, front, last, b""),
-        Learning::Refused(n) => used,
     }
 }
 
-// The octets that complete the layout whose number stands at a place: 10 and 11, the room, the octets, and the layout in the book.
+// The octets that complete the layout whose number stands at a place: 10 and 11, then 23, else the octets and the layout in the book; the place behind them, and the used count.
 pub fn complete<'b, 'k, 'l>(
     buf: &'b mut [u8],
     book: &'k mut [u8],
@@ -276,20 +211,16 @@ pub fn complete<'b, 'k, 'l>(
     from: usize,
     at: usize,
     last: &'l [u8],
-) -> Completed
+) -> Result<(usize, usize), Fault>
     requires { IsBook book.old used × (from + 4 ≤ at) × (at ≤ min (length buf.old) longest) }
     ensures { Completes buf.old buf.new book.old book.new used from at last.now result }
 {
-    let learning = meet(book, used, &buf[from..at], last);
-    let fault = refusal_of(learning);
-    if let Fault::Refused(n) = fault {
-        return Completed::Refused(n);
-    }
+    let learning = meet(book, used, &buf[from..at], last)?;
     let room = room_of(buf.len());
     if room - at < last.len() {
-        return Completed::Full;
+        return Err(Fault::NoRoom);
     }
     let total = enter(book, used, learning, &buf[from..at], last);
     let next = octets::lay(buf, at, last);
-    Completed::Done(next, total)
+    Ok((next, total))
 }

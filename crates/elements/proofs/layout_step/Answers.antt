@@ -1,96 +1,79 @@
 -- `elements::layout_step` meets its contract: the layout is read to its last type, then judged; each answer by a law of both. Assumes nothing.
 use Prim.Native.Nat.{ℕ, ◌+◌}
 use mathlib.Core.Path.{◌≡◌, refl, sym, ap, ◌∙◌, subst}
-use mathlib.Core.List.{List, [], ◌∷◌, ◌++◌}
+use mathlib.Core.List.{[], ◌∷◌, ◌++◌}
 use lib.ListN.{length, length-append}
+use Rattle.std.specs.Prelude.{Result, Ok}
+use Rattle.std.proofs.lemmas.Result.{err_from_is_err_and}
 use Rattle.octets.specs.Reading.{ok, ends, is_ok}
 use Rattle.octets.specs.Answers.{says}
 use Rattle.octets.proofs.Ends.{ended}
+use Rattle.octets.specs.declared.Fault.{Fault}
 use Rattle.layouts.specs.Layout.{Layout, layout_at, layout_image}
 use Rattle.layouts.specs.Book.{Book, book_image}
 use Rattle.layouts.specs.Answers.{Judges, Looks}
 use Rattle.layouts.specs.declared.Learning.{Learning}
-use Rattle.layouts.specs.declared.Looked.{Looked}
 use Rattle.layouts.proofs.Books.{image_snoc}
 use Rattle.layouts.proofs.Parts.{layout_number}
 use Rattle.elements.specs.Answers.{tells, Over}
-use Rattle.elements.specs.declared.Stepping.TheVariants.{Done}
 use Rattle.elements.proofs.Told.{layout_refused, layout_unlearnt, layout_learnt, looked_at}
+use Rattle.elements.proofs.layout_step.Goals.{In_ok-next, After-judge_by}
 use Rattle.elements.proofs.layout_step.Goals as goal
-use Rattle.elements.proofs.layout_step.Lts
-use Rattle.elements.proofs.layout_step.Reads
-use Rattle.elements.proofs.layout_step.Tie
 
-pub returns-in-Refused : goal.returns-in-Refused
-returns-in-Refused c = λ b o.
+pub returns-in_err-next : goal.returns-in_err-next
+returns-in_err-next c = λ b o.
     let a = c.args in
-    sym (ap tells (layout_refused a.doc.now a.at a.rows b _ _ (sym c.layout_end-end.ensures.0 ∙ ap says c.in-Refused.is)))
+    let (_, is, same) = err_from_is_err_and c.from_residual.result c.from_residual.ensures.1 in
+    rw (is, same) (sym (ap tells (layout_refused a.doc.now a.at a.rows b _ _ (sym c.layout_end.ensures.0 ∙ ap says c.in_err-next.was))))
 
 -- The layout that was read.
-abbrev Layed : Type 0
-Layed = Lts.Past-After-known_told2 Tie.the-claims Reads.Pre Reads.Post
+read_to : (k : In_ok-next) → ends (layout_at k.args.doc.now k.args.at) ≡ ok k.in_ok-next.next k.in_ok-next.next
+read_to k = sym k.layout_end.ensures.0 ∙ ap says k.in_ok-next.was
 
-abbrev Next : Layed → ℕ
-Next k = k.in-End.next
+layout : (k : In_ok-next) → (l : Layout) × (layout_at k.args.doc.now k.args.at ≡ ok l k.in_ok-next.next)
+layout k = ended (layout_at k.args.doc.now k.args.at) k.in_ok-next.next (read_to k)
 
-module _ (k : Layed) where
-  abbrev doc : List ℕ
-  doc = k.args.doc.now
-
-  abbrev at : ℕ
-  at = k.args.at
-
-  abbrev s : List ℕ
-  s = k.args.s.now
-
-  abbrev looked : Looked
-  looked = k.args.looked
-
-  abbrev used : ℕ
-  used = k.args.used
-
-  read_to : ends (layout_at doc at) ≡ ok (Next k) (Next k)
-  read_to = sym k.layout_end-end.ensures.0 ∙ ap says k.in-End.is
-
-  layout : (l : Layout) × (layout_at doc at ≡ ok l (Next k))
-  layout = ended (layout_at doc at) (Next k) read_to
-
-pub judge_by-judged-requires : goal.judge_by-judged-requires
-judge_by-judged-requires c =
+pub judge_by-requires : goal.judge_by-requires
+judge_by-requires c =
     let p = c.requires in
-    let w = rw c.in-End.is at c.layout_end-end.ensures.1 in
-    (w.0, w.1, read_to c.before, p.2, p.3, p.4)
+    let w = rw c.in_ok-next.was at c.layout_end.ensures.1 in
+    (w.0, w.1, read_to c, p.2, p.3, p.4)
 
 -- How it was judged.
-judged : (v : Lts.After-judge_by Tie.the-claims Reads.Pre Reads.Post) (b : Book) → Over (doc v.before) (at v.before) (s v.before) (looked v.before) (used v.before) b → (x : Learning) → v.judge_by-judged.result ≡ x
-    → Judges (used v.before) b (layout v.before).0 (at v.before) x
-judged v b o x q =
-    let (l, e) = layout v.before in
-    let (room, number) = layout_number (doc v.before) (at v.before) e in
-    subst (Judges (used v.before) b l (at v.before)) q
-    (v.judge_by-judged.ensures b l e (subst (λ (n : ℕ). Looks (s v.before) n b (looked v.before)) number (looked_at (doc v.before) (at v.before) (s v.before) (looked v.before) (used v.before) b o room (looked v.before) refl)) o.size)
+judged : (v : After-judge_by) (l : Layout) → let a = v.args in layout_at a.doc.now a.at ≡ ok l v.in_ok-next.next → (b : Book) → Over a.doc.now a.at a.s.now a.looked a.used b
+    → (x : Result Learning Fault) → v.judge_by.result ≡ x → Judges a.used b l a.at x
+judged v l e b o x q =
+    let a = v.args in
+    let (room, number) = layout_number a.doc.now a.at e in
+    subst (Judges a.used b l a.at) q
+    (v.judge_by.ensures b l e (subst (λ (n : ℕ). Looks a.s.now n b a.looked) number (looked_at a.doc.now a.at a.s.now a.looked a.used b o room a.looked refl)) o.size)
 
-pub returns-in-Refused-judged : goal.returns-in-Refused-judged
-returns-in-Refused-judged c = λ b o.
-    sym (ap tells (layout_unlearnt (doc c.before.before.before) (at c.before.before.before) c.args.rows b (layout c.before.before.before).0 (Next c.before.before.before) (layout c.before.before.before).1 _ _ (judged c.before.before b o _ c.in-Refused-judged.is)))
+pub returns-in-Err : goal.returns-in-Err
+returns-in-Err c = λ b o.
+    let a = c.args in
+    let v = goal.at.returns-in-Err c in
+    let (l, e) = layout v.In_ok-next in
+    sym (ap tells (layout_unlearnt a.doc.now a.at a.rows b l _ e _ _ (judged v.After-judge_by l e b o _ c.in-Err.is)))
 
-pub returns-in-Known : goal.returns-in-Known
-returns-in-Known c = λ b o.
-    let l = layout c.before.before.before.before in
-    ap Done (c.layout_told.ensures l.0 (Next c.before.before.before.before) l.1 b o.size)
-    ∙ sym (ap tells (layout_learnt (doc c.before.before.before.before) (at c.before.before.before.before) c.args.rows b l.0 (Next c.before.before.before.before) l.1 b _ (judged c.before.before.before b o _ c.in-Known.is)))
+pub returns-in-Ok-Known : goal.returns-in-Ok-Known
+returns-in-Ok-Known c = λ b o.
+    let a = c.args in
+    let v = goal.at.returns-in-Ok-Known c in
+    let (l, e) = layout v.In_ok-next in
+    ap Ok (c.layout_told.ensures l _ e b o.size) ∙ sym (ap tells (layout_learnt a.doc.now a.at a.rows b l _ e b _ (judged v.After-judge_by l e b o _ (c.in-Ok-Known.is ∙ ap Ok c.in-Ok-Known.field-0-is))))
 
-pub returns-in-New : goal.returns-in-New
-returns-in-New c = λ b o.
-    let l = layout c.before.before.before.before in
-    let w = judged c.before.before.before b o _ c.in-New.is in
-    let more : Book = b ++ l.0 ∷ [] in
-    let long = ap length (image_snoc b l.0) ∙ (length-append (book_image b) (layout_image l.0) ∙ ap (λ (n : ℕ). n + length (layout_image l.0)) o.size) in
-    ap Done (c.layout_told-in-New.ensures l.0 (Next c.before.before.before.before) l.1 more (long ∙ sym w.1))
-    ∙ sym (ap tells (layout_learnt (doc c.before.before.before.before) (at c.before.before.before.before) c.args.rows b l.0 (Next c.before.before.before.before) l.1 more _ w.0))
+pub returns-in-Ok-New : goal.returns-in-Ok-New
+returns-in-Ok-New c = λ b o.
+    let a = c.args in
+    let v = goal.at.returns-in-Ok-New c in
+    let (l, e) = layout v.In_ok-next in
+    let w = judged v.After-judge_by l e b o _ (c.in-Ok-New.is ∙ ap Ok c.in-Ok-New.field-0-is) in
+    let more : Book = b ++ l ∷ [] in
+    let long = ap length (image_snoc b l) ∙ (length-append (book_image b) (layout_image l) ∙ ap (λ (n : ℕ). n + length (layout_image l)) o.size) in
+    ap Ok (c.layout_told-in-Ok-New.ensures l _ e more (long ∙ sym w.1)) ∙ sym (ap tells (layout_learnt a.doc.now a.at a.rows b l _ e more _ w.0))
 
 pub layout_told-requires : goal.layout_told-requires
-layout_told-requires c = (c.requires.1, ap is_ok (layout c.before.before.before).1)
+layout_told-requires c = (c.requires.1, ap is_ok (layout (goal.at.layout_told-requires c).In_ok-next).1)
 
-pub layout_told-requires-in-New : goal.layout_told-requires-in-New
-layout_told-requires-in-New c = (c.requires.1, ap is_ok (layout c.before.before.before).1)
+pub layout_told-requires-in-Ok-New : goal.layout_told-requires-in-Ok-New
+layout_told-requires-in-Ok-New c = (c.requires.1, ap is_ok (layout (goal.at.layout_told-requires-in-Ok-New c).In_ok-next).1)

@@ -8,5 +8,5 @@ use Rattle.giving.proofs.give_number.Goals as goal
 pub returns : goal.returns
 returns c =
     let a = c.args in
-    gave a.s a.buf.now a.book.now a.used c.give.ensures
-    (same_put a.s a.turn a.s.start refl (append-nil _ ∙ number_octets a.w a.n c.requires c.word8-head.ensures) refl refl)
+    gave a.from.state a.buf.now a.book.now a.from.used c.give.ensures
+    (same_put a.from.state a.deed.turn a.deed.start refl (append-nil _ ∙ number_octets a.w a.n c.requires c.word8-head.ensures) refl refl)

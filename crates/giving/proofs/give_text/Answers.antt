@@ -15,5 +15,5 @@ image xs e = rw (e, append-nil xs) refl
 pub returns : goal.returns
 returns c =
     let a = c.args in
-    gave a.s a.buf.now a.book.now a.used c.give.ensures
-    (same_put a.s a.turn a.s.start c.breach-fault.ensures (image a.xs.now c.word4-head.ensures) refl refl)
+    gave a.from.state a.buf.now a.book.now a.from.used c.give.ensures
+    (same_put a.from.state a.turn a.from.state.start c.breach.ensures (image a.xs.now c.word4-head.ensures) refl refl)

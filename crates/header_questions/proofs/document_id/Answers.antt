@@ -2,32 +2,14 @@
 use native.Mathlib.Omega.{arith}
 use Prim.Native.Nat.{ℕ, ◌+◌, ◌-◌}
 use mathlib.Core.List.{List}
-use mathlib.Core.Path.{◌≡◌, sym, ap, ◌∙◌, subst}
+use mathlib.Core.Path.{◌≡◌, sym, ap, ◌∙◌}
 use native.Mathlib.Nat.{add-sub_cancel_left}
 use Rattle.octets.specs.Reading.{part}
 use Rattle.octets.specs.Asked.{part_of}
-use Rattle.headers.specs.Header.{Header, header_at}
-use Rattle.headers.specs.Answers.{Accepted, Locates}
-use Rattle.headers.specs.declared.Placing.{Placing}
+use Rattle.headers.specs.Header.{Header}
 use lib.ListN.{take, drop}
 use Rattle.header_questions.proofs.Lists.{id_there}
 use Rattle.header_questions.proofs.document_id.Goals as goal
-use Rattle.header_questions.proofs.document_id.Lts
-use Rattle.header_questions.proofs.document_id.Reads
-use Rattle.header_questions.proofs.document_id.Tie
-
-located : (v : Lts.After-header_at Tie.the-claims Reads.Pre Reads.Post) (x : Placing) → v.header_at-placing.result ≡ x → let s = v.args.doc.now in Locates s (header_at s) x
-located v x q = let s = v.args.doc.now in subst (Locates s (header_at s)) q v.header_at-placing.ensures
-
-pub returns-in_default : goal.returns-in_default
-returns-in_default c = sym (ap (part_of (λ (h : Header). h.id)) (located c.before.before _ c.in_default.is))
-
--- The header that stands there.
-abbrev At : Type 0
-At = Lts.Past-After-known_told Tie.the-claims Reads.Pre Reads.Post
-
-head : (k : At) → let s = k.args.doc.now in Accepted s (header_at s) k.in-At.places
-head k = located k.before _ k.in-At.is
 
 -- The part from the octets' first place to the one sixteen behind it.
 sixteen : (s : List ℕ) (at : ℕ) → take (at + 4 + 16 - (at + 4)) (drop (at + 4) s) ≡ part s (at + 4) 16
@@ -36,15 +18,15 @@ sixteen s at = ap (λ (n : ℕ). take n (drop (at + 4) s)) (add-sub_cancel_left 
 
 pub returns : goal.returns
 returns c =
-    let h = head c.before.before.before in
+    let h = c.in-Ok.ensures in
     let s = c.args.doc.now in
-    sixteen s c.in-At.places.id ∙ ((id_there s c.in-At.places.id h.header.id h.located.id).1 ∙ sym (ap (part_of (λ (x : Header). x.id)) h.reads))
+    sixteen s c.in-Ok.places.id ∙ ((id_there s c.in-Ok.places.id h.header.id h.located.id).1 ∙ sym (ap (part_of (λ (x : Header). x.id)) h.reads))
 
 pub overflow_add-start : goal.overflow_add-start
-overflow_add-start c = let h = head c.before.before in omega (arith, h.short, (id_there _ _ _ h.located.id).0)
+overflow_add-start c = let h = c.in-Ok.ensures in omega (arith, h.short, (id_there _ _ _ h.located.id).0)
 
 pub overflow_add-stop : goal.overflow_add-stop
-overflow_add-stop c = let h = head c.before.before in omega (arith, h.short, (id_there _ _ _ h.located.id).0)
+overflow_add-stop c = let h = c.in-Ok.ensures in omega (arith, h.short, (id_there _ _ _ h.located.id).0)
 
 pub slice_bounds-result-end-2 : goal.slice_bounds-result-end-2
-slice_bounds-result-end-2 c = let h = head c.before.before in omega (arith, (id_there _ _ _ h.located.id).0)
+slice_bounds-result-end-2 c = let h = c.in-Ok.ensures in omega (arith, (id_there _ _ _ h.located.id).0)

@@ -12,9 +12,9 @@ uri : (s : List ℕ) (p : ℕ) (x : Namespace) (last : ℕ) → namespace_at s p
 uri s p x last e = let (mid, first, _) = namespace_parts s p x last e in (mid, first)
 
 pub text_found-requires : goal.text_found-requires
-text_found-requires c = let s = c.args.doc.now in is_text s (namespace_at s) (λ x. x.uri) (uri s) _ c.item_at.result c.item_at.ensures
+text_found-requires c = let s = c.args.doc.now in is_text s (namespace_at s) (λ x. x.uri) (uri s) _ c.namespace_place.result c.namespace_place.ensures
 
 pub returns : goal.returns
 returns c =
     let s = c.args.doc.now in
-    c.text_found.ensures ∙ text_shown s (namespace_at s) (λ x. x.uri) (uri s) _ c.item_at.result c.item_at.ensures
+    c.text_found.ensures ∙ text_shown s (namespace_at s) (λ x. x.uri) (uri s) _ c.namespace_place.result c.namespace_place.ensures

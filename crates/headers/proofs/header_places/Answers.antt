@@ -1,108 +1,54 @@
--- `headers::header_places` meets its contract: each refusal is that of the first part refused, and the places are where the parts were read.
+-- `headers::header_places` meets its contract: a header is refused where the first of its parts is, and else the places are where the parts were read.
 -- Assumes nothing.
-use Prim.Native.Nat.{ℕ}
-use mathlib.Core.Path.{◌≡◌}
-use mathlib.Core.List.{List}
-use mathlib.Core.Bool.{true, false}
+use Rattle.std.proofs.Common.{of_calls}
+use native.Mathlib.Nat.{le_refl}
 use lib.ListN.{length}
-use Rattle.octets.specs.Reading.{Read, ok, ends}
-use Rattle.octets.specs.Answers.{Within}
-use Rattle.octets.specs.declared.Ended.TheVariants.{End}
-use Rattle.headers.proofs.Parts.{recorder_read, default_read, list_read, refused_recorder, refused_default, refused_namespaces, refused_services, refused_close, accepted}
+use Rattle.octets.proofs.Passed.{handed_on}
+use Rattle.headers.proofs.Parts.{space_read, service_read, refused_recorder, refused_default, refused_namespaces, refused_services, refused_close, accepted}
 use Rattle.headers.proofs.header_places.Goals as goal
-use Rattle.headers.proofs.header_places.Lts
-use Rattle.headers.proofs.header_places.Reads
-use Rattle.headers.proofs.header_places.Tie
 
--- Behind the recorder, the default namespace, the other namespaces and the service definitions.
-abbrev Recorded : Type 0
-Recorded = Lts.Past-After-known_told2 Tie.the-claims Reads.Pre Reads.Post
+pub returns-in_err-start : goal.returns-in_err-start
+returns-in_err-start c =
+    rw (handed_on c.from_residual.result _ c.from_residual.ensures.1) (refused_recorder c.args.s.now _ _ c.in_err-start.ensures.0)
 
-abbrev Named : Type 0
-Named = Lts.Past-After-known_told4 Tie.the-claims Reads.Pre Reads.Post
+pub returns-in_err-namespaces : goal.returns-in_err-namespaces
+returns-in_err-namespaces c =
+    let r = c.from_residual-in_err-namespaces in
+    rw (handed_on r.result _ r.ensures.1) (refused_default c.args.s.now c.in_ok-start.start c.in_ok-start.ensures.0 _ _ c.in_err-namespaces.ensures.0)
 
-abbrev Spaced : Type 0
-Spaced = Lts.Past-After-known_told6 Tie.the-claims Reads.Pre Reads.Post
+pub returns-in_err-services : goal.returns-in_err-services
+returns-in_err-services c =
+    let r = c.from_residual-in_err-services in
+    rw (handed_on r.result _ r.ensures.1)
+    (refused_namespaces c.args.s.now c.in_ok-start.start c.in_ok-start.ensures.0 c.in_ok-namespaces.namespaces c.in_ok-namespaces.ensures.0 _ _ (c.in_err-services.ensures (space_read c.args.s.now) (record { takes = λ p h. search of_calls; finds = λ p r h e. search of_calls })).0)
 
-abbrev Served : Type 0
-Served = Lts.Past-After-known_told8 Tie.the-claims Reads.Pre Reads.Post
+pub returns-in_err-id : goal.returns-in_err-id
+returns-in_err-id c =
+    let r = c.from_residual-in_err-id in
+    rw (handed_on r.result _ r.ensures.1)
+    (refused_services c.args.s.now c.in_ok-start.start c.in_ok-start.ensures.0 c.in_ok-namespaces.namespaces c.in_ok-namespaces.ensures.0 c.in_ok-services.services (c.in_ok-services.ensures (space_read c.args.s.now) (record { takes = λ p h. search of_calls; finds = λ p r h e. search of_calls })).0 _ _ (c.in_err-id.ensures (service_read c.args.s.now) (record { takes = λ p h. search of_calls; finds = λ p r h e. search of_calls })).0)
 
-abbrev S : Recorded → List ℕ
-S c = c.args.s.now
+pub returns-in_err-end : goal.returns-in_err-end
+returns-in_err-end c =
+    let r = c.from_residual-in_err-end in
+    rw (handed_on r.result _ r.ensures.1)
+    (refused_close c.args.s.now c.in_ok-start.start c.in_ok-start.ensures.0 c.in_ok-namespaces.namespaces c.in_ok-namespaces.ensures.0 c.in_ok-services.services (c.in_ok-services.ensures (space_read c.args.s.now) (record { takes = λ p h. search of_calls; finds = λ p r h e. search of_calls })).0 c.in_ok-id.id (c.in_ok-id.ensures (service_read c.args.s.now) (record { takes = λ p h. search of_calls; finds = λ p r h e. search of_calls })).0 _ _ c.in_err-end.ensures.0)
 
--- The place behind each.
-abbrev start : Recorded → ℕ
-start c = c.in-End.next
+pub returns : goal.returns
+returns c =
+    accepted c.args.s.now c.in_ok-start.start c.in_ok-start.ensures.0 c.in_ok-namespaces.namespaces c.in_ok-namespaces.ensures.0 c.in_ok-services.services (c.in_ok-services.ensures (space_read c.args.s.now) (record { takes = λ p h. search of_calls; finds = λ p r h e. search of_calls })).0 c.in_ok-id.id (c.in_ok-id.ensures (service_read c.args.s.now) (record { takes = λ p h. search of_calls; finds = λ p r h e. search of_calls })).0 c.requires c.in_ok-end.end c.in_ok-end.ensures.0
 
-abbrev namespaces : Named → ℕ
-namespaces c = c.in-End-default.next
+pub list_end-requires : goal.list_end-requires
+list_end-requires c =
+    let n = length c.args.s.now in
+    let within = c.in_ok-namespaces.ensures.1 in
+    (within.1, c.requires, record { end = n; reading = space_read c.args.s.now; inside = le_refl n; finds = record { takes = λ p h. search of_calls; finds = λ p r h e. search of_calls } })
 
-abbrev services : Spaced → ℕ
-services c = c.in-End-others.next
+pub list_end-requires-2 : goal.list_end-requires-2
+list_end-requires-2 c =
+    let n = length c.args.s.now in
+    let within = (c.in_ok-services.ensures (space_read c.args.s.now) (record { takes = λ p h. search of_calls; finds = λ p r h e. search of_calls })).1 in
+    (within.1, c.requires, record { end = n; reading = service_read c.args.s.now; inside = le_refl n; finds = record { takes = λ p h. search of_calls; finds = λ p r h e. search of_calls } })
 
-abbrev id : Served → ℕ
-id c = c.in-End-listed.next
-
--- Each was read from a place to another inside the document.
-abbrev Came : {A : Type 0} → List ℕ → Read A → ℕ → ℕ → Type 0
-Came s read at p = (ok p p ≡ ends read) × Within at (End p) (length s)
-
-recorded : (c : Recorded) → Came (S c) (recorder_read (S c)) 0 (start c)
-recorded c = rw c.in-End.is at c.recorder_end-recorder.ensures
-
-named : (c : Named) → Came (S c.before.before) (default_read (S c.before.before) (start c.before.before)) (start c.before.before) (namespaces c)
-named c = rw c.in-End-default.is at c.default_end-default.ensures
-
-spaced : (c : Spaced) → Came (S c.before.before.before.before) (list_read (S c.before.before.before.before) false (namespaces c.before.before)) (namespaces c.before.before) (services c)
-spaced c = rw c.in-End-others.is at c.list_end-others.ensures
-
-served : (c : Served) → let s = S c.before.before.before.before.before.before in Came s (list_read s true (services c.before.before)) (services c.before.before) (id c)
-served c = rw c.in-End-listed.is at c.list_end-listed.ensures
-
-pub returns-in-Refused : goal.returns-in-Refused
-returns-in-Refused c = refused_recorder _ _ _ (rw c.in-Refused.is at c.recorder_end-recorder.ensures).0
-
-pub returns-in-Refused-default : goal.returns-in-Refused-default
-returns-in-Refused-default c =
-    refused_default (S c.before.before.before) (start c.before.before.before) (recorded c.before.before.before).0 _ _ (rw c.in-Refused-default.is at c.default_end-default.ensures).0
-
-pub returns-in-Refused-others : goal.returns-in-Refused-others
-returns-in-Refused-others c =
-    let named_here = c.before.before.before in
-    let recorded_here = c.before.before.before.before.before in
-    refused_namespaces (S recorded_here) (start recorded_here) (recorded recorded_here).0 (namespaces named_here) (named named_here).0 _ _ (rw c.in-Refused-others.is at c.list_end-others.ensures).0
-
-pub returns-in-Refused-listed : goal.returns-in-Refused-listed
-returns-in-Refused-listed c =
-    let spaced_here = c.before.before.before in
-    let named_here = c.before.before.before.before.before in
-    let recorded_here = c.before.before.before.before.before.before.before in
-    refused_services (S recorded_here) (start recorded_here) (recorded recorded_here).0 (namespaces named_here) (named named_here).0 (services spaced_here) (spaced spaced_here).0 _ _ (rw c.in-Refused-listed.is at c.list_end-listed.ensures).0
-
-pub returns-in-Refused-closed : goal.returns-in-Refused-closed
-returns-in-Refused-closed c =
-    let served_here = c.before.before.before in
-    let spaced_here = c.before.before.before.before.before in
-    let named_here = c.before.before.before.before.before.before.before in
-    let recorded_here = c.before.before.before.before.before.before.before.before.before in
-    refused_close (S recorded_here) (start recorded_here) (recorded recorded_here).0 (namespaces named_here) (named named_here).0 (services spaced_here) (spaced spaced_here).0 (id served_here) (served served_here).0 _ _ (rw c.in-Refused-closed.is at c.close_end-closed.ensures).0
-
-pub returns-in-End-closed : goal.returns-in-End-closed
-returns-in-End-closed c =
-    let served_here = c.before.before.before in
-    let spaced_here = c.before.before.before.before.before in
-    let named_here = c.before.before.before.before.before.before.before in
-    let recorded_here = c.before.before.before.before.before.before.before.before.before in
-    accepted (S recorded_here) (start recorded_here) (recorded recorded_here).0 (namespaces named_here) (named named_here).0 (services spaced_here) (spaced spaced_here).0 (id served_here) (served served_here).0 c.requires _ (rw c.in-End-closed.is at c.close_end-closed.ensures).0
-
-pub default_end-default-requires : goal.default_end-default-requires
-default_end-default-requires c = ((recorded c.before).1.1, c.requires)
-
-pub list_end-others-requires : goal.list_end-others-requires
-list_end-others-requires c = ((named c.before).1.1, c.requires)
-
-pub list_end-listed-requires : goal.list_end-listed-requires
-list_end-listed-requires c = ((spaced c.before).1.1, c.requires)
-
-pub close_end-closed-requires : goal.close_end-closed-requires
-close_end-closed-requires c = ((served c.before).1.1, c.requires)
+pub close_end-requires : goal.close_end-requires
+close_end-requires c = let within = (c.in_ok-id.ensures (service_read c.args.s.now) (record { takes = λ p h. search of_calls; finds = λ p r h e. search of_calls })).1 in (within.1, c.requires)

@@ -1,5 +1,4 @@
 -- `layouts::judge` meets its contract: the number is looked up in the book's octets. Assumes nothing.
-use native.Mathlib.Omega.{arith}
 use Prim.Native.Nat.{ℕ}
 use mathlib.Core.Path.{ap, ◌∙◌, subst}
 use mathlib.Core.List.{List}
@@ -8,7 +7,6 @@ use Rattle.octets.proofs.Ends.{ended}
 use Rattle.layouts.specs.Layout.{layout_at}
 use Rattle.layouts.specs.Answers.{Looks}
 use Rattle.layouts.proofs.Parts.{layout_number}
-use Rattle.layouts.proofs.Lends.{stood}
 use Rattle.layouts.proofs.judge.Goals as goal
 use Rattle.layouts.proofs.judge.Lts
 use Rattle.layouts.proofs.judge.Reads
@@ -29,14 +27,6 @@ S k = k.args.s.now
 
 pub u32_at-requires : goal.u32_at-requires
 u32_at-requires c = let (l, e) = ended (layout_at (Doc c.before) (At c.before)) _ c.requires.2 in (layout_number (Doc c.before) (At c.before) e).0
-
-pub look_in-looked-requires : goal.look_in-looked-requires
-look_in-looked-requires c = let h = c.requires in (omega (arith, h.3), h.4)
-
-pub judge_by-requires : goal.judge_by-requires
-judge_by-requires c =
-    let h = c.requires in
-    (h.0, h.1, h.2, omega (arith, h.3), h.3, stood (S c.before.before.before) c.u32_at.result h.4.book c.look_in-looked.result (c.look_in-looked.ensures h.4.book h.4.image))
 
 pub returns : goal.returns
 returns c = λ book l i e.

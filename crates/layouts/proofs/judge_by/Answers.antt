@@ -1,6 +1,7 @@
 -- `layouts::judge_by` meets its contract: the part of the document is the layout's image. Assumes nothing.
 use native.Mathlib.Omega.{arith}
 use Prim.Native.Nat.{ℕ}
+use Rattle.std.specs.Prelude.{Result}
 use mathlib.Core.Path.{◌≡◌, ◌∙◌, sym, ap, subst}
 use mathlib.Core.List.{List, [], ◌++◌, append-nil}
 use lib.ListN.{length}
@@ -9,11 +10,12 @@ use Rattle.layouts.specs.Layout.{Layout, layout_image}
 use Rattle.layouts.specs.Book.{Book, book_image, learning}
 use Rattle.layouts.specs.Answers.{Judges}
 use Rattle.layouts.specs.declared.Learning.{Learning}
+use Rattle.octets.specs.declared.Fault.{Fault}
 use Rattle.layouts.proofs.Lends.{layout_part}
 use Rattle.layouts.proofs.Judging.{judges}
 use Rattle.layouts.proofs.judge_by.Goals as goal
 
-judged : (book : Book) (l : Layout) (at used : ℕ) (r : Learning) (xs : List ℕ) → xs ≡ layout_image l → length (book_image book) ≡ used
+judged : (book : Book) (l : Layout) (at used : ℕ) (r : Result Learning Fault) (xs : List ℕ) → xs ≡ layout_image l → length (book_image book) ≡ used
     → r ≡ learning book used l.number (xs ++ []) → Judges used book l at r
 judged book l at used r xs is size e =
     subst (λ (u : ℕ). r ≡ learning book u l.number (xs ++ []) → Judges u book l at r) size

@@ -2,6 +2,7 @@
 use native.Mathlib.Omega.{arith}
 use native.Mathlib.Nat.{add_assoc}
 use Prim.Native.Nat.{ℕ, ◌+◌}
+use Rattle.std.specs.Prelude.{Ok}
 use mathlib.Core.Path.{◌≡◌, ◌∙◌, sym, ap, subst}
 use mathlib.Core.List.{List, ◌++◌}
 use lib.ListN.{length, length-append}
@@ -80,4 +81,4 @@ returns-else-left-front-2 c =
     λ book n w.
     let v = looked_up here n book _ w c.in-Missing.is in
     sym (learning_new book (Used here) n (Front here ++ Last here) v.0 (omega (arith, v.1, c.if-k-ge-MOST_LAYOUTS.false)) (omega (arith, long here, c.if-left-front.false, c.if-left-front-2.false, c.requires.1))
-    ∙ ap New (ap (λ (z : ℕ). Used here + z) (long here) ∙ sym (add_assoc (Used here) (length (Front here)) (length (Last here)))))
+    ∙ ap (λ (z : ℕ). Ok (New z)) (ap (λ (z : ℕ). Used here + z) (long here) ∙ sym (add_assoc (Used here) (length (Front here)) (length (Last here)))))

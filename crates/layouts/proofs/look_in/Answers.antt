@@ -1,6 +1,5 @@
 -- `layouts::look_in` meets its contract. The invariant: what is left from here on holds the number where the book does.
 -- The measure is what is left of the octets. Assumes nothing.
-use borrow.Author.Rules.{rules}
 use native.Mathlib.Omega.{arith}
 use Prim.Native.Nat.{ℕ, ◌+◌, ◌≤◌, ◌<◌}
 use mathlib.Core.Path.{sym, ◌∙◌, ap}
@@ -9,14 +8,11 @@ use lib.ListN.{length}
 use Rattle.octets.specs.Reading.{is_ok}
 use Rattle.layouts.specs.Book.{Book}
 use Rattle.layouts.specs.Answers.{Image}
-use Rattle.layouts.proofs.Walks.{Left, Here, left_start, left_none, here, here_on, here_stands}
+use Rattle.layouts.proofs.Walks.{Left, Here, left_none, here, here_on, here_stands}
 use Rattle.layouts.proofs.look_in.Goals as goal
 use Rattle.layouts.proofs.look_in.Lts
 use Rattle.layouts.proofs.look_in.Reads
 use Rattle.layouts.proofs.look_in.Tie
-
-pub loop-pos-init : goal.loop-pos-init
-loop-pos-init c = (search rules, search rules, λ book i. left_start _ _ book i)
 
 -- The turn by names.
 abbrev Turn : Type 0

@@ -3,7 +3,7 @@ use native.Mathlib.Omega.{arith}
 use Prim.Native.Nat.{ℕ, ◌+◌, ◌≤◌}
 use mathlib.Core.Path.{◌≡◌, refl, sym, ap, ◌∙◌}
 use lib.ListN.{length}
-use Rattle.octets.specs.Reading.{ok, is_ok}
+use Rattle.octets.specs.Reading.{ok}
 use Rattle.octets.proofs.Spans.{each_octet}
 use Rattle.layouts.specs.Layout.{Layout, layout_at}
 use Rattle.octets.proofs.Ends.{one_end}
@@ -30,36 +30,30 @@ returns-then-end-at c = λ m end e.
     let a = c.args in
     sym (too_short a.s.now a.at c.layout_skip-end.result m (each_octet a.s.now c.type_inv.s) (reads c.before.before m end e) a.front.now a.last.now c.if-end-at.true)
 
-pub returns-then-not-octets_same : goal.returns-then-not-octets_same
-returns-then-not-octets_same c = λ m end e.
+pub returns-else-octets_same : goal.returns-else-octets_same
+returns-else-octets_same c = λ m end e.
     let a = c.args in
-    sym (two_runs a.s.now a.at c.layout_skip-end.result m (each_octet a.s.now c.type_inv.s) (reads c.before.before.before.before.before m end e) a.front.now a.last.now c.if-end-at.false
-    (a.at + length a.front.now) refl ∙ rw (sym c.octets_same.ensures ∙ c.if-not-octets_same.true) refl)
+    c.if-octets_same.false ∙ sym (two_runs a.s.now a.at c.layout_skip-end.result m (each_octet a.s.now c.type_inv.s) (reads c.before.before.before.before.before m end e) a.front.now a.last.now c.if-end-at.false
+    (a.at + length a.front.now) refl ∙ rw (sym c.octets_same.ensures ∙ c.if-octets_same.false) refl)
 
-pub returns : goal.returns
-returns c = λ m end e.
+pub returns-then-octets_same : goal.returns-then-octets_same
+returns-then-octets_same c = λ m end e.
     let a = c.args in
-    c.octets_same-2.ensures
+    c.octets_same-then-octets_same.ensures
     ∙ sym (two_runs a.s.now a.at c.layout_skip-end.result m (each_octet a.s.now c.type_inv.s) (reads c.before.before.before.before.before.before.before m end e) a.front.now a.last.now c.if-end-at.false
-    (a.at + length a.front.now) refl ∙ rw (sym c.octets_same.ensures ∙ c.if-not-octets_same.false) refl)
-
-pub layout_skip-end-requires : goal.layout_skip-end-requires
-layout_skip-end-requires c = let p = c.requires in (p.0, ap is_ok p.1.reads)
+    (a.at + length a.front.now) refl ∙ rw (sym c.octets_same.ensures ∙ c.if-octets_same.true) refl)
 
 pub overflow_sub-end : goal.overflow_sub-end
 overflow_sub-end c = (inside c.before).0
 
-pub overflow_add-mid : goal.overflow_add-mid
-overflow_add-mid c = let i = inside c.before.before in omega arith
-
 pub slice_bounds-octets_same-end : goal.slice_bounds-octets_same-end
 slice_bounds-octets_same-end c = let i = inside c.before.before in omega arith
 
-pub slice_bounds-octets_same-count-2 : goal.slice_bounds-octets_same-count-2
-slice_bounds-octets_same-count-2 c = let i = inside c.before.before.before.before.before in omega arith
+pub slice_bounds-octets_same-count-then-octets_same : goal.slice_bounds-octets_same-count-then-octets_same
+slice_bounds-octets_same-count-then-octets_same c = let i = inside c.before.before.before.before.before in omega arith
 
-pub slice_bounds-octets_same-start-2 : goal.slice_bounds-octets_same-start-2
-slice_bounds-octets_same-start-2 c = let i = inside c.before.before.before.before.before in omega arith
+pub slice_bounds-octets_same-start-then-octets_same : goal.slice_bounds-octets_same-start-then-octets_same
+slice_bounds-octets_same-start-then-octets_same c = let i = inside c.before.before.before.before.before in omega arith
 
-pub slice_bounds-octets_same-end-2 : goal.slice_bounds-octets_same-end-2
-slice_bounds-octets_same-end-2 c = let i = inside c.before.before.before.before.before in omega arith
+pub slice_bounds-octets_same-end-then-octets_same : goal.slice_bounds-octets_same-end-then-octets_same
+slice_bounds-octets_same-end-then-octets_same c = let i = inside c.before.before.before.before.before in omega arith

@@ -2,7 +2,7 @@
 use mathlib.Core.Path.{ap}
 use mir.Facts.{to_z-of_z}
 use Rattle.printing.specs.Text.{spelt}
-use Rattle.printing.proofs.Puts.{then, says}
+use Rattle.printing.proofs.Pages.{then, says}
 use Rattle.lines.specs.Lines.{header_text}
 use Rattle.lines.proofs.Words.{word}
 use Rattle.lines.proofs.header_line.Goals as goal
@@ -10,5 +10,5 @@ use Rattle.lines.proofs.header_line.Goals as goal
 pub returns : goal.returns
 returns c =
     says (ap header_text (to_z-of_z c.ranges.start))
-    (then (word (spelt "document 4 ") c.show_all-head.ensures)
-    (then c.time-to.ensures c.octet.ensures))
+    (then (word (spelt "document 4 ") c.show_all.ensures)
+    (then c.time.ensures c.octet.ensures))

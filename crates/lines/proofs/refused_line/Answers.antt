@@ -1,7 +1,7 @@
 -- `lines::refused_line` meets its contract. Assumes nothing.
-use Rattle.printing.proofs.Puts.{then}
+use Rattle.printing.proofs.Pages.{then}
 use Rattle.lines.proofs.refused_line.Goals as goal
 
 pub returns : goal.returns
 returns c =
-    then c.refused-to.ensures c.octet.ensures
+    then c.refused.ensures c.octet.ensures

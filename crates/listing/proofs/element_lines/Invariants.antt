@@ -6,8 +6,8 @@ use lib.ListN.{length}
 use Rattle.listing.proofs.Passed.{Passed}
 use Rattle.listing.proofs.element_lines.Given as goal
 
-abbrev pub invariant-loop-next : goal.invariant-loop-next
-invariant-loop-next l = (length l.out ≡ length l.initial.out) × Passed l.doc l.at l.initial.out l.n l.book l.numbers l.places l.steps l.tally l.pos l.rows l.used l.out l.to × (length l.words ≡ 1)
+abbrev pub invariant-loop-moved : goal.invariant-loop-moved
+invariant-loop-moved l = Passed l.doc l.at l.initial.page l.book l.known l.pos l.rows l.used l.page × (length l.words ≡ 1)
 
-abbrev pub decreases-loop-next : goal.decreases-loop-next
-decreases-loop-next l = length l.doc - l.pos
+abbrev pub decreases-loop-moved : goal.decreases-loop-moved
+decreases-loop-moved l = length l.doc - l.pos

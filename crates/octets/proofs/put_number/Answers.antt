@@ -2,7 +2,7 @@
 -- The measure is the octets to come. Assumes nothing.
 use native.Mathlib.Omega.{arith}
 use Prim.Native.Nat.{ℕ, ◌≤◌}
-use mathlib.Core.Path.{◌≡◌, refl, sym, ap, ◌∙◌}
+use mathlib.Core.Path.{◌≡◌, sym, ap, ◌∙◌}
 use mathlib.Core.List.{◌++◌}
 use lib.ListN.{length, drop, length-set}
 use Rattle.octets.specs.Writing.{word}
@@ -25,6 +25,3 @@ returns c =
     let a = c.args in
     let none : l.i ≡ 0 = omega arith in
     sym (l.invariant.2 ∙ ap (λ (i : ℕ). word i l.left ++ drop i l.rest) none)
-
-pub loop-i-init : goal.loop-i-init
-loop-i-init c = (omega arith, refl, refl)

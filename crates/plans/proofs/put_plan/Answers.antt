@@ -1,5 +1,4 @@
--- `plans::put_plan` meets its contract. The invariant: the steps that stand, with those of the attributes that are left, are the plan.
--- The measure is the attributes to come. Assumes nothing.
+-- `plans::put_plan` meets its contract. The invariant: the steps that stand, with those of the attributes that are left, are the plan. Assumes nothing.
 use native.Mathlib.Omega.{arith}
 use Prim.Native.Nat.{ℕ, suc, ◌+◌, ◌-◌, ◌%◌, ◌≤◌}
 use mathlib.Core.Path.{◌≡◌, refl, sym, ap, ◌∙◌, subst}
@@ -15,12 +14,10 @@ use Rattle.layouts.proofs.Parts.{Described, attribute_fields, attribute_named, a
 use Rattle.plans.specs.Plan.{mark}
 use Rattle.plans.proofs.Making.{Making, making_start, Next, making_next, making_full, making_last}
 use Rattle.plans.proofs.put_plan.Goals as goal
-use Rattle.plans.proofs.put_plan.Lts
-use Rattle.plans.proofs.put_plan.Reads
-use Rattle.plans.proofs.put_plan.Tie
+use Rattle.plans.proofs.put_plan.Goals.{In-loop, After-mark_of-more, After-loop}
 
-pub loop-i-init : goal.loop-i-init
-loop-i-init c =
+pub loop-init : goal.loop-init
+loop-init c =
     let a = c.args in
     let p = c.requires in (
       omega arith,
@@ -34,128 +31,127 @@ loop-i-init c =
           (subst (λ (k : ℕ). run (attribute_at a.doc.now) k a.first ≡ ok xs last) (sub_none a.count) e),
     )
 
--- The turn by names.
-abbrev Turn : Type 0
-Turn = Lts.In-loop Tie.the-claims Reads.Pre Reads.Post goal.the-invariant-loop-i goal.the-decreases-loop-i
-
-abbrev Doc : Turn → List ℕ
+abbrev Doc : In-loop → List ℕ
 Doc t = t.args.doc.now
 
-abbrev More : Turn → ℕ
-More t = t.args.count - (t.loop-i.i + 1)
+abbrev More : In-loop → ℕ
+More t = t.args.count - (t.loop.counter + 1)
 
-next_of : (t : Turn) (xs : List Attribute) (last : ℕ) (e : run (attribute_at (Doc t)) t.args.count t.args.first ≡ ok xs last)
-    → (m : Making (Doc t) t.loop-i.steps xs last t.args.from (suc (More t)) t.loop-i.place t.loop-i.j t.loop-i.sum)
-    × Next (Doc t) xs last t.args.from t.loop-i.steps (More t) t.loop-i.place t.loop-i.j t.loop-i.sum m
+next_of : (t : In-loop) (xs : List Attribute) (last : ℕ) (e : run (attribute_at (Doc t)) t.args.count t.args.first ≡ ok xs last)
+    → (m : Making (Doc t) t.loop.steps xs last t.args.from (suc (More t)) t.loop.place t.loop.j t.loop.sum)
+    × Next (Doc t) xs last t.args.from t.loop.steps (More t) t.loop.place t.loop.j t.loop.sum m
 next_of t xs last e =
-    let m = subst (λ (k : ℕ). Making (Doc t) t.loop-i.steps xs last t.args.from k t.loop-i.place t.loop-i.j t.loop-i.sum)
-    (left_suc t.args.count t.loop-i.i t.loop-i-test.true) (t.loop-i.invariant.6 xs last e) in
-    (m, making_next (Doc t) xs last t.args.from t.loop-i.steps (More t) t.loop-i.place t.loop-i.j t.loop-i.sum m)
+    let m = subst (λ (k : ℕ). Making (Doc t) t.loop.steps xs last t.args.from k t.loop.place t.loop.j t.loop.sum)
+    (left_suc t.args.count t.loop.counter t.loop-test.true) (t.loop.invariant.6 xs last e) in
+    (m, making_next (Doc t) xs last t.args.from t.loop.steps (More t) t.loop.place t.loop.j t.loop.sum m)
 
-accepted : (t : Turn) → is_ok (attribute_at (Doc t) t.loop-i.place) ≡ true
+accepted : (t : In-loop) → is_ok (attribute_at (Doc t) t.loop.place) ≡ true
 accepted t = let r = t.requires.5 in ap is_ok (next_of t r.list r.end r.reads).1.reads
 
 -- The mark of the attribute here, and the place behind it.
-abbrev Marked : Type 0
-Marked = Lts.After-mark_of Tie.the-claims Reads.Pre Reads.Post goal.the-invariant-loop-i goal.the-decreases-loop-i
-
-abbrev Kind : Marked → ℕ
+abbrev Kind : After-mark_of-more → ℕ
 Kind s = s.text_skip-kind.result
 
-described : (s : Marked) (a : Attribute) (next : ℕ) → attribute_at (Doc s.before.before.before) s.loop-i.place ≡ ok a next → Described (Doc s.before.before.before) s.loop-i.place a next (Kind s)
-described s a next e = attribute_fields (Doc s.before.before.before) s.loop-i.place (Kind s) s.text_skip-kind.ensures.0 e
+described : (s : After-mark_of-more) (a : Attribute) (next : ℕ) → attribute_at s.args.doc.now s.loop.place ≡ ok a next → Described s.args.doc.now s.loop.place a next (Kind s)
+described s a next e = attribute_fields s.args.doc.now s.loop.place (Kind s) s.text_skip-kind.ensures.0 e
 
-is_mark : (s : Marked) (a : Attribute) (next : ℕ) → attribute_at (Doc s.before.before.before) s.loop-i.place ≡ ok a next → mark (form_of a.kind) ≡ s.mark_of-more.result
+is_mark : (s : After-mark_of-more) (a : Attribute) (next : ℕ) → attribute_at s.args.doc.now s.loop.place ≡ ok a next → mark (form_of a.kind) ≡ s.mark_of-more.result
 is_mark s a next e = sym (s.mark_of-more.ensures.0 ∙ ap mark (s.form_here-form.ensures.0 a.kind next (described s a next e).kind))
 
-is_place : (s : Marked) (a : Attribute) (next : ℕ) → attribute_at (Doc s.before.before.before) s.loop-i.place ≡ ok a next → next ≡ Kind s + 4
+is_place : (s : After-mark_of-more) (a : Attribute) (next : ℕ) → attribute_at s.args.doc.now s.loop.place ≡ ok a next → next ≡ Kind s + 4
 is_place s a next e = (described s a next e).place
 
-sum_small : (s : Marked) → s.loop-i.sum + s.mark_of-more.result ≤ 2080
+sum_small : (s : After-mark_of-more) → s.loop.sum + s.mark_of-more.result ≤ 2080
 sum_small s =
-    let l = s.loop-i.invariant in
-    omega (arith, l.0, l.3, s.requires.1, s.mark_of-more.ensures.1, s.loop-i-test.true)
+    let l = s.loop.invariant in
+    omega (arith, l.0, l.3, s.requires.1, s.mark_of-more.ensures.1, s.loop-test.true)
 
-pub loop-i-preserved-then-more-eq0 : goal.loop-i-preserved-then-more-eq0
-loop-i-preserved-then-more-eq0 c =
-    let l = c.loop-i.invariant in (
-      omega (arith, c.loop-i-test.true),
+pub loop-preserved-then-more-eq0 : goal.loop-preserved-then-more-eq0
+loop-preserved-then-more-eq0 c =
+    let p = goal.at.loop-preserved-then-more-eq0 c in
+    let l = c.loop.invariant in (
+      omega (arith, c.loop-test.true),
       l.1,
       l.2,
       omega (arith, l.3, c.mark_of-more.ensures.1),
       l.4,
       l.5,
       λ xs last e.
-          let (m, n) = next_of c.before.before.before.before.before xs last e in
-          let q = is_mark c.before.before n.attribute n.next n.reads in
-          subst (λ (x : ℕ). Making (Doc c.before.before.before.before.before) c.loop-i.steps xs last c.args.from (More c.before.before.before.before.before) (Kind c.before.before + 4) c.loop-i.j (c.loop-i.sum + x)) q
-          (subst (λ (p : ℕ). Making (Doc c.before.before.before.before.before) c.loop-i.steps xs last c.args.from (More c.before.before.before.before.before) p c.loop-i.j (c.loop-i.sum + mark (form_of n.attribute.kind)))
-          (is_place c.before.before n.attribute n.next n.reads) (n.on (ap (λ (x : ℕ). x % 4) q ∙ c.if-more-eq0.true))),
+          let (m, n) = next_of p.In-loop xs last e in
+          let q = is_mark p.After-mark_of-more n.attribute n.next n.reads in
+          subst (λ (x : ℕ). Making (Doc p.In-loop) c.loop.steps xs last c.args.from (More p.In-loop) (Kind p.After-mark_of-more + 4) c.loop.j (c.loop.sum + x)) q
+          (subst (λ (next : ℕ). Making (Doc p.In-loop) c.loop.steps xs last c.args.from (More p.In-loop) next c.loop.j (c.loop.sum + mark (form_of n.attribute.kind)))
+          (is_place p.After-mark_of-more n.attribute n.next n.reads) (n.on (ap (λ (x : ℕ). x % 4) q ∙ c.if-more-eq0.true))),
     )
 
 -- The steps do not hold the one that the attribute here closes.
 pub returns-then-to-j : goal.returns-then-to-j
 returns-then-to-j c =
-    let l = c.loop-i in (
+    let p = goal.at.returns-then-to-j c in
+    let l = c.loop in (
       λ xs last e.
-          making_full (Doc c.before.before.before.before.before.before) xs last c.args.from l.steps (suc (More c.before.before.before.before.before.before)) l.place l.j l.sum c.args.to (next_of c.before.before.before.before.before.before xs last e).0 c.if-to-j.true,
+          making_full (Doc p.In-loop) xs last c.args.from l.steps (suc (More p.In-loop)) l.place l.j l.sum c.args.to (next_of p.In-loop xs last e).0 c.if-to-j.true,
       l.invariant.5,
       l.invariant.4,
     )
 
-pub loop-i-preserved : goal.loop-i-preserved
-loop-i-preserved c =
-    let l = c.loop-i.invariant in (
-      omega (arith, c.loop-i-test.true),
+pub loop-preserved : goal.loop-preserved
+loop-preserved c =
+    let p = goal.at.loop-preserved c in
+    let l = c.loop.invariant in (
+      omega (arith, c.loop-test.true),
       omega (arith, c.if-to-j.false),
       omega (arith, l.2),
       omega arith,
       simp length-set l.4,
-      take-set-le c.args.from c.loop-i.steps c.loop-i.j (c.loop-i.sum + c.mark_of-more.result) l.2 ∙ l.5,
+      take-set-le c.args.from c.loop.steps c.loop.j (c.loop.sum + c.mark_of-more.result) l.2 ∙ l.5,
       λ xs last e.
-          let (m, n) = next_of c.before.before.before.before.before.before.before xs last e in
-          let q = is_mark c.before.before.before.before n.attribute n.next n.reads in
-          subst (λ (x : ℕ). Making (Doc c.before.before.before.before.before.before.before) (set c.loop-i.steps c.loop-i.j (c.loop-i.sum + x)) xs last c.args.from (More c.before.before.before.before.before.before.before) (Kind c.before.before.before.before + 4) (c.loop-i.j + 1) 0) q
-          (subst (λ (p : ℕ). Making (Doc c.before.before.before.before.before.before.before) (set c.loop-i.steps c.loop-i.j (c.loop-i.sum + mark (form_of n.attribute.kind))) xs last c.args.from (More c.before.before.before.before.before.before.before) p (c.loop-i.j + 1) 0)
-          (is_place c.before.before.before.before n.attribute n.next n.reads) (n.close (λ z. c.if-more-eq0.false (sym (ap (λ (x : ℕ). x % 4) q) ∙ z)) (omega (arith, c.if-to-j.false, l.4, c.requires.3)))),
+          let (m, n) = next_of p.In-loop xs last e in
+          let q = is_mark p.After-mark_of-more n.attribute n.next n.reads in
+          subst (λ (x : ℕ). Making (Doc p.In-loop) (set c.loop.steps c.loop.j (c.loop.sum + x)) xs last c.args.from (More p.In-loop) (Kind p.After-mark_of-more + 4) (c.loop.j + 1) 0) q
+          (subst (λ (next : ℕ). Making (Doc p.In-loop) (set c.loop.steps c.loop.j (c.loop.sum + mark (form_of n.attribute.kind))) xs last c.args.from (More p.In-loop) next (c.loop.j + 1) 0)
+          (is_place p.After-mark_of-more n.attribute n.next n.reads) (n.close (λ z. c.if-more-eq0.false (sym (ap (λ (x : ℕ). x % 4) q) ∙ z)) (omega (arith, c.if-to-j.false, l.4, c.requires.3)))),
     )
 
 -- Behind the last attribute.
-abbrev Left : Type 0
-Left = Lts.After-loop Tie.the-claims Reads.Pre Reads.Post goal.the-invariant-loop-i goal.the-decreases-loop-i
-
-made_all : (c : Left) (xs : List Attribute) (last : ℕ) → run (attribute_at c.args.doc.now) c.args.count c.args.first ≡ ok xs last
-    → Making c.args.doc.now c.loop-i.steps xs last c.args.from 0 c.loop-i.place c.loop-i.j c.loop-i.sum
+made_all : (c : After-loop) (xs : List Attribute) (last : ℕ) → run (attribute_at c.args.doc.now) c.args.count c.args.first ≡ ok xs last
+    → Making c.args.doc.now c.loop.steps xs last c.args.from 0 c.loop.place c.loop.j c.loop.sum
 made_all c xs last e =
-    let l = c.loop-i in
+    let l = c.loop in
     let a = c.args in
-    subst (λ (k : ℕ). Making a.doc.now l.steps xs last a.from k l.place l.j l.sum) (none_left a.count l.i c.loop-i-test.false) (l.invariant.6 xs last e)
+    subst (λ (k : ℕ). Making a.doc.now l.steps xs last a.from k l.place l.j l.sum) (none_left a.count l.counter c.loop-test.false) (l.invariant.6 xs last e)
 
 pub returns-then-to-j-2 : goal.returns-then-to-j-2
 returns-then-to-j-2 c =
-    let l = c.loop-i in
+    let p = goal.at.returns-then-to-j-2 c in
+    let l = c.loop in
     let a = c.args in (
-      λ xs last e. making_full a.doc.now xs last a.from l.steps 0 l.place l.j l.sum a.to (made_all c.before.before xs last e) c.if-to-j-2.true,
+      λ xs last e. making_full a.doc.now xs last a.from l.steps 0 l.place l.j l.sum a.to (made_all p.After-loop xs last e) c.if-to-j-2.true,
       l.invariant.5,
       l.invariant.4,
     )
 
 pub returns : goal.returns
 returns c =
-    let l = c.loop-i in
+    let p = goal.at.returns c in
+    let l = c.loop in
     let a = c.args in (
       λ xs last e.
-          let (ends, stands) = making_last a.doc.now xs last a.from l.steps l.place l.j l.sum (made_all c.before.before.before xs last e) (omega (arith, c.if-to-j-2.false, l.invariant.4, c.requires.3)) in
+          let (ends, stands) = making_last a.doc.now xs last a.from l.steps l.place l.j l.sum (made_all p.After-loop xs last e) (omega (arith, c.if-to-j-2.false, l.invariant.4, c.requires.3)) in
           (ends, omega (arith, c.if-to-j-2.false), stands),
       take-set-le a.from l.steps l.j l.sum l.invariant.2 ∙ l.invariant.5,
       simp length-set l.invariant.4,
     )
 
 pub text_skip-kind-requires : goal.text_skip-kind-requires
-text_skip-kind-requires c = (c.requires.0, attribute_named (Doc c.before) c.loop-i.place (accepted c.before))
+text_skip-kind-requires c =
+    let p = goal.at.text_skip-kind-requires c in
+    (c.requires.0, attribute_named (Doc p.In-loop) c.loop.place (accepted p.In-loop))
 
 pub form_here-form-requires : goal.form_here-form-requires
-form_here-form-requires c = attribute_typed (Doc c.before.before) c.loop-i.place c.text_skip-kind.result c.text_skip-kind.ensures.0 (accepted c.before.before)
+form_here-form-requires c =
+    let p = goal.at.form_here-form-requires c in
+    attribute_typed (Doc p.In-loop) c.loop.place c.text_skip-kind.result c.text_skip-kind.ensures.0 (accepted p.In-loop)
 
 pub mark_of-more-requires : goal.mark_of-more-requires
 mark_of-more-requires c = c.form_here-form.ensures.1
@@ -163,17 +159,15 @@ mark_of-more-requires c = c.form_here-form.ensures.1
 pub overflow_add-place : goal.overflow_add-place
 overflow_add-place c = omega (arith, c.text_skip-kind.ensures.2, c.requires.0)
 
-pub overflow_add-i : goal.overflow_add-i
-overflow_add-i c = omega (arith, c.loop-i-test.true)
-
 pub overflow_add-sum : goal.overflow_add-sum
-overflow_add-sum c = omega (arith, sum_small c.before.before)
-
-pub loop-i-smaller-then-more-eq0 : goal.loop-i-smaller-then-more-eq0
-loop-i-smaller-then-more-eq0 c = omega (arith, c.loop-i-test.true)
+overflow_add-sum c =
+    let p = goal.at.overflow_add-sum c in
+    omega (arith, sum_small p.After-mark_of-more)
 
 pub overflow_add-steps : goal.overflow_add-steps
-overflow_add-steps c = omega (arith, sum_small c.before.before.before)
+overflow_add-steps c =
+    let p = goal.at.overflow_add-steps c in
+    omega (arith, sum_small p.After-mark_of-more)
 
 pub offset_bounds-steps-j : goal.offset_bounds-steps-j
 offset_bounds-steps-j c = omega (arith, c.if-to-j.false, c.requires.3)
@@ -183,9 +177,6 @@ bounds-steps-j c = omega (arith, c.if-to-j.false, c.requires.3)
 
 pub overflow_add-j : goal.overflow_add-j
 overflow_add-j c = omega (arith, c.if-to-j.false, c.requires.3)
-
-pub loop-i-smaller : goal.loop-i-smaller
-loop-i-smaller c = omega (arith, c.loop-i-test.true)
 
 pub offset_bounds-steps-j-2 : goal.offset_bounds-steps-j-2
 offset_bounds-steps-j-2 c = omega (arith, c.if-to-j-2.false, c.requires.3)

@@ -1,5 +1,4 @@
--- `plans::put_plan` meets its contract. The invariant: the steps that stand, with those of the attributes that are left, are the plan.
--- The measure is the attributes to come. Assumes nothing.
+-- `plans::put_plan` meets its contract. The invariant: the steps that stand, with those of the attributes that are left, are the plan. Assumes nothing.
 use Prim.Native.Nat.{ℕ, ◌-◌, ◌*◌, ◌≤◌}
 use mathlib.Core.Path.{◌≡◌}
 use mathlib.Core.List.{List}
@@ -9,9 +8,6 @@ use Rattle.layouts.specs.Layout.{Attribute, attribute_at}
 use Rattle.plans.proofs.Making.{Making}
 use Rattle.plans.proofs.put_plan.Given as goal
 
-abbrev pub invariant-loop-i : goal.invariant-loop-i
-invariant-loop-i l = (l.i ≤ l.count) × (l.j ≤ l.to) × (l.from ≤ l.j) × (l.sum ≤ l.i * 32) × (length l.steps ≡ 1216) × (take l.from l.steps ≡ take l.from l.initial.steps)
-    × ((xs : List Attribute) (last : ℕ) → run (attribute_at l.doc) l.count l.first ≡ ok xs last → Making l.doc l.steps xs last l.from (l.count - l.i) l.place l.j l.sum)
-
-abbrev pub decreases-loop-i : goal.decreases-loop-i
-decreases-loop-i l = l.count - l.i
+abbrev pub invariant-loop : goal.invariant-loop
+invariant-loop l = (l.counter ≤ l.count) × (l.j ≤ l.to) × (l.from ≤ l.j) × (l.sum ≤ l.counter * 32) × (length l.steps ≡ 1216) × (take l.from l.steps ≡ take l.from l.initial.steps)
+    × ((xs : List Attribute) (last : ℕ) → run (attribute_at l.doc) l.count l.first ≡ ok xs last → Making l.doc l.steps xs last l.from (l.count - l.counter) l.place l.j l.sum)

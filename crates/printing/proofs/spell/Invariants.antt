@@ -1,5 +1,5 @@
 -- `printing::spell` meets its contract. The invariant: the digits of what is left, then what stands from there on, are the number's digits.
--- The measure is the room that is left. Assumes nothing.
+-- Assumes nothing.
 use mathlib.Core.Path.{◌≡◌}
 use mathlib.Core.List.{◌++◌}
 use Prim.Native.Nat.{◌≤◌}
@@ -9,6 +9,3 @@ use Rattle.printing.proofs.spell.Given as goal
 
 abbrev pub invariant-loop-i : goal.invariant-loop-i
 invariant-loop-i l = (l.i ≤ 20) × (length l.text ≡ 20) × (digits 20 l.v ≡ digits l.i l.left ++ drop l.i l.text)
-
-abbrev pub decreases-loop-i : goal.decreases-loop-i
-decreases-loop-i l = l.i

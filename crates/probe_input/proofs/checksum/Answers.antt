@@ -17,7 +17,7 @@ done xs h i all = rw (all, drop-length xs) refl
 pub loop-i-preserved : goal.loop-i-preserved
 loop-i-preserved c =
     let l = c.loop-i in
-    (omega arith, further c.args.xs.now l.h l.i c.loop-i-test.true c.wide.ensures c.times_prime-h.ensures ∙ l.invariant.1)
+    (omega arith, further c.args.xs.now l.h l.i c.loop-i-test.true c.from.ensures c.times_prime-h.ensures ∙ l.invariant.1)
 
 pub returns : goal.returns
 returns c =

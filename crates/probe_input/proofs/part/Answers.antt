@@ -2,7 +2,7 @@
 use Rattle.std.proofs.Common.{◌≡◌, ℕ, ◌<◌, List, [], ◌∷◌, ◌++◌, length, refl, arith}
 use Rattle.printing.specs.Text.{spelt, showing}
 use Rattle.printing.specs.declared.Show.TheVariants.{Hex}
-use Rattle.printing.proofs.Puts.{then, says}
+use Rattle.printing.proofs.Pages.{then, says}
 use Rattle.probe_input.specs.Words.{part_text}
 use Rattle.probe_input.proofs.part.Goals as goal
 
@@ -15,7 +15,7 @@ some [] h = absurd (omega arith)
 some (x ∷ xs) h = refl
 
 pub returns-then-xs-eq0 : goal.returns-then-xs-eq0
-returns-then-xs-eq0 c = says (empty c.args.xs.now (omega arith)) (then c.octet-to.ensures c.octet.ensures)
+returns-then-xs-eq0 c = says (empty c.args.xs.now (omega arith)) (then c.octet.ensures c.octet-then-xs-eq0.ensures)
 
 pub returns : goal.returns
-returns c = says (some c.args.xs.now (omega arith)) (then c.octet-to.ensures c.show_all.ensures)
+returns c = says (some c.args.xs.now (omega arith)) (then c.octet.ensures c.show_all.ensures)

@@ -1,12 +1,15 @@
 -- `row_fields::value_at` meets its contract: each type by the number of its width that stands there, signed where the type is. Assumes nothing.
-use Prim.Native.Nat.{ℕ, ◌+◌, ◌≤◌}
-use mathlib.Core.Path.{◌≡◌, refl, sym, ap, ◌∙◌}
+use Prim.Native.Nat.{ℕ, ◌+◌, ◌*◌, ◌^◌, ◌<◌, ◌≤◌}
+use mathlib.Core.Path.{◌≡◌, refl, ap, ◌∙◌}
 use mathlib.Core.List.{List}
 use lib.ListN.{length}
-use mir.Syntax.{w8, w16, w32, w64}
-use mir.ValLaws.{to_z-of_z}
+use lib.IntN.{ℤ}
+use mir.Syntax.{Width, w8, w16, w32, w64}
+use mir.Val.{to_z, of_z, bits}
+use Rattle.std.proofs.lemmas.Int.{of_z-to_z}
 use Rattle.octets.specs.Reading.{be}
-use Rattle.kinds.specs.Kinds.{form_by}
+use Rattle.kinds.specs.Kinds.{form_by, signed}
+use Rattle.kinds.proofs.Signs.{signed_cast}
 use Rattle.kinds.specs.declared.Basic.{Basic}
 use Rattle.kinds.specs.declared.Basic.TheVariants as basic
 use Rattle.kinds.specs.declared.Value.TheVariants as value
@@ -34,6 +37,10 @@ module _ (k : Lts.After-shared_slice_known Tie.the-claims Reads.Pre Reads.Post) 
 
   says : (c : Basic) (w : ℕ) → type ≡ c → Wide (form_by c) w → (v : Stood doc type at) (n : ℕ) → n ≡ be w doc at → numeral c n ≡ value_of type v.value
   says c w told wide v n e = stood_says doc type c at w told wide v n e
+
+-- The signed number that a cast has made of a number of k octets.
+cast : (w : Width) (k : ℕ) → bits w ≡ k * 8 → (n : ℕ) (z : ℤ) → n < 2 ^ bits w → z ≡ to_z w n → to_z w (of_z w z) ≡ signed k n
+cast w k whole n z h e = ap (λ (x : ℤ). to_z w (of_z w x)) e ∙ (ap (to_z w) (of_z-to_z w n h) ∙ signed_cast w k whole n h)
 
 pub u32_at-requires : goal.u32_at-requires
 u32_at-requires c = room c.before.before basic.Int 4 c.in-Int.is refl
@@ -70,14 +77,16 @@ u16_at-requires-in-UnsignedShort c = room c.before.before basic.UnsignedShort 2 
 
 pub returns-in-Int : goal.returns-in-Int
 returns-in-Int c = λ v.
-    ap value.Int (to_z-of_z w32 c.signed32.result (record { sfits = c.signed32.type_inv }) ∙ c.signed32.ensures) ∙ says c.before.before.before.before basic.Int 4 c.in-Int.is refl v _ c.u32_at.ensures
+    ap value.Int (cast w32 4 refl c.u32_at.result _ (c.u32_at.type_inv) c.cast_signed.ensures)
+    ∙ says c.before.before.before.before basic.Int 4 c.in-Int.is refl v _ c.u32_at.ensures
 
 pub returns-in-UnsignedInt : goal.returns-in-UnsignedInt
 returns-in-UnsignedInt c = λ v. says c.before.before.before basic.UnsignedInt 4 c.in-UnsignedInt.is refl v _ c.u32_at-in-UnsignedInt.ensures
 
 pub returns-in-Long : goal.returns-in-Long
 returns-in-Long c = λ v.
-    ap value.Long (to_z-of_z w64 c.signed64.result (record { sfits = c.signed64.type_inv }) ∙ c.signed64.ensures) ∙ says c.before.before.before.before basic.Long 8 c.in-Long.is refl v _ c.u64_at.ensures
+    ap value.Long (cast w64 8 refl c.u64_at.result _ (c.u64_at.type_inv) c.cast_signed-in-Long.ensures)
+    ∙ says c.before.before.before.before basic.Long 8 c.in-Long.is refl v _ c.u64_at.ensures
 
 pub returns-in-UnsignedLong : goal.returns-in-UnsignedLong
 returns-in-UnsignedLong c = λ v. says c.before.before.before basic.UnsignedLong 8 c.in-UnsignedLong.is refl v _ c.u64_at-in-UnsignedLong.ensures
@@ -88,25 +97,21 @@ returns-in-Float c = λ v. says c.before.before.before basic.Float 4 c.in-Float.
 pub returns-in-Double : goal.returns-in-Double
 returns-in-Double c = λ v. says c.before.before.before basic.Double 8 c.in-Double.is refl v _ c.u64_at-in-Double.ensures
 
-pub returns-in-HexBinary : goal.returns-in-HexBinary
-returns-in-HexBinary c = λ v. ap (λ (b : Basic). value_of b v.value) (sym c.in-HexBinary.is)
-
-pub returns-in-String : goal.returns-in-String
-returns-in-String c = λ v. ap (λ (b : Basic). value_of b v.value) (sym c.in-String.is)
-
 pub returns-in-Boolean : goal.returns-in-Boolean
 returns-in-Boolean c = λ v. says c.before.before.before basic.Boolean 1 c.in-Boolean.is refl v _ c.u8_at.ensures
 
 pub returns-in-Byte : goal.returns-in-Byte
 returns-in-Byte c = λ v.
-    ap value.Byte (to_z-of_z w8 c.signed8.result (record { sfits = c.signed8.type_inv }) ∙ c.signed8.ensures) ∙ says c.before.before.before.before basic.Byte 1 c.in-Byte.is refl v _ c.u8_at-in-Byte.ensures
+    ap value.Byte (cast w8 1 refl c.u8_at-in-Byte.result _ (c.u8_at-in-Byte.type_inv) c.cast_signed-in-Byte.ensures)
+    ∙ says c.before.before.before.before basic.Byte 1 c.in-Byte.is refl v _ c.u8_at-in-Byte.ensures
 
 pub returns-in-UnsignedByte : goal.returns-in-UnsignedByte
 returns-in-UnsignedByte c = λ v. says c.before.before.before basic.UnsignedByte 1 c.in-UnsignedByte.is refl v _ c.u8_at-in-UnsignedByte.ensures
 
 pub returns-in-Short : goal.returns-in-Short
 returns-in-Short c = λ v.
-    ap value.Short (to_z-of_z w16 c.signed16.result (record { sfits = c.signed16.type_inv }) ∙ c.signed16.ensures) ∙ says c.before.before.before.before basic.Short 2 c.in-Short.is refl v _ c.u16_at.ensures
+    ap value.Short (cast w16 2 refl c.u16_at.result _ (c.u16_at.type_inv) c.cast_signed-in-Short.ensures)
+    ∙ says c.before.before.before.before basic.Short 2 c.in-Short.is refl v _ c.u16_at.ensures
 
 pub returns-in-UnsignedShort : goal.returns-in-UnsignedShort
 returns-in-UnsignedShort c = λ v. says c.before.before.before basic.UnsignedShort 2 c.in-UnsignedShort.is refl v _ c.u16_at-in-UnsignedShort.ensures

@@ -1,70 +1,54 @@
 -- `row_fields::value_place` meets its contract: the values of the first n attributes end where value n stands; in a row that is accepted they do end. Assumes nothing.
 use native.Mathlib.Omega.{arith}
 use Prim.Native.Nat.{ℕ, ◌+◌, ◌<◌}
-use mathlib.Core.Path.{◌≡◌, sym, ap, ◌∙◌, subst}
+use Rattle.std.specs.Prelude.{Result, Ok, Err}
+use Rattle.std.specs.Result.{result_unwrap_or}
+use mathlib.Core.Path.{◌≡◌, refl, sym, ◌∙◌, subst}
 use mathlib.Core.List.{List}
 use lib.ListN.{length, take}
-use Rattle.octets.specs.Reading.{ok, ends, is_ok, run}
+use Rattle.octets.specs.Reading.{ok, ends, run}
+use Rattle.octets.specs.Answers.{says}
+use Rattle.octets.specs.declared.Refused.{Refused}
 use Rattle.octets.specs.declared.Room.TheVariants.{Stated}
 use Rattle.octets.proofs.Inverse.{ok_value, no_ok}
+use Rattle.texts.specs.Texts.{text}
 use Rattle.layouts.specs.Layout.{Layout, attribute_at, layout_at}
+use Rattle.layouts.specs.Answers.{Has}
 use Rattle.layouts.proofs.Parts.{layout_fields}
-use Rattle.rows.specs.Row.{fields_in}
-use Rattle.octets.specs.Answers.{says}
-use Rattle.octets.specs.declared.Ended.{Ended}
+use Rattle.row_fields.specs.Places.{NthField}
 use Rattle.row_fields.proofs.Line.{run_front, walk, nth_field}
 use Rattle.row_fields.proofs.value_place.Goals as goal
-use Rattle.row_fields.proofs.value_place.Lts
-use Rattle.row_fields.proofs.value_place.Reads
-use Rattle.row_fields.proofs.value_place.Tie
 
 -- The first n attributes of each layout that stands there.
-abbrev Found : Type 0
-Found = Lts.After-attributes_at Tie.the-claims Reads.Pre Reads.Post
+module _ (book : List ℕ) (place n : ℕ) (h : Has book place n) (mid : ℕ) (named : ends (text book (place + 4)) ≡ ok mid mid)
+    (l : Layout) (last : ℕ) (e : layout_at book place ≡ ok l last) where
+  more : n < length l.attributes
+  more = subst (λ (x : Layout). n < length x.attributes) (ok_value h.reads e) h.more
 
-abbrev Book : Found → List ℕ
-Book f = f.args.book.now
+  first : (p : ℕ) × (run (attribute_at book) n (mid + 4) ≡ ok (take n l.attributes) p)
+  first = run_front (attribute_at book) n _ (mid + 4) last l.attributes (layout_fields book place mid named e).attributes (omega (arith, more))
 
-abbrev N : Found → ℕ
-N f = f.args.n
-
-module _ (f : Found) (l : Layout) (last : ℕ) (e : layout_at (Book f) f.args.place ≡ ok l last) where
-  more : N f < length l.attributes
-  more = subst (λ (x : Layout). N f < length x.attributes) (ok_value f.requires.4.reads e) f.requires.4.more
-
-  first : (p : ℕ) × (run (attribute_at (Book f)) (N f) (f.attributes_at-attributes.result + 4) ≡ ok (take (N f) l.attributes) p)
-  first =
-      run_front (attribute_at (Book f)) (N f) _ (f.attributes_at-attributes.result + 4) last l.attributes
-      (layout_fields (Book f) f.args.place f.attributes_at-attributes.result f.attributes_at-attributes.ensures.0 e).attributes (omega (arith, more))
+-- The place that was answered, or another in its stead.
+placed : (x : Result ℕ Refused) (other p : ℕ) → says x ≡ ok p p → result_unwrap_or x other ≡ p
+placed (Ok q) other p e = ok_value refl e
+placed (Err r) other p e = absurd (no_ok refl e)
 
 pub fields_end-values-requires : goal.fields_end-values-requires
 fields_end-values-requires c =
+    let a = c.args in
     let p = c.requires in
     let h = p.4 in
-    let (end, reads) = first c.before h.layout h.end h.reads in
-    (p.0, p.1, p.2, p.3, record { list = take (N c.before) h.layout.attributes; end = end; reads = reads })
+    let (end, reads) = first a.book.now a.place a.n h c.attributes_at-attributes.result c.attributes_at-attributes.ensures.0 h.layout h.end h.reads in
+    (p.0, p.1, p.2, p.3, record { list = take a.n h.layout.attributes; end = end; reads = reads })
 
--- Where the values of the first n attributes end, by what was answered.
-abbrev Walked : Type 0
-Walked = Lts.After-fields_end Tie.the-claims Reads.Pre Reads.Post
-
-told : (v : Walked) (x : Ended) → v.fields_end-values.result ≡ x → (l : Layout) (last : ℕ) → layout_at (Book v.before) v.args.place ≡ ok l last
-    → ends (fields_in (Stated v.args.end 0) (take (N v.before) l.attributes) v.args.doc.now v.args.first)
-    ≡ says x
-told v x q l last e =
-    let (p, reads) = first v.before l last e in
-    sym (v.fields_end-values.ensures.0 (take (N v.before) l.attributes) p reads) ∙ ap says q
-
-pub returns-in-End : goal.returns-in-End
-returns-in-End c = λ l last fields e r.
+-- In an accepted row the values of the first n attributes do end.
+pub returns : goal.returns
+returns c = λ l last fields e r.
     let a = c.args in
-    nth_field a.doc.now a.end a.first a.n _ l.attributes fields r (more c.before.before.before l last e) (told c.before.before _ c.in-End.is l last e)
-
--- In an accepted row no value is refused.
-pub returns-in-Refused : goal.returns-in-Refused
-returns-in-Refused c = λ l last fields e r.
-    let a = c.args in
-    absurd (no_ok (told c.before.before _ c.in-Refused.is l last e) (walk (Stated a.end 0) a.doc.now a.n l.attributes a.first a.end fields r (more c.before.before.before l last e)).before)
-
-pub attributes_at-attributes-requires : goal.attributes_at-attributes-requires
-attributes_at-attributes-requires c = let p = c.requires in (p.3, ap is_ok p.4.reads)
+    let h = c.requires.4 in
+    let more = more a.book.now a.place a.n h c.attributes_at-attributes.result c.attributes_at-attributes.ensures.0 l last e in
+    let (p, reads) = first a.book.now a.place a.n h c.attributes_at-attributes.result c.attributes_at-attributes.ensures.0 l last e in
+    let w = walk (Stated a.end 0) a.doc.now a.n l.attributes a.first a.end fields r more in
+    let there = placed c.fields_end-values.result a.end w.place (c.fields_end-values.ensures.0 (take a.n l.attributes) p reads ∙ w.before) in
+    subst (NthField a.doc.now a.end l.attributes fields a.n) (sym (c.unwrap_or.ensures ∙ there))
+    (nth_field a.doc.now a.end a.first a.n w.place l.attributes fields r more w.before)

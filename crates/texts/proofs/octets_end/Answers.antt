@@ -1,6 +1,7 @@
 -- `texts::octets_end` meets its contract: each return by a law of `octets_in`. Assumes nothing.
 use native.Mathlib.Omega.{arith}
 use Prim.Native.Nat.{ℕ}
+use Rattle.std.specs.Prelude.{Err}
 use mathlib.Core.List.{List}
 use mathlib.Core.Path.{sym, ap, ◌∙◌}
 use Rattle.octets.specs.Reading.{ok, reach, ends}
@@ -13,7 +14,7 @@ returns-then-end-at c =
     let a = c.args in
     let o = c.overrun.ensures in (
       o ∙ sym (ap ends (octets_cut a.room a.s.now a.at (omega (arith, c.reach-end.ensures))) ∙ overrun_ends (List ℕ) a.room a.at),
-      overrun_behind c.overrun.result a.room a.at (reach a.room a.s.now) o,
+      overrun_behind (Err c.overrun.result) a.room a.at (reach a.room a.s.now) o,
     )
 
 pub returns-then-end-next : goal.returns-then-end-next
@@ -22,7 +23,7 @@ returns-then-end-next c =
     let r = c.reach-end.ensures in
     let o = c.overrun-then-end-next.ensures in (
       o ∙ sym (ap ends (octets_over a.room a.s.now a.at (omega (arith, r)) (omega (arith, r, c.led_behind-next.ensures))) ∙ overrun_ends (List ℕ) a.room a.at),
-      overrun_behind c.overrun-then-end-next.result a.room a.at (reach a.room a.s.now) o,
+      overrun_behind (Err c.overrun-then-end-next.result) a.room a.at (reach a.room a.s.now) o,
     )
 
 pub returns : goal.returns

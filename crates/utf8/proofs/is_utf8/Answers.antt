@@ -24,13 +24,13 @@ returns-in_default c =
 pub loop-i-smaller : goal.loop-i-smaller
 loop-i-smaller c =
     let a = c.args in
-    let on = utf8_on a.s.now c.loop-i.i a.to (omega arith) (omega arith) c.in-To.next c.in-To.is c.pass.ensures in
+    let on = utf8_on a.s.now c.loop-i.i a.to (omega arith) (omega arith) c.in-Some.next c.in-Some.is c.pass.ensures in
     omega (arith, on.0, on.1)
 
 pub loop-i-preserved : goal.loop-i-preserved
 loop-i-preserved c =
     let a = c.args in
-    let on = utf8_on a.s.now c.loop-i.i a.to (omega arith) (omega arith) c.in-To.next c.in-To.is c.pass.ensures in
+    let on = utf8_on a.s.now c.loop-i.i a.to (omega arith) (omega arith) c.in-Some.next c.in-Some.is c.pass.ensures in
     (omega (arith, on.0), on.1, c.loop-i.invariant.2 ∙ on.2)
 
 pub returns : goal.returns

@@ -5,7 +5,7 @@ use mathlib.Core.List.{[], ◌∷◌}
 use mathlib.Core.Option.{some}
 use Rattle.utf8.specs.Utf8.{tail, forms, opens}
 use Rattle.utf8.specs.Answers.{Passes}
-use Rattle.utf8.specs.declared.Passed.TheVariants.{None}
+use Rattle.std.specs.Prelude.{None}
 use Rattle.utf8.proofs.Characters.{by_line, spells_none, step_inside, step_pass, step_none}
 use Rattle.utf8.proofs.pass_rest.Goals as goal
 

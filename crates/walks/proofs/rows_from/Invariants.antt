@@ -5,16 +5,16 @@ use mathlib.Core.Path.{◌≡◌}
 use mathlib.Core.List.{List, []}
 use lib.ListN.{length}
 use Rattle.elements.specs.Walk.{Seen, spot_at}
-use Rattle.walks.specs.declared.Tally.{Tally}
+use Rattle.walks.specs.declared.Known.{Known}
 use Rattle.walks.proofs.Ways.{OnWay}
 use Rattle.walks.proofs.rows_from.Given as goal
 
 -- A way from the start, whatever it passed.
-abbrev pub Going : List ℕ → ℕ → List ℕ → List ℕ → List ℕ → Tally → ℕ → ℕ → ℕ → Type 0
-Going s at numbers places steps t pos rows used = (passed : List Seen) × OnWay s (spot_at at 0 []) passed s numbers places steps t pos rows used
+abbrev pub Going : List ℕ → ℕ → Known → ℕ → ℕ → ℕ → Type 0
+Going s at k pos rows used = (passed : List Seen) × OnWay s (spot_at at 0 []) passed s k pos rows used
 
 abbrev pub invariant-loop-next : goal.invariant-loop-next
-invariant-loop-next l = Going l.doc l.at l.numbers l.places l.steps l.tally l.pos l.rows l.used × (length l.words ≡ 1)
+invariant-loop-next l = Going l.doc l.at l.known l.pos l.rows l.used × (length l.words ≡ 1)
 
 abbrev pub decreases-loop-next : goal.decreases-loop-next
 decreases-loop-next l = length l.doc - l.pos

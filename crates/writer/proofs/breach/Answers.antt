@@ -1,31 +1,28 @@
--- `writer::breach` meets its contract: the rule is asked of all the octets. Assumes nothing.
-use mathlib.Core.Path.{◌≡◌, sym, ap, ◌∙◌}
-use mathlib.Core.Bool.{Bool, true, false}
+-- `writer::breach` meets its contract: the rule of a string is asked of all the octets. Assumes nothing.
+use mathlib.Core.Path.{◌≡◌, refl, sym, ap, ◌∙◌}
+use mathlib.Core.Bool.{Bool}
 use mathlib.Core.List.{List}
 use Prim.Native.Nat.{ℕ, ◌-◌}
 use lib.ListN.{length}
 use Rattle.octets.specs.Reading.{part}
 use Rattle.octets.proofs.Copies.{rest}
-use Rattle.texts.specs.Texts as texts
-use Rattle.writing_parts.specs.declared.Fault.TheVariants.{Refused}
+use Rattle.utf8.specs.Utf8.{utf8}
+use Rattle.texts.specs.declared.Rule.{Rule}
+use Rattle.texts.specs.declared.Rule.TheVariants.{Characters}
 use Rattle.writing_parts.specs.Faults.{unless}
+use Rattle.writer.specs.Writer.{breach}
 use Rattle.writer.proofs.breach.Goals as goal
-use Rattle.writer.proofs.breach.Lts
-use Rattle.writer.proofs.breach.Reads
-use Rattle.writer.proofs.breach.Tie
 
 all_of : (xs : List ℕ) → part xs 0 (length xs - 0) ≡ xs
 unfolding part
 all_of xs = rest xs 0
 
 -- What the test said, of the octets themselves.
-told : (h : Lts.After-rule_holds Tie.the-claims Reads.Pre Reads.Post) (b : Bool) → h.rule_holds.result ≡ b → let a = h.args in texts.holds a.rule a.xs.now ≡ b
-told h b e = let a = h.args in sym (ap (texts.holds a.rule) (all_of a.xs.now)) ∙ (sym h.rule_holds.ensures ∙ e)
+tested : (xs : List ℕ) {rule : Rule} {u t : Bool} → rule ≡ Characters → u ≡ utf8 (part xs 0 (length xs - 0)) → u ≡ t → unless t 24 ≡ breach rule xs
+tested xs e said is = rw (e, ← sym is ∙ (said ∙ ap utf8 (all_of xs))) refl
 
-pub returns-then-rule_holds : goal.returns-then-rule_holds
-returns-then-rule_holds c = let a = c.args in sym (ap (λ (b : Bool). unless b (texts.fault a.rule)) (told c.before.before true c.if-rule_holds.true))
+pub returns-then-is_utf8 : goal.returns-then-is_utf8
+returns-then-is_utf8 c = tested c.args.xs.now c.in-Characters.is c.is_utf8.ensures c.if-is_utf8.true
 
-pub returns-else-rule_holds : goal.returns-else-rule_holds
-returns-else-rule_holds c =
-    let a = c.args in
-    ap Refused c.fault_of.ensures ∙ sym (ap (λ (b : Bool). unless b (texts.fault a.rule)) (told c.before.before.before false c.if-rule_holds.false))
+pub returns-else-is_utf8 : goal.returns-else-is_utf8
+returns-else-is_utf8 c = tested c.args.xs.now c.in-Characters.is c.is_utf8.ensures c.if-is_utf8.false

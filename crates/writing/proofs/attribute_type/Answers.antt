@@ -2,7 +2,7 @@
 use mathlib.Core.Path.{◌≡◌, refl}
 use Prim.Native.Nat.{ℕ, ◌+◌}
 use Rattle.octets.specs.Writing.{word}
-use Rattle.writing_parts.specs.declared.Fault.{Fault}
+use Rattle.writing_parts.specs.Faults.{Fault}
 use Rattle.writer.specs.declared.Wanted.TheVariants as wants
 use Rattle.writer.specs.declared.State.{State}
 use Rattle.writer.specs.Writer.{does, attributes}
@@ -17,4 +17,4 @@ pub returns : goal.returns
 unfolding call_leaves does
 returns c =
     let a = c.args in
-    gave a.s a.buf.now a.book.now a.used c.give_attribute.ensures (same a.s a.t (c.type_fault-fault.ensures a.s.place (a.s.place + 4)) c.less_one-count.ensures)
+    gave a.from.state a.buf.now a.book.now a.from.used c.give_attribute.ensures (same a.from.state a.t (c.type_fault-fault.ensures a.from.state.place (a.from.state.place + 4)) c.saturating_sub-more.ensures)

@@ -2,11 +2,15 @@
 use borrow.Author.Tests.{le-leb}
 use native.Mathlib.Omega.{arith}
 use Prim.Native.Nat.{ℕ, ◌+◌, ◌-◌, ◌≤◌}
-use mathlib.Core.Path.{◌≡◌, refl, sym, ◌∙◌}
+use mathlib.Core.Path.{◌≡◌, refl, sym, ap, ◌∙◌}
 use mathlib.Core.Bool.{Bool}
 use mathlib.Core.List.{List}
 use lib.ListN.{length}
+use Rattle.std.proofs.Common.{rules}
+use Rattle.std.specs.Prelude.{Result, Ok}
 use lib.Dec.{ltb}
+use Rattle.octets.specs.declared.Fault as octets
+use Rattle.octets.specs.declared.Refused.{Refused}
 use Rattle.octets.specs.Reading.{be}
 use Rattle.octets.specs.Writing.{over, Each, Octet}
 use Rattle.octets.proofs.Spans.{each_octet}
@@ -14,28 +18,27 @@ use Rattle.layouts.specs.Book.{find, book_in}
 use Rattle.rows.specs.Row.{length_image}
 use Rattle.writing_parts.specs.Answers.{next_of}
 use Rattle.writing_parts.specs.declared.Next.{Next}
-use Rattle.writing_parts.specs.declared.Fault.{Fault}
-use Rattle.writing_parts.specs.declared.Fault.TheVariants as faults
+use Rattle.writing_parts.specs.Faults.{Fault, faulted, fine}
+use Rattle.writing_parts.specs.Faults as faults
 use Rattle.writer.specs.declared.Wanted.TheVariants as wants
 use Rattle.writer.specs.declared.State.{State}
-use Rattle.writer.specs.declared.Answer.TheVariants.{Done, Refused}
 use Rattle.writer.specs.Writer.{room, same_turn, between, row_layout, does, close_row}
 use Rattle.writer.specs.Answers.{left, early, call_leaves}
+use Rattle.writer.specs.Answers as answers
 use Rattle.writer.specs.Own.{close_fault}
 use Rattle.writer.proofs.Tests.{leaves_fault, leaves_put, stopped, passed, ready, length_size}
 use Rattle.writer.proofs.Values.{close_own}
 use Rattle.giving.proofs.Values.{InRow, in_row}
+use Rattle.writing_parts.proofs.Placed.{Placed, placed_ok}
+use Rattle.writing.proofs.Stops.{stops}
 use Rattle.writing.proofs.close_row.Goals as goal
-use Rattle.writing.proofs.close_row.Lts
-use Rattle.writing.proofs.close_row.Reads
-use Rattle.writing.proofs.close_row.Tie
 
 module _ (s : State) (b l : List ℕ) (used : ℕ) (r : Fault) (is : r ≡ early s (length b) l used (same_turn s.turn wants.Value)) where
-  first : (k : ℕ) → r ≡ faults.Refused k → left (Refused k s.place) b l ≡ call_leaves s b l used close_row
+  first : (k : ℕ) → r ≡ faults.Refused k → left (answers.refused k s.place) b l ≡ call_leaves s b l used close_row
   unfolding call_leaves does
   first = stopped s b l used (does s b (book_in l used) close_row) r is
 
-  module _ (e : r ≡ faults.None) where
+  module _ (e : r ≡ fine) where
     inside : Each Octet l → InRow s (length b) l used
     inside o = in_row s (length b) l used o (ready s (length b) l used (same_turn s.turn wants.Value) (sym is ∙ e))
 
@@ -44,14 +47,14 @@ module _ (s : State) (b l : List ℕ) (used : ℕ) (r : Fault) (is : r ≡ early
       unfolding does row_layout
       fault = sym (k ∙ rw j (close_own (find (be 4 b (s.start + 4)) (book_in l used)) s.count))
 
-      refused : (m : ℕ) → f ≡ faults.Refused m → left (Refused m s.place) b l ≡ call_leaves s b l used close_row
+      refused : (m : ℕ) → f ≡ faults.Refused m → left (answers.refused m s.place) b l ≡ call_leaves s b l used close_row
       unfolding call_leaves does
       refused m g =
           sym (passed s b l used (does s b (book_in l used) close_row) r is e ∙ leaves_fault s b l used (does s b (book_in l used) close_row) m (fault ∙ g))
 
-      done : f ≡ faults.None → s.start + 12 ≤ s.place → s.place ≤ room (length b) → {y : List ℕ}
+      done : f ≡ fine → s.start + 12 ≤ s.place → s.place ≤ room (length b) → {y : List ℕ}
           → y ≡ over b (s.start + 8) (length_image (ltb (be 4 b (s.start + 8)) 0xffffffff) (s.place - (s.start + 12)))
-          → left (Done (between s.place (s.rows + 1)) used) y l ≡ call_leaves s b l used close_row
+          → left (answers.done (between s.place (s.rows + 1)) used) y l ≡ call_leaves s b l used close_row
       unfolding call_leaves does
       done g h p q =
           let stated : Bool = ltb (be 4 b (s.start + 8)) 0xffffffff in
@@ -60,36 +63,63 @@ module _ (s : State) (b l : List ℕ) (used : ℕ) (r : Fault) (is : r ≡ early
           ∙ leaves_put s b l used (does s b (book_in l used) close_row) (fault ∙ g) refl
           (le-leb (s.start + 8 + length (length_image stated (s.place - (s.start + 12)))) (room (length b)) (omega arith))))
 
-pub returns-in-Refused : goal.returns-in-Refused
-returns-in-Refused c =
+pub returns-in_err-map_err : goal.returns-in_err-map_err
+returns-in_err-map_err c =
     let a = c.args in
-    first a.s a.buf.now a.book.now a.used c.in_turn-first.result c.in_turn-first.ensures c.in-Refused.n c.in-Refused.is
+    let r = c.in_turn in
+    let placed : Placed a.from.state.place r.result c.map_err.result = search rules in
+    stops a.buf.now a.book.now a.from.state.place r.result placed c.in_err-map_err.was (search rules)
+    (first a.from.state a.buf.now a.book.now a.from.used (faulted r.result) r.ensures)
 
 -- What holds where 17 and 20 are not given.
-behind : (e : Lts.Past-After-enum_told Tie.the-claims Reads.Pre Reads.Post) → InRow e.args.s (length e.args.buf.now)
-    e.args.book.now e.args.used
-behind e =
-    let a = e.args in
-    inside a.s a.buf.now a.book.now a.used e.in_turn-first.result e.in_turn-first.ensures e.in_default.is (each_octet a.book.now e.shared_slice_known-1.given)
+passed_early : (s : State) (b l : List ℕ) (used : ℕ) (r : Result (Unit {0}) octets.Fault) {m : Result (Unit {0}) Refused} {u : Unit {0}}
+    → faulted r ≡ early s (length b) l used (same_turn s.turn wants.Value) → Placed s.place r m → m ≡ Ok u → Each Octet l → (faulted r ≡ fine) × InRow s (length b) l used
+passed_early s b l used r is placed e o =
+    let none : faulted r ≡ fine = ap faulted (placed_ok s.place r placed e) in
+    (none, inside s b l used (faulted r) is none o)
 
 pub row_next-next-requires : goal.row_next-next-requires
 unfolding room
-row_next-next-requires c = let w = behind c.before in (omega arith, w.book)
-
-pub returns-in-Refused-fault : goal.returns-in-Refused-fault
-returns-in-Refused-fault c =
+row_next-next-requires c =
     let a = c.args in
-    refused a.s a.buf.now a.book.now a.used c.in_turn-first.result c.in_turn-first.ensures c.in_default.is c.close_fault-fault.result c.row_next-next.ensures c.close_fault-fault.ensures c.in-Refused-fault.n c.in-Refused-fault.is
+    let r = c.in_turn in
+    let placed : Placed a.from.state.place r.result c.map_err.result = search rules in
+    let (_, w) = passed_early a.from.state a.buf.now a.book.now a.from.used r.result r.ensures placed c.in_ok-map_err.was (each_octet a.book.now c.type_inv.book) in
+    (omega arith, w.book)
+
+pub returns-in_err-map_err-2 : goal.returns-in_err-map_err-2
+returns-in_err-map_err-2 c =
+    let a = c.args in
+    let r = c.in_turn in
+    let f = c.close_fault in
+    let placed : Placed a.from.state.place r.result c.map_err.result = search rules in
+    let own : Placed a.from.state.place f.result c.map_err-2.result = search rules in
+    stops a.buf.now a.book.now a.from.state.place f.result own c.in_err-map_err-2.was (search rules)
+    (refused a.from.state a.buf.now a.book.now a.from.used (faulted r.result) r.ensures (ap faulted (placed_ok a.from.state.place r.result placed c.in_ok-map_err.was)) (faulted f.result) c.row_next-next.ensures f.ensures)
 
 pub lay_length-requires : goal.lay_length-requires
 unfolding room
-lay_length-requires c = let w = behind c.before.before.before.before.before in (w.head, omega arith)
+lay_length-requires c =
+    let a = c.args in
+    let r = c.in_turn in
+    let placed : Placed a.from.state.place r.result c.map_err.result = search rules in
+    let (_, w) = passed_early a.from.state a.buf.now a.book.now a.from.used r.result r.ensures placed c.in_ok-map_err.was (each_octet a.book.now c.type_inv.book) in
+    (w.head, omega arith)
 
 pub returns : goal.returns
 returns c =
     let a = c.args in
-    let w = behind c.before.before.before.before.before.before.before.before in
-    done a.s a.buf.now a.book.now a.used c.in_turn-first.result c.in_turn-first.ensures c.in_default.is c.close_fault-fault.result c.row_next-next.ensures c.close_fault-fault.ensures c.in_default-fault.is w.head w.place c.lay_length.ensures
+    let r = c.in_turn in
+    let f = c.close_fault in
+    let placed : Placed a.from.state.place r.result c.map_err.result = search rules in
+    let own : Placed a.from.state.place f.result c.map_err-2.result = search rules in
+    let (none, w) = passed_early a.from.state a.buf.now a.book.now a.from.used r.result r.ensures placed c.in_ok-map_err.was (each_octet a.book.now c.type_inv.book) in
+    done a.from.state a.buf.now a.book.now a.from.used (faulted r.result) r.ensures none (faulted f.result) c.row_next-next.ensures f.ensures (ap faulted (placed_ok a.from.state.place f.result own c.in_ok-map_err-2.was)) w.head w.place c.lay_length.ensures
 
-pub overflow_add-result : goal.overflow_add-result
-overflow_add-result c = let w = behind c.before.before.before.before.before.before.before.before in omega arith
+pub overflow_add-state : goal.overflow_add-state
+overflow_add-state c =
+    let a = c.args in
+    let r = c.in_turn in
+    let placed : Placed a.from.state.place r.result c.map_err.result = search rules in
+    let (_, w) = passed_early a.from.state a.buf.now a.book.now a.from.used r.result r.ensures placed c.in_ok-map_err.was (each_octet a.book.now c.type_inv.book) in
+    omega arith

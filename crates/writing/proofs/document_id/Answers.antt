@@ -17,5 +17,5 @@ pub returns : goal.returns
 unfolding call_leaves does
 returns c =
     let a = c.args in
-    gave a.s a.buf.now a.book.now a.used c.give.ensures
-    (same_put a.s wants.DocumentId a.s.start c.sixteen-fault.ensures (image a.xs.now c.word4-head.ensures) refl refl)
+    gave a.from.state a.buf.now a.book.now a.from.used c.give.ensures
+    (same_put a.from.state wants.DocumentId a.from.state.start c.sixteen.ensures (image a.xs.now c.word4-head.ensures) refl refl)

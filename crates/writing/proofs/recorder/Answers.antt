@@ -15,5 +15,5 @@ unfolding call_leaves does led_image
 returns c =
     let a = c.args in
     let xs = a.xs.now in
-    gave a.s a.buf.now a.book.now a.used c.give_pair.ensures
-    (same_put a.s wants.Recorder a.s.start c.breach.ensures (append_assoc (word 4 4) (word 4 (length xs)) xs) refl refl)
+    gave a.from.state a.buf.now a.book.now a.from.used c.give_pair.ensures
+    (same_put a.from.state wants.Recorder a.from.state.start c.breach.ensures (append_assoc (word 4 4) (word 4 (length xs)) xs) refl refl)

@@ -40,13 +40,13 @@ returns-then-suits_octets c =
     let a = c.args in
     let xs = a.xs.now in
     c.value_octets.ensures
-    ∙ ap (call_leaves a.s a.buf.now a.book.now a.used)
+    ∙ ap (call_leaves a.from.state a.buf.now a.book.now a.from.used)
     (octets_given a.v xs c.basic_of_value-b.result c.basic_of_value-b.ensures (sym (c.suits_octets.ensures xs) ∙ c.if-suits_octets.true))
 
-pub returns : goal.returns
-returns c =
+pub returns-else-suits_octets : goal.returns-else-suits_octets
+returns-else-suits_octets c =
     let a = c.args in
     let xs = a.xs.now in
     c.value_number.ensures
-    ∙ ap (call_leaves a.s a.buf.now a.book.now a.used)
+    ∙ ap (call_leaves a.from.state a.buf.now a.book.now a.from.used)
     (number_given a.v xs c.basic_of_value-b.result c.basic_of_value-b.ensures c.bits_of_value.ensures (sym (c.suits_octets.ensures xs) ∙ c.if-suits_octets.false))

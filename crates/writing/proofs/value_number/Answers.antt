@@ -10,6 +10,6 @@ use Rattle.writing.proofs.value_number.Goals as goal
 pub returns : goal.returns
 returns c =
     let a = c.args in
-    let width = c.width_of-from.ensures in
+    let width = c.width_of-first.ensures in
     c.give_value.ensures (bits a.n) c.suits_number-fits.ensures (number_free (form_by a.b) a.n)
-    (λ _. append-nil _ ∙ (number_octets c.width_of-from.result a.n width.1 c.word8-head.ensures ∙ rw width.0 (number_image (form_by a.b) a.n)))
+    (λ _. append-nil _ ∙ (number_octets c.width_of-first.result a.n width.1 c.word8-head.ensures ∙ rw width.0 (number_image (form_by a.b) a.n)))

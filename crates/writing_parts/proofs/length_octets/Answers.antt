@@ -1,11 +1,8 @@
--- `writing_parts::length_octets` meets its contract: the test is the definition's. Assumes nothing.
+-- `writing_parts::length_octets` meets its contract: the four octets FF are a length that is not stated. Assumes nothing.
 use mathlib.Core.Path.{refl}
 use Rattle.octets.specs.Writing.{word}
 use Rattle.writing_parts.proofs.length_octets.Goals as goal
 
-pub returns-then-stated : goal.returns-then-stated
-returns-then-stated c = rw c.if-stated.true c.word4.ensures
-
-pub returns : goal.returns
+pub returns-else-stated : goal.returns-else-stated
 unfolding word
-returns c = rw c.if-stated.false refl
+returns-else-stated c = rw c.if-stated.false refl

@@ -1,18 +1,14 @@
 -- `writing_parts::next_at` meets its contract: there are no more attributes, or attribute n has its type. Assumes nothing.
 use native.Mathlib.Omega.{arith}
-use Prim.Native.Nat.{ℕ, ◌-◌, ◌≤◌, ◌<◌}
+use Prim.Native.Nat.{ℕ, ◌-◌, ◌<◌}
 use mathlib.Core.Path.{◌≡◌, refl, sym, ap}
 use mathlib.Core.List.{List, [], ◌∷◌}
-use lib.ListN.{length, drop, length-drop, drop_of_length-le}
-use Rattle.octets.specs.Reading.{is_ok}
+use lib.ListN.{length, drop, length-drop}
 use Rattle.kinds.specs.declared.Kind.{Kind}
 use Rattle.layouts.specs.Layout.{Attribute}
 use Rattle.writing_parts.specs.Answers.{first_of}
-use Rattle.writing_parts.specs.declared.Next.TheVariants.{Missing, Of}
+use Rattle.writing_parts.specs.declared.Next.TheVariants.{Of}
 use Rattle.writing_parts.proofs.next_at.Goals as goal
-
-past : (xs : List Attribute) (n : ℕ) → length xs ≤ n → Missing ≡ first_of (drop n xs)
-past xs n h = rw (drop_of_length-le xs h) refl
 
 inside : (xs : List Attribute) (n : ℕ) (k : Kind) → n < length xs → ((a : Attribute) (more : List Attribute) → drop n xs ≡ a ∷ more → k ≡ a.kind)
     → Of k.basic ≡ first_of (drop n xs)
@@ -22,22 +18,7 @@ inside xs n k h f = go (drop n xs) refl (length-drop n xs)
     go [] e l = let z : 0 ≡ length (drop n xs) = ap length (sym e) in absurd (omega arith)
     go (a ∷ more) e l = ap (λ (x : Kind). Of x.basic) (f a more e)
 
-pub returns-then-attribute_count-n : goal.returns-then-attribute_count-n
-returns-then-attribute_count-n c = λ l end e.
-    let n = c.attribute_count.ensures l end e in
-    past l.attributes c.args.n (omega (arith, c.if-attribute_count-n.true))
-
-pub attribute_kind-kind-requires : goal.attribute_kind-kind-requires
-attribute_kind-kind-requires c =
-    let p = c.requires in
-    let r = p.1 in
-    let n = c.attribute_count.ensures r.layout r.next r.reads in
-    (p.0, record { layout = r.layout; end = r.next; reads = r.reads; more = omega (arith, c.if-attribute_count-n.false) })
-
 pub returns : goal.returns
 returns c = λ l end e.
     let n = c.attribute_count.ensures l end e in
     inside l.attributes c.args.n c.attribute_kind-kind.result (omega (arith, c.if-attribute_count-n.false)) (λ a more q. c.attribute_kind-kind.ensures l end a more e q)
-
-pub attribute_count-requires : goal.attribute_count-requires
-attribute_count-requires c = let p = c.requires in (p.0, ap is_ok p.1.reads)

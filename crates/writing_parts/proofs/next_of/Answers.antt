@@ -1,5 +1,5 @@
 -- `writing_parts::next_of` meets its contract: the field of the layout found. Assumes nothing.
-use mathlib.Core.Path.{◌≡◌, refl, sym, subst}
+use mathlib.Core.Path.{◌≡◌, sym, subst}
 use lib.ListN.{length, take}
 use Rattle.octets.specs.Writing.{Each, Octet}
 use Rattle.octets.proofs.Spans.{each_octet}
@@ -13,11 +13,11 @@ use Rattle.writing_parts.proofs.next_of.Reads
 use Rattle.writing_parts.proofs.next_of.Tie
 
 -- What was found, whichever answer it gave.
-found : (f : Lts.After-find Tie.the-claims Reads.Pre Reads.Post) (x : Looked) → f.find-looked.result ≡ x
+found : (f : Lts.After-find Tie.the-claims Reads.Pre Reads.Post) (x : Looked) → f.find.result ≡ x
     → Looks (take f.args.used f.args.book.now) f.args.number (book_in f.args.book.now f.args.used) x
 found f x e =
     let a = f.args in
-    subst (Looks (take a.used a.book.now) a.number (book_in a.book.now a.used)) e f.find-looked.ensures
+    subst (Looks (take a.used a.book.now) a.number (book_in a.book.now a.used)) e f.find.ensures
 
 -- Where the octets of the book are known.
 octets : (k : Lts.After-shared_slice_known Tie.the-claims Reads.Pre Reads.Post) → Each Octet k.args.book.now
@@ -30,14 +30,6 @@ pub next_at-requires : goal.next_at-requires
 next_at-requires c =
     let w = found c.before.before _ c.in-There.is in
     (used_small c.args.book.now c.args.used (octets c.before.before.before) c.requires, record { layout = w.layout; next = w.next; reads = w.reads })
-
-pub returns-in-There : goal.returns-in-There
-returns-in-There c =
-    let w = found c.before.before.before _ c.in-There.is in
-    rw w.found (c.next_at.ensures w.layout w.next w.reads)
-
-pub returns-in-Missing : goal.returns-in-Missing
-returns-in-Missing c = rw (found c.before.before _ c.in-Missing.is).0 refl
 
 pub slice_bounds-next_at-end : goal.slice_bounds-next_at-end
 slice_bounds-next_at-end c = long c.before.before.before
