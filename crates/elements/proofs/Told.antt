@@ -66,9 +66,6 @@ module _ (s : List ℕ) (at rows : ℕ) (book : Book) where
 
 -- A layout, from its number on.
 module _ (s : List ℕ) (at rows : ℕ) (book : Book) where
-  pub layout_refused : (n p : ℕ) → ends (layout_at s at) ≡ no n p → layout_element s at rows book ≡ no n p
-  layout_refused n p e = rw (refused (layout_at s at) n p e) refl
-
   module _ (l : Layout) (next : ℕ) (e : layout_at s at ≡ ok l next) where
     pub layout_unlearnt : (n p : ℕ) → learn book l at ≡ no n p → layout_element s at rows book ≡ no n p
     layout_unlearnt n p f = rw (e, f) refl

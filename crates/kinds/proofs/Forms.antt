@@ -5,7 +5,7 @@ use mathlib.Core.List.{List}
 use mathlib.Core.Bool.{Bool, true, false}
 use native.Mathlib.Omega.{arith}
 use lib.ListN.{length}
-use lib.Dec.{leb, lit≤}
+use lib.Dec.{leb}
 use borrow.Author.Tests.{leb-true, le-leb, lt-leb}
 use Rattle.octets.specs.Reading.{ok, no, ends, is_ok, be, reach, overrun, number_in}
 use Rattle.octets.specs.Writing.{Each, Octet}
@@ -18,12 +18,9 @@ use Rattle.texts.specs.Texts.{led_in}
 use Rattle.texts.proofs.Fields.{led_inverse}
 use Rattle.texts.proofs.Ends.{led_carries}
 use Rattle.texts.specs.declared.Rule.{Rule}
-use Rattle.kinds.specs.Kinds.{form_by}
-use Rattle.kinds.specs.Forms.{Value, bits, held, value_in, value_image, GoodValue, Slim}
+use Rattle.kinds.specs.Forms.{Value, bits, held, value_in, value_image, GoodValue}
 use Rattle.kinds.specs.declared.Form.{Form}
 use Rattle.kinds.specs.declared.Form.TheVariants.{Fixed, Truth, Led}
-use Rattle.kinds.specs.declared.Basic.{Basic}
-use Rattle.kinds.specs.declared.Basic.TheVariants.{Int, UnsignedInt, Long, UnsignedLong, Float, Double, HexBinary, String, Boolean, Byte, UnsignedByte, Short, UnsignedShort}
 
 module _ (room : Room) (s : List ℕ) (at : ℕ) where
   pub fixed_ends : (w : ℕ) → ends (value_in room (Fixed w) s at) ≡ ends (number_in room w s at)
@@ -108,19 +105,3 @@ module _ (s : List ℕ) (at : ℕ) where
             let (v, m, is) = value_is (value_in q f s at) t in
             let w : true ≡ false = sym (ap is_ok (value_carries f q r (omega (arith, same)) is)) ∙ e in
             absurd (let z : ◌≡◌ {A = ℕ} 0 1 = cc in omega arith)
-
--- Every form of the table is of at most eight octets.
-pub slim_form : (b : Basic) → Slim (form_by b)
-slim_form Int = lit≤ tt
-slim_form UnsignedInt = lit≤ tt
-slim_form Long = lit≤ tt
-slim_form UnsignedLong = lit≤ tt
-slim_form Float = lit≤ tt
-slim_form Double = lit≤ tt
-slim_form HexBinary = tt
-slim_form String = tt
-slim_form Boolean = tt
-slim_form Byte = lit≤ tt
-slim_form UnsignedByte = lit≤ tt
-slim_form Short = lit≤ tt
-slim_form UnsignedShort = lit≤ tt

@@ -10,7 +10,7 @@ use native.Mathlib.Omega.{arith}
 use lib.ListN.{length}
 use lib.Dec.{leb, ltb, eqb, lit≤}
 use lib.Arith.{digits_div, digits_mod}
-use borrow.Author.Tests.{eqb-true, ltb-true, le-leb, lt-leb, lt-ltb, le-ltb, ne_eqb}
+use borrow.Author.Tests.{eqb-true, ltb-true, lt-leb, lt-ltb, ne_eqb}
 use Rattle.octets.specs.Reading.{ok, no, choose, be, number, is_ok, ends}
 use Rattle.octets.specs.Writing.{word}
 use Rattle.octets.proofs.Spans.{word_octets}
@@ -111,17 +111,8 @@ basic_high code h = outside code 0x21 basics rows (inr (omega arith))
 
 -- What a type number means, by its bits.
 module _ (at t next : ℕ) where
-  pub kind_top : 2 ^ 31 ≤ t → kind_of at t next ≡ no 9 at
-  kind_top g = rw (le-leb (2 ^ 31) t g) refl
-
-  pub kind_wide : t < 2 ^ 31 → 0x10000 ≤ t → kind_of at t next ≡ no 8 at
-  kind_wide g k = rw (lt-leb (2 ^ 31) t g, le-ltb t 0x10000 k) refl
-
   pub kind_low : t < 0x10000 → kind_of at t next ≡ kind_for at t next (basic_of (t % 256))
   kind_low g = rw (lt-leb (2 ^ 31) t (omega arith), lt-ltb t 0x10000 g) refl
-
-  pub for_none : basic_of (t % 256) ≡ none → kind_for at t next (basic_of (t % 256)) ≡ no 8 at
-  for_none e = rw e refl
 
   pub for_some : (b : Basic) → code_of b ≡ t % 256 → kind_for at t next (basic_of (t % 256)) ≡ ok (record { derived = t / 256; basic = b }) next
   for_some b e = rw (← e, (code_known b).2) refl

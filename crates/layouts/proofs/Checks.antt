@@ -68,9 +68,6 @@ pub record Met (s seen : List ℕ) (k pos : ℕ) : Type 0 where
   pub same : layouts_at most_layouts [] s 0 ≡ layouts_at (most_layouts - k) met s pos
 
 module _ (s : List ℕ) where
-  pub met_start : (seen : List ℕ) → Met s seen 0 0
-  met_start seen = record { met = []; kept = refl; same = refl }
-
   module _ (seen : List ℕ) (k pos : ℕ) (m : Met s seen k pos) where
     pub met_end : pos ≡ length s → is_ok (layouts_at most_layouts [] s 0) ≡ true
     met_end e = ap is_ok (m.same ∙ layouts_end s (most_layouts - k) m.met pos e)

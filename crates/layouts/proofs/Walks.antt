@@ -1,6 +1,6 @@
 -- Octets that are layouts one behind another: a walk over them meets the layouts of the book in order, so a look-up is one in what is left.
 use Prim.Native.Nat.{ℕ, ◌+◌, ◌≤◌, ◌<◌}
-use mathlib.Core.Path.{◌≡◌, refl, ap, ◌∙◌, sym, subst}
+use mathlib.Core.Path.{◌≡◌, ap, ◌∙◌, sym, subst}
 use mathlib.Core.List.{List, [], ◌∷◌}
 use mathlib.Core.Option.{some, none}
 use lib.ListN.{length, take}
@@ -8,7 +8,7 @@ use lib.Seq.{length-take-le}
 use native.Mathlib.Omega.{arith}
 use Rattle.octets.specs.Reading.{ok, ends, be}
 use Rattle.octets.specs.Writing.{Each, Octet}
-use Rattle.octets.proofs.Spans.{Spans, middle, all_spans}
+use Rattle.octets.proofs.Spans.{Spans, middle}
 use Rattle.layouts.specs.Layout.{Layout, layout_at, layout_image, GoodLayout}
 use Rattle.layouts.specs.Book.{Book, find, book_image, book_in, IsBook}
 use Rattle.layouts.specs.Answers.{Image, StandsFor}
@@ -38,16 +38,6 @@ pub record Here (s : List ℕ) (n : ℕ) (book : Book) (pos k : ℕ) : Type 0 wh
   pub left : (n ≡ layout.number → ⊥) → Left s n book next (k + 1)
 
 module _ (s : List ℕ) (n : ℕ) (book : Book) where
-  pub left_start : Image s book → Left s n book 0 0
-  left_start i =
-      record {
-        more = book;
-        good = i.good;
-        spans = subst (λ (xs : List ℕ). Spans s (length s) 0 (length s) xs) (sym i.is) (all_spans s);
-        same = refl;
-        count = omega arith;
-      }
-
   pub here : (pos k : ℕ) → pos < length s → Left s n book pos k → Here s n book pos k
   here pos k h left = go left.more left.good left.spans left.same left.count
     where

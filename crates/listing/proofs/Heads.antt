@@ -21,12 +21,6 @@ pub headed_as : (r : Read Header) (head : Head) → head_tells r ≡ Ok head →
 headed_as (ok h next) head e = (h, next, refl, (let same : head_of h next ≡ head = cc in same))
 headed_as (no n p) head e = absurd (let z : ◌≡◌ {A = ℕ} 0 1 = cc in omega arith)
 
-pub unheaded_as : (r : Read Header) (x : Refused) → head_tells r ≡ Err x → r ≡ no x.number x.place
-unheaded_as (ok h next) x e = absurd (let z : ◌≡◌ {A = ℕ} 0 1 = cc in omega arith)
-unheaded_as (no m q) x e =
-    let same : ◌≡◌ {A = Refused} (record { number = m; place = q }) x = cc in
-    ap (λ (y : Refused). let r : Read Header = no y.number y.place in r) same
-
 pub header_place : (s : List ℕ) → Each Octet s → (h : Header) (next : ℕ) → header_at s ≡ ok h next → (next ≤ length s) × (length s ≤ longest)
 unfolding header_at
 header_place s o h next e =

@@ -100,8 +100,8 @@ module _ {s : List ℕ} {at : ℕ} {before : Page} {octets : List ℕ} {k : Know
 
   -- How the walk goes on from here, by what was met.
   pub passed_on : (entry exit : List ℕ) {x y : Result Moved Refused}
-      → ((book : Book) → Bears (take used octets) used k book → GoesOn s (spot_at pos rows book) k 0 entry exit x) → x ≡ y → GoesOn s here k 0 entry exit y
-  passed_on entry exit went is = subst (GoesOn s here k 0 entry exit) is (went (book_in octets used) passed_bears)
+      → ((book : Book) → Bears (take used octets) used k book → GoesOn s (spot_at pos rows book) k k.numbers 0 entry exit x) → x ≡ y → GoesOn s here k k.numbers 0 entry exit y
+  passed_on entry exit went is = subst (GoesOn s here k k.numbers 0 entry exit) is (went (book_in octets used) passed_bears)
 
   module _ (o : Each Octet s) (short : length s ≤ longest) where
     stopped : {after : Page} (e : Stop) → turn_at s here ≡ stops e → Shows mid (lines_of (standing here (some e))) after
@@ -198,7 +198,7 @@ module _ {s : List ℕ} {at : ℕ} {before : Page} {octets : List ℕ} {k : Know
           }
 
     pub passed_item : (entry exit : List ℕ) {x : Result Moved Refused} {m : Moved} (gone : Gone)
-        → ((book : Book) → Bears (take used octets) used k book → GoesOn s (spot_at pos rows book) k 0 entry exit x) → x ≡ Ok m → m ≡ moved.Item gone → Goes gone
+        → ((book : Book) → Bears (take used octets) used k book → GoesOn s (spot_at pos rows book) k k.numbers 0 entry exit x) → x ≡ Ok m → m ≡ moved.Item gone → Goes gone
     passed_item entry exit gone went is one =
         let (p, y, turn, same) = moved_item (turn_at s here) gone (sym (passed_on entry exit went (is ∙ ap Ok one)).is) in
         subst Goes same (item_goes p y turn)

@@ -24,7 +24,17 @@ fn element_lines(page: &mut Page, doc: &[u8], at: usize)
     let mut used: usize = 0;
     let mut words = [0u64; 1];
     loop {
-        let moved = match walks::go_on(doc, pos, rows, &book[..used], used, &known, &mut words, 0) {
+        let moved = match walks::go_on(
+            doc,
+            pos,
+            rows,
+            &book[..used],
+            used,
+            &known,
+            &known.numbers,
+            &mut words,
+            0,
+        ) {
             Ok(moved) => moved,
             Err(r) => {
                 return lines::refused_line(page, r);

@@ -7,6 +7,7 @@ use Rattle.octets.specs.declared.Fault.{Fault}
 use Rattle.octets.specs.declared.Refused.{Refused}
 use Rattle.std.specs.Prelude.{ℕ, Result, Ok, Err}
 use Rattle.octets.proofs.Alike.{◌also◌}
+use Rattle.octets.proofs.Fault.number as fault_number
 use Rattle.octets.proofs.u8_at as u8_at
 use Rattle.octets.proofs.u16_at as u16_at
 use Rattle.octets.proofs.u32_at as u32_at
@@ -22,6 +23,7 @@ use Rattle.octets.proofs.lay as lay
 use Rattle.octets.proofs.lay_number as lay_number
 
 pub record Contracts : Type 0 where
+  pub of_fault_number : Once fault_number.Kinds.ps fault_number.Kinds.r fault_number.Reads.Pre fault_number.Reads.Post
   pub of_u8_at : Once u8_at.Kinds.ps u8_at.Kinds.r u8_at.Reads.Pre u8_at.Reads.Post
   pub of_u16_at : Once u16_at.Kinds.ps u16_at.Kinds.r u16_at.Reads.Pre u16_at.Reads.Post
   pub of_u32_at : Once u32_at.Kinds.ps u32_at.Kinds.r u32_at.Reads.Pre u32_at.Reads.Post
@@ -62,6 +64,7 @@ counts_once (Err p) (Err q) e = ap Err (err_once p q e)
 pub contracts : Contracts
 contracts =
     record {
+      of_fault_number = λ κs a p x y u v e f. (e ∙ sym f, refl);
       of_u8_at = λ κs a p x y u v e f. (e ∙ sym f, refl);
       of_u16_at = λ κs a p x y u v e f. (e ∙ sym f, refl);
       of_u32_at = λ κs a p x y u v e f. (e ∙ sym f, refl);

@@ -1,6 +1,6 @@
 -- Laws of comparing and copying octets: by the first octet, and by what is lent of a whole.
 use Prim.Native.Nat.{ℕ, zero, suc, ◌+◌, ◌-◌, ◌/◌, ◌%◌, ◌≤◌, ◌<◌}
-use mathlib.Core.Path.{◌≡◌, refl, ap, ◌∙◌, sym}
+use mathlib.Core.Path.{◌≡◌, refl, ap, sym}
 use mathlib.Core.List.{List, [], ◌∷◌, ◌++◌, append_assoc, append-nil}
 use mathlib.Core.Bool.{Bool, true, false, ◌&&◌}
 use native.Mathlib.Numerals.{add-one}
@@ -8,7 +8,7 @@ use native.Mathlib.Omega.{arith}
 use lib.ListN.{length, take, drop, get_or, set, length-drop, length-set}
 use lib.Seq.{drop-cons, take-suc, set_at, length-take-le, drop-length, take_all, drop-drop, get_or-set_same, drop-set-lt}
 use lib.Dec.{eqb}
-use borrow.Author.Tests.{eq-eqb, ne_eqb, eqb-true}
+use borrow.Author.Tests.{eq-eqb, eqb-true}
 use Rattle.octets.specs.Reading.{same}
 use Rattle.octets.specs.Writing.{word, over}
 
@@ -37,19 +37,6 @@ same_lengths (x ∷ a) (y ∷ b) h = rw (same_lengths a b (λ e. h (ap suc e))) 
     never : (t : Bool) → (t && false) ≡ false
     never true = refl
     never false = refl
-
-module _ (a b : List ℕ) (i : ℕ) (h : i < length a) (k : i < length b) where
-  pub same_on : get_or a i 0 ≡ get_or b i 0 → same (drop i a) (drop i b) ≡ same (drop (i + 1) a) (drop (i + 1) b)
-  same_on e = rw (drop-cons a i 0 h, drop-cons b i 0 k, eq-eqb (get_or a i 0) (get_or b i 0) e, add-one i) refl
-
-  pub same_stop : (get_or a i 0 ≡ get_or b i 0 → ⊥) → same (drop i a) (drop i b) ≡ false
-  same_stop e = rw (drop-cons a i 0 h, drop-cons b i 0 k, ne_eqb (get_or a i 0) (get_or b i 0) e) refl
-
-pub same_end : (a b : List ℕ) (i : ℕ) → i ≡ length a → i ≡ length b → same (drop i a) (drop i b) ≡ true
-same_end a b i e f =
-    let p : drop i a ≡ [] = ap (λ (n : ℕ). drop n a) e ∙ drop-length a in
-    let q : drop i b ≡ [] = ap (λ (n : ℕ). drop n b) f ∙ drop-length b in
-    rw (p, q) refl
 
 -- One octet more of d stands over z.
 pub copied : (d z : List ℕ) (i : ℕ) → i < length d → i < length z → set (take i d ++ drop i z) i (get_or d i 0) ≡ take (i + 1) d ++ drop (i + 1) z

@@ -12,7 +12,7 @@ ghost use Rattle.octets.specs.Answers.{says, counts, Within, CountWithin};
 
 use std::marker::Model;
 
-// The most octets of a document, and the most rows that a step may be told.
+// The most octets of a document, and the most rows that a step may be told. That octets are no more is a clause where they are read, and no type: of a type with a lifetime a clause names two moments, and is longer.
 pub const LONGEST: usize = 1048576;
 
 pub const MOST_ROWS: usize = 1048576;
@@ -125,7 +125,7 @@ pub enum Room {
     Stated(usize, usize),
 }
 
-// The number that one octet spells.
+// The number that one octet spells. Each width has its function, which answers its own type: of one over the width every caller would cast the answer.
 pub fn u8_at(s: &[u8], at: usize) -> u8
     requires { at + 1 ≤ length s.now }
     ensures { result ≡ be 1 s.now at }

@@ -134,9 +134,6 @@ pub record Onward (s steps : List ℕ) (end : ℕ) (xs : List Attribute) (at pos
   pub stands : Begins steps j (plan_of 0 others)
   pub same : (room : Room) → reach room s ≡ end → ends (fields_in room xs s at) ≡ ends (fields_in room others s pos)
 
-pub onward_start : (s steps : List ℕ) (end : ℕ) (xs : List Attribute) (at j : ℕ) → Begins steps j (plan_of 0 xs) → Onward s steps end xs at at j
-onward_start s steps end xs at j b = record { others = xs; stands = b; same = λ room h. refl }
-
 module _ (s steps : List ℕ) (end : ℕ) (xs : List Attribute) (at pos j : ℕ) (o : Onward s steps end xs at pos j) where
   -- There is a step.
   pub onward_room : j < length steps

@@ -20,7 +20,7 @@ pub enum Show {
     Escaped,
 }
 
-// Text that waits in a lent buffer, which is written out when it is full.
+// Text that waits in a lent buffer, which is written out when it is full. It is put octet by octet and not by `write!`, of which no clause says what comes out.
 #[derive(Drop)]
 pub struct Page<'o> {
     pub out: &'o mut [u8],

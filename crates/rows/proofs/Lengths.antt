@@ -68,13 +68,6 @@ module _ (xs : List Attribute) (s : List ℕ) (at : ℕ) where
 
 -- The same by the room that a length gives: its values end as their fields do there, or pass the document's end.
 module _ (s : List ℕ) (at size : ℕ) where
-  pub room_behind : at + 4 ≤ length s → at + 4 ≤ reach (length_room at size) s
-  room_behind h = go (eqb size 0xffffffff)
-    where
-      go : (b : Bool) → at + 4 ≤ reach (choose b (λ _. Document) (λ _. Stated (at + 4 + size) at)) s
-      go true = h
-      go false = omega arith
-
   pub values_far : (xs : List Attribute) → length s < reach (length_room at size) s → values_at xs s at size ≡ no 1 at
   values_far xs h = go (eqb size 0xffffffff) refl h
     where

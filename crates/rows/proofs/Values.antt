@@ -38,9 +38,6 @@ module _ (book doc : List ℕ) (room : Room) (xs : List Attribute) (at last : �
     pub reads : run (attribute_at book) k place ≡ ok others last
     pub same : ends (fields_in room xs doc at) ≡ ends (fields_in room others doc pos)
 
-  pub left_all : (k place : ℕ) → run (attribute_at book) k place ≡ ok xs last → Left k place at
-  left_all k place e = record { others = xs; reads = e; same = refl }
-
   -- The next attribute, and what its value's end or refusal is to the whole.
   pub record Next (k place pos : ℕ) : Type 0 where
     pub attribute : Attribute

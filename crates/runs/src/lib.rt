@@ -83,6 +83,7 @@ fn items<'d, 'b, 'w>(
             &book[..went.used],
             went.used,
             &known,
+            &known.numbers,
             &mut words[went.count..],
             most,
         ) {

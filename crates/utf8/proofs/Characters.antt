@@ -92,9 +92,6 @@ module _ (s : List ℕ) (at to : ℕ) where
         go (Some next) (past, inside, same) (h, on) = (omega arith, inside, on ∙ same)
         go None same (h, on) = on ∙ same
 
-    pub step_none : t ≡ false → Passes o s at to None
-    step_none e = subst (Steps o p s at to) e step
-
   pub steps_end : (r : Range) (rest : List Range) → to ≤ at → Steps (some (r ∷ rest)) (some rest) s at to false
   unfolding spells
   steps_end r rest h = ap (spells (some (r ∷ rest))) (part_none s at to h)

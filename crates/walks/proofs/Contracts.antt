@@ -22,7 +22,7 @@ contracts =
       of_row_word = λ κs a p x y u v e f. (e ∙ sym f, refl);
       of_go_on = λ κs a p x y u v e f.
           let b = p.4 in
-          let q = goes_on_once _ _ _ b.bears.planned.numbered _ _ _ _ p.0 x y (e b.book b.bears) (f b.book b.bears) in
-          (q.0, refl also refl also refl also refl also refl also refl also q.1 also refl);
+          let q = goes_on_once _ _ _ b.bears.planned.numbered _ _ _ _ _ p.0 x y (e b.book b.bears) (f b.book b.bears) in
+          (q.0, refl also refl also refl also refl also refl also refl also refl also q.1 also refl);
       of_rows_from = λ κs a p x y u v e f. (counts_once x y (e ∙ sym f), refl);
     }

@@ -109,8 +109,8 @@ module _ (s : List ℕ) (o : Each Octet s) (short : length s ≤ longest) (at ro
     item_left octets exit left = left rows took.stepped took.reads ∙ ap (λ (z : Book). holding z octets) (sym book_is)
 
 -- A turn, whatever it met, is how a walk goes on where no row is passed by a plan.
-pub turned_on : {s : List ℕ} {x : Spot} {k : Known} {most : ℕ} {entry exit : List ℕ} (t : Turn Spot)
-    → ByTurn s x k most entry exit (moved_of t) → GoesOn s x k most entry exit (moved_of t)
-turned_on (goes p y) b = b
-turned_on (stops (ended n t next)) b = b
-turned_on (stops (refused n p)) b = b
+pub turned_on : {s : List ℕ} {x : Spot} {k : Known} {most : ℕ} {entry exit : List ℕ} (labels : List ℕ) (t : Turn Spot)
+    → ByTurn s x k most entry exit (moved_of t) → GoesOn s x k labels most entry exit (moved_of t)
+turned_on labels (goes p y) b = b
+turned_on labels (stops (ended n t next)) b = b
+turned_on labels (stops (refused n p)) b = b

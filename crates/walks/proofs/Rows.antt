@@ -53,8 +53,8 @@ planned_more : (numbers : List ℕ) (ps : List Seen) (p : Seen) → Each (HasPla
 planned_more numbers [] p e h = (h, tt)
 planned_more numbers (q ∷ ps) p e h = (e.0, planned_more numbers ps p e.1 h)
 
-module _ (s : List ℕ) (at rows : ℕ) (book : Book) (known : Known) (entry : List ℕ) where
-  pub passage_none : Passage s (spot_at at rows book) known.numbers entry entry at 0
+module _ (s : List ℕ) (at rows : ℕ) (book : Book) (known : Known) (labels entry : List ℕ) where
+  pub passage_none : Passage s (spot_at at rows book) known.numbers labels entry entry at 0
   passage_none =
       record {
         seen = [];
@@ -64,9 +64,9 @@ module _ (s : List ℕ) (at rows : ℕ) (book : Book) (known : Known) (entry : L
         put = refl;
       }
 
-  pub passage_more : (words : List ℕ) (pos n : ℕ) → Passage s (spot_at at rows book) known.numbers entry words pos n
-      → (next i word : ℕ) → Passes s pos book known next i → word ≡ row_word (get_or known.numbers i 0 % 2 ^ 32) (ltb (be 4 s (pos + 4 + 4)) 0xffffffff) next
-      → Passage s (spot_at at rows book) known.numbers entry (set words n word) next (n + 1)
+  pub passage_more : (words : List ℕ) (pos n : ℕ) → Passage s (spot_at at rows book) known.numbers labels entry words pos n
+      → (next i word : ℕ) → Passes s pos book known next i → word ≡ row_word (get_or labels i 0 % 2 ^ 32) (ltb (be 4 s (pos + 4 + 4)) 0xffffffff) next
+      → Passage s (spot_at at rows book) known.numbers labels entry (set words n word) next (n + 1)
   passage_more words pos n p next i word h w =
       let seen = p.seen in
       let passed : ℕ = rows + length seen in
@@ -74,10 +74,10 @@ module _ (s : List ℕ) (at rows : ℕ) (book : Book) (known : Known) (entry : L
       let more : Seen = seen_at pos (row h.row) st next in
       let said = row_says_lem s (pos + 4) h.row next book h.reads in
       let index : position h.row.number book ≡ i = ap (λ (k : ℕ). position k book) said.number ∙ h.index in
-      let behind : 0 + length (words_by known.numbers seen) ≡ n = omega (arith, p.is_count, words_length known.numbers seen) in
+      let behind : 0 + length (words_by labels seen) ≡ n = omega (arith, p.is_count, words_length labels seen) in
       let one : passed + 1 ≡ rows + length (seen ++ more ∷ []) = omega (arith, length-append seen (more ∷ [])) in
-      let is : word ≡ word_by known.numbers (row h.row) more.position next =
-      w ∙ (ap (λ (b : Bool). row_word (get_or known.numbers i 0 % 2 ^ 32) b next) (sym said.stated) ∙ ap (λ (j : ℕ). row_word (get_or known.numbers j 0 % 2 ^ 32) h.row.is_stated next) (sym index)) in
+      let is : word ≡ word_by labels (row h.row) more.position next =
+      w ∙ (ap (λ (b : Bool). row_word (get_or labels i 0 % 2 ^ 32) b next) (sym said.stated) ∙ ap (λ (j : ℕ). row_word (get_or labels j 0 % 2 ^ 32) h.row.is_stated next) (sym index)) in
       record {
         seen = seen ++ more ∷ [];
         path = path_join (turn_at s) seen (more ∷ []) (spot_at at rows book) (spot_at pos passed book) _ p.path
@@ -88,16 +88,16 @@ module _ (s : List ℕ) (at rows : ℕ) (book : Book) (known : Known) (entry : L
         is_count = omega (arith, p.is_count, length-append seen (more ∷ []));
         put =
             ap (λ (xs : List ℕ). set xs n word) p.put
-            ∙ (ap (λ (m : ℕ). set (laid 0 (words_by known.numbers seen) entry) m word) (sym behind)
-            ∙ (sym (laid_both 0 (words_by known.numbers seen) (word ∷ []) entry)
-            ∙ ap (λ (ws : List ℕ). laid 0 ws entry) (ap (λ (x : ℕ). words_by known.numbers seen ++ x ∷ []) is ∙ sym (words_more known.numbers seen more))));
+            ∙ (ap (λ (m : ℕ). set (laid 0 (words_by labels seen) entry) m word) (sym behind)
+            ∙ (sym (laid_both 0 (words_by labels seen) (word ∷ []) entry)
+            ∙ ap (λ (ws : List ℕ). laid 0 ws entry) (ap (λ (x : ℕ). words_by labels seen ++ x ∷ []) is ∙ sym (words_more labels seen more))));
       }
 
   -- No row was passed: the walk is where it was, and no word is put.
-  pub passage_still : {exit : List ℕ} {next : ℕ} → Passage s (spot_at at rows book) known.numbers entry exit next 0 → (next ≡ at) × (exit ≡ entry)
+  pub passage_still : {exit : List ℕ} {next : ℕ} → Passage s (spot_at at rows book) known.numbers labels entry exit next 0 → (next ≡ at) × (exit ≡ entry)
   passage_still {exit} {next} p = go p.seen p.is_count p.path p.put
     where
-      go : (ps : List Seen) → length ps ≡ 0 → Path (turn_at s) (spot_at at rows book) ps (spot_at next (rows + length ps) book) → exit ≡ laid 0 (words_by known.numbers ps) entry
+      go : (ps : List Seen) → length ps ≡ 0 → Path (turn_at s) (spot_at at rows book) ps (spot_at next (rows + length ps) book) → exit ≡ laid 0 (words_by labels ps) entry
           → (next ≡ at) × (exit ≡ entry)
       go [] none path put = (ap (λ (y : Spot). y.at) (sym path), put)
       go (q ∷ ps) none path put = absurd (omega arith)

@@ -79,9 +79,9 @@ module _ (s : List ℕ) (known : Known) (book : Book) (k : Numbered known book) 
       (rw (same, seen) refl, place)
 
   -- So two answers are one, and so are the words that they put.
-  module _ (most : ℕ) (entry : List ℕ) (at rows : ℕ) where
+  module _ (labels : List ℕ) (most : ℕ) (entry : List ℕ) (at rows : ℕ) where
     abbrev Says : List ℕ → ℕ → ℕ → Type 0
-    Says exit next count = Strides s (spot_at at rows book) known most entry exit next count
+    Says exit next count = Strides s (spot_at at rows book) known labels most entry exit next count
 
     goes_by : {exit : List ℕ} {next count : ℕ} (e : Says exit next count) → Goes at rows most e.passage.seen next
     goes_by e = let p = e.passage in record { path = p.path; plans = p.planned; few = omega (arith, p.is_count, e.few); stops = λ h. e.stops (omega (arith, p.is_count)) }
@@ -93,7 +93,7 @@ module _ (s : List ℕ) (known : Known) (book : Book) (k : Numbered known book) 
         let (seen, place) = once p.seen q.seen at rows most _ _ (goes_by e) (goes_by f) in (
           place,
           sym p.is_count ∙ (ap (λ (ps : List Seen). length ps) seen ∙ q.is_count),
-          p.put ∙ (ap (λ (ps : List Seen). laid 0 (words_by known.numbers ps) entry) seen ∙ sym q.put),
+          p.put ∙ (ap (λ (ps : List Seen). laid 0 (words_by labels ps) entry) seen ∙ sym q.put),
         )
 
     -- How it went on: over rows, or by a turn, and then over none.
@@ -104,7 +104,7 @@ module _ (s : List ℕ) (known : Known) (book : Book) (k : Numbered known book) 
     Turned exit r = ByTurn s (spot_at at rows book) known most entry exit r
 
     abbrev On : List ℕ → Result Moved Refused → Type 0
-    On exit r = GoesOn s (spot_at at rows book) known most entry exit r
+    On exit r = GoesOn s (spot_at at rows book) known labels most entry exit r
 
     either : {exit : List ℕ} (r : Result Moved Refused) → On exit r → Over exit r ⊎ Turned exit r
     either (Ok (moved.Rows next count)) (some, e) = inl (next, count, refl, some, e)
@@ -114,7 +114,7 @@ module _ (s : List ℕ) (known : Known) (book : Book) (k : Numbered known book) 
 
     not_both : {u v : List ℕ} {r t : Result Moved Refused} → at ≤ length s → Over u r → Turned v t → ⊥
     not_both inside (next, count, _, some, e) t =
-        let none : Says entry at 0 = record { passage = passage_none s at rows book known entry; inside = inside; few = omega arith; stops = t.stops } in
+        let none : Says entry at 0 = record { passage = passage_none s at rows book known labels entry; inside = inside; few = omega arith; stops = t.stops } in
         let same = (strides_once e none).1 in
         omega arith
 

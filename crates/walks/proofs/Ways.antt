@@ -69,9 +69,9 @@ module _ (s : List ℕ) (o : Each Octet s) (short : length s ≤ longest) (x : S
   way_few = omega (arith, path_rows s passed x here w.path, path_moves s o short passed x here w.path, rows_few passed)
 
   -- Over rows.
-  pub way_rows : {entry exit : List ℕ} {most next count : ℕ} → Strides s here k most entry exit next count
+  pub way_rows : {labels entry exit : List ℕ} {most next count : ℕ} → Strides s here k labels most entry exit next count
       → (more : List Seen) × OnWay s x (passed ++ more) shelf k next (rows + count) used × (at + count ≤ next)
-  way_rows {entry} {exit} {most} {next} {count} h =
+  way_rows {labels} {entry} {exit} {most} {next} {count} h =
       let p = h.passage in (
         p.seen,
         subst (λ (n : ℕ). OnWay s x (passed ++ p.seen) shelf k next (rows + n) used) p.is_count

@@ -52,8 +52,8 @@ pub record ByTurn (s : List ℕ) (x : Spot) (k : Known) (most : ℕ) (entry exit
   pub stops : 0 < most → Refuses s x.at x.book k
 
 -- How a walk goes on from a spot: over rows as far as they go, if there is one, else by one turn.
-abbrev pub GoesOn : List ℕ → Spot → Known → ℕ → List ℕ → List ℕ → Result Moved Refused → Type 0
-GoesOn s x k most entry exit (Ok (moved.Rows next count)) = (0 < count) × Strides s x k most entry exit next count
-GoesOn s x k most entry exit (Ok (moved.Item g)) = ByTurn s x k most entry exit (Ok (moved.Item g))
-GoesOn s x k most entry exit (Ok (moved.End n t next)) = ByTurn s x k most entry exit (Ok (moved.End n t next))
-GoesOn s x k most entry exit (Err r) = ByTurn s x k most entry exit (Err r)
+abbrev pub GoesOn : List ℕ → Spot → Known → List ℕ → ℕ → List ℕ → List ℕ → Result Moved Refused → Type 0
+GoesOn s x k labels most entry exit (Ok (moved.Rows next count)) = (0 < count) × Strides s x k labels most entry exit next count
+GoesOn s x k labels most entry exit (Ok (moved.Item g)) = ByTurn s x k most entry exit (Ok (moved.Item g))
+GoesOn s x k labels most entry exit (Ok (moved.End n t next)) = ByTurn s x k most entry exit (Ok (moved.End n t next))
+GoesOn s x k labels most entry exit (Err r) = ByTurn s x k most entry exit (Err r)

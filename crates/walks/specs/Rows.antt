@@ -16,14 +16,14 @@ abbrev pub row_word : ℕ → Bool → ℕ → ℕ
 row_word label true next = packed label 1 1 next
 row_word label false next = packed label 1 0 next
 
--- The word of an item seen, labelled by the low 32 bits of the number at its layout's position; a layout has none.
+-- The word of an item seen, with the low 32 bits of the label of its layout's position; a layout has none.
 abbrev pub word_by : List ℕ → Item → ℕ → ℕ → ℕ
-word_by numbers (layout l) position next = 0
-word_by numbers (row r) position next = row_word (get_or numbers position 0 % 2 ^ 32) r.is_stated next
+word_by labels (layout l) position next = 0
+word_by labels (row r) position next = row_word (get_or labels position 0 % 2 ^ 32) r.is_stated next
 
 abbrev pub words_by : List ℕ → List Seen → List ℕ
-words_by numbers [] = []
-words_by numbers (p ∷ ps) = word_by numbers p.which p.position p.next ∷ words_by numbers ps
+words_by labels [] = []
+words_by labels (p ∷ ps) = word_by labels p.which p.position p.next ∷ words_by labels ps
 
 -- Words put over those that are lent, from an index on.
 abbrev pub laid : ℕ → List ℕ → List ℕ → List ℕ
@@ -53,16 +53,16 @@ abbrev pub HasPlan : List ℕ → Seen → Type 0
 HasPlan numbers p = get_or numbers p.position 0 ≡ number_of p.which
 
 -- The way over so many rows that were passed, to a place, and their words.
-pub record Passage (s : List ℕ) (x : Spot) (numbers entry exit : List ℕ) (next count : ℕ) : Type 0 where
+pub record Passage (s : List ℕ) (x : Spot) (numbers labels entry exit : List ℕ) (next count : ℕ) : Type 0 where
   pub seen : List Seen
   pub path : Path (turn_at s) x seen (spot_at next (x.rows + length seen) x.book)
   pub planned : Each (HasPlan numbers) seen
   pub is_count : length seen ≡ count
-  pub put : exit ≡ laid 0 (words_by numbers seen) entry
+  pub put : exit ≡ laid 0 (words_by labels seen) entry
 
 -- As far as rows go: so many at most, or to where no row stands that its layout's plan passes.
-pub record Strides (s : List ℕ) (x : Spot) (k : Known) (most : ℕ) (entry exit : List ℕ) (next count : ℕ) : Type 0 where
-  pub passage : Passage s x k.numbers entry exit next count
+pub record Strides (s : List ℕ) (x : Spot) (k : Known) (labels : List ℕ) (most : ℕ) (entry exit : List ℕ) (next count : ℕ) : Type 0 where
+  pub passage : Passage s x k.numbers labels entry exit next count
   pub inside : next ≤ length s
   pub few : count ≤ most
   pub stops : count < most → Refuses s next x.book k

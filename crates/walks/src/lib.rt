@@ -202,16 +202,17 @@ fn put_word(words: &mut [u64], n: usize, word: u64)
 }
 
 // Rows one behind another, each passed by the plan of its layout, so many at most. The words of those that have a place are put there, each with the low 32 bits of its layout's number.
-fn rows_on<'d, 'k, 'w>(
+fn rows_on<'d, 'k, 'l, 'w>(
     doc: &'d [u8],
     at: usize,
     known: &'k Known,
+    labels: &'l [u64; octets::MOST_LAYOUTS],
     words: &'w mut [u64],
     most: usize,
 ) -> Stretch
     requires { (at ≤ length doc.now) × (length doc.now ≤ longest) × Plans known.now }
     ensures { (rows : ℕ) (book : Book) → Planned known.now book
-        → Strides doc.now (spot_at at rows book) known.now most words.old words.new result.next result.count }
+        → Strides doc.now (spot_at at rows book) known.now labels.now most words.old words.new result.next result.count }
 {
     if known.count == 0 {
         return Stretch { next: at, count: 0 };
@@ -226,7 +227,7 @@ fn rows_on<'d, 'k, 'w>(
             };
         };
         let stated = octets::u32_at(doc, pos + 8) < 0xffff_ffff;
-        let label = (known.numbers[i] % LABEL) as u32;
+        let label = (labels[i] % LABEL) as u32;
         put_word(words, n, row_word(label, stated, next));
         pos = next;
         last = i;
@@ -255,21 +256,22 @@ fn step_moved(step: Step, position: usize) -> Moved
 }
 
 // Goes on from a place: over so many rows at most as stand one behind another and are passed by plans, or, where there is none, by the element there. The layouts kept stand in the octets of a shelf; a new one is kept by whoever goes on.
-pub fn go_on<'d, 's, 'k, 'w>(
+pub fn go_on<'d, 's, 'k, 'l, 'w>(
     doc: &'d [u8],
     at: usize,
     rows: usize,
     shelf: &'s [u8],
     used: usize,
     known: &'k Known,
+    labels: &'l [u64; octets::MOST_LAYOUTS],
     words: &'w mut [u64],
     most: usize,
 ) -> Result<Moved, Refused>
     requires { (at ≤ length doc.now) × (length doc.now ≤ longest) × (rows ≤ most_rows) × (length shelf.now ≤ longest) × Borne shelf.now used known.now }
     ensures { (book : Book) → Bears shelf.now used known.now book
-        → GoesOn doc.now (spot_at at rows book) known.now most words.old words.new result }
+        → GoesOn doc.now (spot_at at rows book) known.now labels.now most words.old words.new result }
 {
-    let stretch = rows_on(doc, at, known, words, most);
+    let stretch = rows_on(doc, at, known, labels, words, most);
     if 0 < stretch.count {
         return Ok(Moved::Rows(stretch.next, stretch.count));
     }
@@ -298,6 +300,7 @@ pub fn rows_from(doc: &[u8], at: usize) -> Result<(usize, usize), Refused>
             doc,
             used,
             &known,
+            &known.numbers,
             &mut words,
             octets::MOST_ROWS,
         )? {

@@ -17,7 +17,7 @@ use kinds::Basic;
 use layouts::{Learning, Looked};
 use octets::Fault;
 
-// The next field of a row: its layout is not in the book, no field is left, or its basic type.
+// The next field of a row: its layout is not in the book, no field is left, or its basic type. Three answers, so no Option.
 #[derive(Clone, Copy)]
 pub enum Next {
     Unknown,

@@ -1,11 +1,11 @@
 -- `collector::ipdr_run` meets its contract: what the run tells, packed where it is refused, and book and words as the run leaves them. Assumes nothing.
 use native.Mathlib.Omega.{arith}
-use mathlib.Core.Path.{◌≡◌, sym, ap, ◌∙◌, subst}
-use Rattle.std.specs.Prelude.{Ok, Err}
+use mathlib.Core.Path.{◌≡◌, subst}
+use Rattle.std.specs.Prelude.{Err}
 use Rattle.octets.specs.Reading.{no}
 use Rattle.elements.specs.Walk.{lent_at}
 use Rattle.runs.specs.Runs.{run_asked}
-use Rattle.collector.specs.Calls.{answered, Packs, run_leaves}
+use Rattle.collector.specs.Calls.{Packs}
 use Rattle.collector.proofs.Stays.{run_packs}
 use Rattle.collector.proofs.Handed.{run_told}
 use Rattle.collector.proofs.ipdr_run.Goals.{In-Err}
@@ -18,14 +18,3 @@ pub pack-requires : goal.pack-requires
 pack-requires c =
     let a = c.args in
     (subst Packs (refused c) (run_packs a.doc.now a.at a.rows a.book.now a.used (omega arith))).1
-
-pub returns-in-Err : goal.returns-in-Err
-returns-in-Err c =
-    let e = refused (goal.at.returns-in-Err c).In-Err in
-    (c.pack.ensures ∙ sym (ap answered e), sym (ap (run_leaves c.args.out.now) e), c.run.ensures.1, c.run.ensures.2)
-
-pub returns : goal.returns
-returns c =
-    let a = c.args in
-    let e = run_told a.out.now (run_asked a.doc.now (lent_at a.at a.rows a.book.now a.used)) (Ok c.in-Ok.went) c.in-Ok.ensures.0 in
-    (e.0, e.1, c.run.ensures.1, c.run.ensures.2)

@@ -1,12 +1,12 @@
 -- `collector::ipdr_step` meets its contract: what reading tells of the step, packed where it is refused, and the book as reading leaves it. Assumes nothing.
 use native.Mathlib.Omega.{arith}
-use mathlib.Core.Path.{◌≡◌, sym, ap, ◌∙◌, subst}
+use mathlib.Core.Path.{◌≡◌, ◌∙◌, subst}
 use Rattle.std.specs.Prelude.{Ok, Err}
 use Rattle.octets.specs.Reading.{no}
 use Rattle.octets.proofs.Spans.{each_octet}
 use Rattle.elements.specs.Steps.{step_at}
 use Rattle.reading.proofs.Times.{step_timed}
-use Rattle.collector.specs.Calls.{answered, Packs, step_leaves}
+use Rattle.collector.specs.Calls.{Packs}
 use Rattle.collector.proofs.Stays.{step_packs}
 use Rattle.collector.proofs.Handed.{step_told}
 use Rattle.collector.proofs.ipdr_step.Goals.{In-Err}
@@ -22,11 +22,6 @@ pub pack-requires : goal.pack-requires
 pack-requires c =
     let a = c.args in
     (subst Packs (refused c) (step_packs a.doc.now a.at a.rows a.book.now a.used (omega arith))).1
-
-pub returns-in-Err : goal.returns-in-Err
-returns-in-Err c =
-    let e = refused (goal.at.returns-in-Err c).In-Err in
-    (c.pack.ensures ∙ sym (ap answered e), sym (ap (step_leaves c.args.out.now) e), c.step.ensures.1)
 
 pub returns : goal.returns
 returns c =

@@ -8,15 +8,9 @@ use Rattle.kinds.proofs.Signs.{unsigned_cast}
 use Rattle.collector.specs.Calls.{bit}
 use Rattle.collector.proofs.words_of.Goals as goal
 
-pub returns-in-Layout : goal.returns-in-Layout
-returns-in-Layout c = rw (c.in-Layout.is, c.from.ensures, c.from-in-Layout.ensures)
-
 bit_is : (b : Bool) → bool_byte b ≡ bit b
 bit_is true = refl
 bit_is false = refl
-
-pub returns-in-Row : goal.returns-in-Row
-returns-in-Row c = rw (c.in-Row.is, c.from-in-Row.ensures, c.from-in-Row-2.ensures, c.from-in-Row-3.ensures, bit_is c.in-Row.stated)
 
 pub returns-in-End : goal.returns-in-End
 returns-in-End c =

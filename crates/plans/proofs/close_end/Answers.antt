@@ -1,8 +1,7 @@
 -- `plans::close_end` meets its contract: a boolean by its own function; octets that are there are asked whether they are UTF-8, where the step says so. Assumes nothing.
-use native.Mathlib.Omega.{arith}
 use Prim.Native.Nat.{ℕ, ◌+◌, ◌-◌}
-use mathlib.Core.Path.{◌≡◌, refl, sym, ◌∙◌, subst}
-use mathlib.Core.Bool.{Bool, true, false}
+use mathlib.Core.Path.{◌≡◌, refl, sym, ◌∙◌}
+use mathlib.Core.Bool.{true, false}
 use mathlib.Core.List.{List}
 use Rattle.std.specs.Prelude.{Result, Ok, Err, Some, None}
 use Rattle.octets.specs.Reading.{part}
@@ -34,11 +33,6 @@ module _ (o : In-Ok) where
       closes (Err (record { number = _; place = o.args.at }))
       (answers_bad (rule_at o.args.kind) (Stated o.args.end 0) Doc o.args.at o.in-Ok.next o.in-Ok.is o.octets_end.ensures.0 _ refl t)
 
-pub returns-then-kind-eq2 : goal.returns-then-kind-eq2
-returns-then-kind-eq2 c =
-    let a = c.args in
-    subst (λ k. Closes a.doc.now a.at a.end k c.truth_close.result) (sym c.if-kind-eq2.true) c.truth_close.ensures
-
 pub returns-in_default : goal.returns-in_default
 returns-in_default c =
     let a = c.args in
@@ -57,6 +51,3 @@ returns c =
       | else-kind-eq3-via-then-kind-eq3+else-not-is_utf8 w ↦ kept o (string_rule c.args.kind _ w.if-kind-eq3.true ∙ (sym w.is_utf8.ensures ∙ w.if-not-is_utf8.false))
       | else-kind-eq3-via-else-kind-eq3 w ↦ kept o (free_rule c.args.kind _ w.if-kind-eq3.false)
     ]
-
-pub is_utf8-requires : goal.is_utf8-requires
-is_utf8-requires c = let (h, g) = c.in-Ok.ensures.1 in (h, omega (arith, g, c.requires.0))

@@ -2,14 +2,9 @@
 -- The measure is the steps to come. Assumes nothing.
 use native.Mathlib.Omega.{arith}
 use Prim.Native.Nat.{◌<◌}
-use Rattle.plans.proofs.Walking.{onward_start, onward_room, onward_last, onward_on}
+use Rattle.plans.proofs.Walking.{onward_room, onward_last, onward_on}
 use Rattle.plans.proofs.follow.Goals as goal
 use Rattle.plans.proofs.follow.Goals.{At-loop-at}
-
-pub loop-at-init : goal.loop-at-init
-loop-at-init c =
-    let a = c.args in
-    (omega arith, c.requires.0, λ xs b. onward_start a.doc.now a.steps.now a.end xs a.at a.from b)
 
 room : (t : At-loop-at) → t.loop-at.j < 1216
 room t =
@@ -34,10 +29,6 @@ returns-then-kind-eq0 c =
           c.if-end-place.false,
     )
 
-pub close_end-requires : goal.close_end-requires
-close_end-requires c =
-    (c.requires.1, c.requires.2, omega (arith, c.loop-at.invariant.1, c.from-step.ensures, c.requires.1, c.requires.2))
-
 pub returns-in_err-pos : goal.returns-in_err-pos
 returns-in_err-pos c =
     let a = c.args in
@@ -55,18 +46,6 @@ loop-at-preserved c =
           (onward_on a.doc.now a.steps.now a.end xs a.at c.loop-at.pos c.loop-at.j (c.loop-at.invariant.2 xs b) c.from-step.result c.from-step.ensures c.if-kind-eq0.false).0 _
           (omega (arith, w.0, w.1)) w.2,
     )
-
-pub offset_bounds-steps-j : goal.offset_bounds-steps-j
-offset_bounds-steps-j c = let h = room (goal.at.offset_bounds-steps-j c).At-loop-at in omega arith
-
-pub overflow_add-place : goal.overflow_add-place
-overflow_add-place c = omega (arith, c.loop-at.invariant.1, c.from-step.ensures, c.requires.1, c.requires.2)
-
-pub overflow_add-j : goal.overflow_add-j
-overflow_add-j c = let h = room (goal.at.overflow_add-j c).At-loop-at in omega arith
-
-pub loop-at-smaller : goal.loop-at-smaller
-loop-at-smaller c = let h = room (goal.at.loop-at-smaller c).At-loop-at in omega arith
 
 pub bounds-steps-j : goal.bounds-steps-j
 bounds-steps-j c = room (goal.at.bounds-steps-j c).At-loop-at

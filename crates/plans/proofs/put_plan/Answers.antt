@@ -152,37 +152,3 @@ pub form_here-form-requires : goal.form_here-form-requires
 form_here-form-requires c =
     let p = goal.at.form_here-form-requires c in
     attribute_typed (Doc p.In-loop) c.loop.place c.text_skip-kind.result c.text_skip-kind.ensures.0 (accepted p.In-loop)
-
-pub mark_of-more-requires : goal.mark_of-more-requires
-mark_of-more-requires c = c.form_here-form.ensures.1
-
-pub overflow_add-place : goal.overflow_add-place
-overflow_add-place c = omega (arith, c.text_skip-kind.ensures.2, c.requires.0)
-
-pub overflow_add-sum : goal.overflow_add-sum
-overflow_add-sum c =
-    let p = goal.at.overflow_add-sum c in
-    omega (arith, sum_small p.After-mark_of-more)
-
-pub overflow_add-steps : goal.overflow_add-steps
-overflow_add-steps c =
-    let p = goal.at.overflow_add-steps c in
-    omega (arith, sum_small p.After-mark_of-more)
-
-pub offset_bounds-steps-j : goal.offset_bounds-steps-j
-offset_bounds-steps-j c = omega (arith, c.if-to-j.false, c.requires.3)
-
-pub bounds-steps-j : goal.bounds-steps-j
-bounds-steps-j c = omega (arith, c.if-to-j.false, c.requires.3)
-
-pub overflow_add-j : goal.overflow_add-j
-overflow_add-j c = omega (arith, c.if-to-j.false, c.requires.3)
-
-pub offset_bounds-steps-j-2 : goal.offset_bounds-steps-j-2
-offset_bounds-steps-j-2 c = omega (arith, c.if-to-j-2.false, c.requires.3)
-
-pub bounds-steps-j-2 : goal.bounds-steps-j-2
-bounds-steps-j-2 c = omega (arith, c.if-to-j-2.false, c.requires.3)
-
-pub overflow_add-result : goal.overflow_add-result
-overflow_add-result c = omega (arith, c.if-to-j-2.false, c.requires.3)

@@ -185,8 +185,8 @@ pub slice_bounds-go_on-end-in-loop-went : goal.slice_bounds-go_on-end-in-loop-we
 slice_bounds-go_on-end-in-loop-went c = sym (shelf_long (goal.at.slice_bounds-go_on-end-in-loop-went c).In-loop-went)
 
 -- What is said of an answer is said of what it was taken apart into.
-apart : (t : In-loop-went) (most : ℕ) (put : List ℕ) (m x : Moved) → m ≡ x → GoesOn (doc t) (spot t) (known t) most (rest t) put (Ok m) → GoesOn (doc t) (spot t) (known t) most (rest t) put (Ok x)
-apart t most put m x is e = subst (λ (y : Moved). GoesOn (doc t) (spot t) (known t) most (rest t) put (Ok y)) is e
+apart : (t : In-loop-went) (most : ℕ) (put : List ℕ) (m x : Moved) → m ≡ x → GoesOn (doc t) (spot t) (known t) (known t).numbers most (rest t) put (Ok m) → GoesOn (doc t) (spot t) (known t) (known t).numbers most (rest t) put (Ok x)
+apart t most put m x is e = subst (λ (y : Moved). GoesOn (doc t) (spot t) (known t) (known t).numbers most (rest t) put (Ok y)) is e
 
 -- How the run went on: told most, which words were put.
 module _ (t : In-loop-went) (few : (went t).rows ≤ most_rows) (most : ℕ) (reached : most ≡ reach_of (went t).count (went t).rows) (put : List ℕ) (long : length put ≡ length (rest t)) where
@@ -194,7 +194,7 @@ module _ (t : In-loop-went) (few : (went t).rows ≤ most_rows) (most : ℕ) (re
   words₁ = put_mid (went t).count (length (words t) - (went t).count) (words t) put
 
   abbrev GoesBy : Result Moved Refused → Type 0
-  GoesBy r = GoesOn (doc t) (spot t) (known t) most (rest t) put r
+  GoesBy r = GoesOn (doc t) (spot t) (known t) (known t).numbers most (rest t) put r
 
   words_long₁ : length words₁ ≡ length (lent t)
   words_long₁ = same_len_mid (went t).count (length (words t) - (went t).count) (words t) put long ∙ (going t).words_long

@@ -1,5 +1,4 @@
 -- `utf8::ascii_front` meets its contract. The invariant: the octets passed are ASCII. The measure is what is left. Assumes nothing.
-use borrow.Author.Rules.{rules}
 use native.Mathlib.Omega.{arith}
 use Prim.Native.Nat.{◌+◌, ◌-◌}
 use mathlib.Core.Path.{sym, ◌∙◌}
@@ -19,6 +18,3 @@ returns-then-marks_at-eq0 c =
     let i = c.loop-i.i in
     let last = unmarked_ascii 8 a.s.now (a.to - 8) (sym c.marks_at-2.ensures ∙ c.if-marks_at-eq0.true) in
     (omega arith, omega arith, ascii_join a.s.now a.at i a.to c.loop-i.invariant.2 (λ j h g. last j (omega arith) (omega arith)))
-
-pub loop-i-init : goal.loop-i-init
-loop-i-init c = (search rules, search rules, λ i a b. absurd (omega arith))

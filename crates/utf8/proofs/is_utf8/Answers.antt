@@ -21,12 +21,6 @@ returns-in_default c =
     let none = utf8_not a.s.now c.loop-i.i a.to (omega arith) (omega arith) c.in_default.is c.pass.ensures in
     sym (c.loop-i.invariant.2 ∙ none)
 
-pub loop-i-smaller : goal.loop-i-smaller
-loop-i-smaller c =
-    let a = c.args in
-    let on = utf8_on a.s.now c.loop-i.i a.to (omega arith) (omega arith) c.in-Some.next c.in-Some.is c.pass.ensures in
-    omega (arith, on.0, on.1)
-
 pub loop-i-preserved : goal.loop-i-preserved
 loop-i-preserved c =
     let a = c.args in
@@ -37,6 +31,3 @@ pub returns : goal.returns
 returns c =
     let a = c.args in
     sym (c.loop-i.invariant.2 ∙ utf8_end a.s.now c.loop-i.i a.to (omega arith) (omega arith))
-
-pub pass-requires : goal.pass-requires
-pass-requires c = (omega arith, omega arith)

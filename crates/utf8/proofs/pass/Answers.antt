@@ -18,12 +18,3 @@ returns-then-x-lt128 c =
     let p = c.ascii_to.ensures in
     by_line (λ o. Passes o s (a.at + 1) a.to (Some j)) 0x00 0x7f (get_or s a.at 0) refl (omega arith) (omega (arith, c.if-x-lt128.true))
     (ascii_passes s (a.at + 1) j a.to p.0 p.1 (omega arith) p.2)
-
-pub ascii_to-requires : goal.ascii_to-requires
-ascii_to-requires c = (omega arith, omega arith)
-
-pub pass_rest-requires : goal.pass_rest-requires
-pass_rest-requires c = (omega (arith, c.if-x-lt128.false), omega arith, omega arith)
-
-pub returns : goal.returns
-returns c = c.pass_rest.ensures

@@ -6,7 +6,7 @@ use mathlib.Core.List.{[], ◌∷◌}
 use mathlib.Core.Option.{some}
 use Rattle.utf8.specs.Utf8.{tail, utf8}
 use Rattle.std.specs.Prelude.{Some}
-use Rattle.utf8.proofs.Characters.{step_inside, step_pass, step_none}
+use Rattle.utf8.proofs.Characters.{step_inside, step_pass}
 use Rattle.utf8.proofs.pass_tail.Goals as goal
 
 pub returns-then-stands : goal.returns-then-stands
@@ -16,6 +16,3 @@ returns-then-stands c =
     let step = c.stands.ensures [] in
     let inside = step_inside a.s.now a.at a.to (some (tail ∷ [])) (some []) step c.if-stands.true in
     step_pass a.s.now a.at a.to (some (tail ∷ [])) (some []) step c.if-stands.true (Some (a.at + 1)) (omega arith, inside, refl)
-
-pub returns : goal.returns
-returns c = let a = c.args in step_none a.s.now a.at a.to (some (tail ∷ [])) (some []) (c.stands.ensures []) c.if-stands.false

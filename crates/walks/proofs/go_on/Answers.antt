@@ -27,11 +27,6 @@ use Rattle.walks.proofs.Moves.{step_moved_lem, turned_on}
 use Rattle.walks.proofs.go_on.Goals as goal
 use Rattle.walks.proofs.go_on.Goals.{After-rows_on-stretch, Else-stretch-gt0, After-looked_at-looked}
 
-pub rows_on-stretch-requires : goal.rows_on-stretch-requires
-rows_on-stretch-requires c =
-    let p = c.requires in
-    (p.0, p.1, record { book = p.4.book; planned = p.4.bears.planned })
-
 -- Behind the rows that plans passed, by names.
 module _ (q : After-rows_on-stretch) where
   abbrev doc : List ℕ
@@ -46,7 +41,7 @@ module _ (q : After-rows_on-stretch) where
   abbrev Kept : Book → Type 0
   Kept book = Bears q.args.shelf.now q.args.used known book
 
-  strides : (book : Book) → Kept book → Strides doc (spot_at q.args.at q.args.rows book) known q.args.most q.args.words.now q.rows_on-stretch.new.words here q.rows_on-stretch.result.count
+  strides : (book : Book) → Kept book → Strides doc (spot_at q.args.at q.args.rows book) known q.args.labels.now q.args.most q.args.words.now q.rows_on-stretch.new.words here q.rows_on-stretch.result.count
   strides book b = q.rows_on-stretch.ensures q.args.rows book b.planned
 
   inside : here ≤ length doc
@@ -66,8 +61,8 @@ by_turn e book b r is =
     let a = e.args in
     let x = e.rows_on-stretch in
     let none : x.result.count ≡ 0 = omega (arith, e.if-stretch-gt0.false) in
-    let h = subst (λ (n : ℕ). Strides a.doc.now (spot_at a.at a.rows book) a.known.now a.most a.words.now x.new.words x.result.next n) none (x.ensures a.rows book b.planned) in
-    let (same, kept) = passage_still a.doc.now a.at a.rows book a.known.now a.words.now h.passage in
+    let h = subst (λ (n : ℕ). Strides a.doc.now (spot_at a.at a.rows book) a.known.now a.labels.now a.most a.words.now x.new.words x.result.next n) none (x.ensures a.rows book b.planned) in
+    let (same, kept) = passage_still a.doc.now a.at a.rows book a.known.now a.labels.now a.words.now h.passage in
     record {
       is = is ∙ ap (λ (k : ℕ). moved_of (turn_at a.doc.now (spot_at k a.rows book))) same;
       kept = kept;
@@ -76,12 +71,6 @@ by_turn e book b r is =
 
 pub number_behind-requires : goal.number_behind-requires
 number_behind-requires c = (inside (goal.at.number_behind-requires c).After-rows_on-stretch, c.requires.1)
-
-pub position_of-position-requires : goal.position_of-position-requires
-position_of-position-requires c = few (goal.at.position_of-position-requires c).After-rows_on-stretch
-
-pub looked_at-looked-requires : goal.looked_at-looked-requires
-looked_at-looked-requires c = few (goal.at.looked_at-looked-requires c).After-rows_on-stretch
 
 -- Where the number behind the kind was looked up.
 looks : (l : After-looked_at-looked) (book : Book) → Bears l.args.shelf.now l.args.used l.args.known.now book
@@ -128,5 +117,5 @@ returns c = λ book b.
     ∙ (ap (λ (s : Step). step_moved s c.position_of-position.result) (sym x.is)
     ∙ ap (step_moved (step_of x.stepped x.next)) (c.position_of-position.ensures book b.planned.numbered)))
     ∙ step_moved_lem a.doc.now here a.rows book c.number_behind.result c.number_behind.ensures.0 x.stepped x.next x.reads in
-    subst (GoesOn a.doc.now (spot_at a.at a.rows book) a.known.now a.most a.words.now c.rows_on-stretch.new.words) (sym is)
-    (turned_on (turn_at a.doc.now (spot_at here a.rows book)) (by_turn p.Else-stretch-gt0 book b _ refl))
+    subst (GoesOn a.doc.now (spot_at a.at a.rows book) a.known.now a.labels.now a.most a.words.now c.rows_on-stretch.new.words) (sym is)
+    (turned_on a.labels.now (turn_at a.doc.now (spot_at here a.rows book)) (by_turn p.Else-stretch-gt0 book b _ refl))

@@ -30,11 +30,6 @@ returns-then-u32_at-from c = λ book p i h n k.
     let e = number_ok a.doc.now a.at 4 (omega (arith, c.if-doc-at.false)) in
     absurd (c.if-u32_at-from.true (c.u32_at.ensures ∙ (ok_value e k ∙ sym c.from.ensures)))
 
-pub returns-in_err-i : goal.returns-in_err-i
-returns-in_err-i c =
-    rw c.from_residual.ensures λ book p i h n k.
-    absurd (c.in_err-i.ensures book p.numbered i h (n ∙ sym c.u32_at-2.ensures))
-
 -- The index that was found, by names, and the layout that a book has there.
 module _ (x : In_ok-i) where
   abbrev doc : List ℕ
@@ -100,9 +95,3 @@ returns c =
       row = r.0;
       reads = r.1;
     }
-
-pub offset_bounds-known-i : goal.offset_bounds-known-i
-offset_bounds-known-i c = omega (arith, few (goal.at.offset_bounds-known-i c).In_ok-i)
-
-pub bounds-known-i : goal.bounds-known-i
-bounds-known-i c = omega (arith, few (goal.at.bounds-known-i c).In_ok-i)

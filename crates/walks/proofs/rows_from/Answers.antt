@@ -89,10 +89,10 @@ module _ (t : At-loop-next) where
 
   -- How the walk went on.
   abbrev GoesBy : List ℕ → Moved → Type 0
-  GoesBy words m = GoesOn doc here known most_rows t.loop-next.words words (Ok m)
+  GoesBy words m = GoesOn doc here known known.numbers most_rows t.loop-next.words words (Ok m)
 
   -- The same of what the answer was taken apart into.
-  went : (words : List ℕ) (m x : Moved) → m ≡ x → ((book : Book) → Bears doc used known book → GoesOn doc (spot_at pos rows book) known most_rows t.loop-next.words words (Ok m)) → GoesBy words x
+  went : (words : List ℕ) (m x : Moved) → m ≡ x → ((book : Book) → Bears doc used known book → GoesOn doc (spot_at pos rows book) known known.numbers most_rows t.loop-next.words words (Ok m)) → GoesBy words x
   went words m x is on = subst (GoesBy words) is (on way.book bears)
 
 pub go_on-requires : goal.go_on-requires
@@ -170,12 +170,6 @@ module _ (t : At-loop-next) (words : List ℕ) (gone : Gone) (e : GoesBy t words
         subst (Behind k) met.3
         (way_new (doc t) (octets t) (short t) (first t) (passed t) (doc t) (known t) (pos t) (rows t) (used t) (way t) met.0 met.1 met.2
         newly (pos t + 4) met.0.next newly.reads h)
-
-pub overflow_add-here : goal.overflow_add-here
-overflow_add-here c =
-    let t = (goal.at.overflow_add-here c).At-loop-next in
-    let e = went t c.go_on.new.words _ _ c.in-Item.is c.in_ok-next.ensures in
-    omega (arith, further t c.go_on.new.words c.in-Item.gone e, short t)
 
 pub keep-requires : goal.keep-requires
 keep-requires c =

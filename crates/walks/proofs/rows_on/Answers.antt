@@ -1,7 +1,7 @@
 -- `walks::rows_on` meets its contract. The invariant: the way over the rows passed leads up to here, and their words are put. Assumes nothing.
 use native.Mathlib.Omega.{arith}
 use Prim.Native.Nat.{ℕ, ◌+◌, ◌%◌, ◌≤◌, ◌<◌}
-use mathlib.Core.Path.{◌≡◌, refl, sym, ap, ◌∙◌, subst}
+use mathlib.Core.Path.{◌≡◌, sym, ap, ◌∙◌, subst}
 use mathlib.Core.List.{List}
 use lib.ListN.{length, get_or}
 use lib.Dec.{ltb}
@@ -12,29 +12,11 @@ use Rattle.rows.proofs.Named.{row_says_lem, row_inside}
 use Rattle.elements.specs.Walk.{spot_at}
 use Rattle.walks.specs.Kept.{Planned}
 use Rattle.walks.specs.Rows.{row_word, Passes, Passage}
-use Rattle.walks.proofs.Rows.{passage_none, passage_more}
+use Rattle.walks.proofs.Rows.{passage_more}
 use Rattle.walks.proofs.rows_on.Goals as goal
 use Rattle.walks.proofs.rows_on.Goals.{In-Some}
 
 -- No layout is known.
-pub returns-then-known-eq0 : goal.returns-then-known-eq0
-returns-then-known-eq0 c = λ rows book p.
-    let a = c.args in
-    record {
-      passage = passage_none a.doc.now a.at rows book a.known.now a.words.now;
-      inside = c.requires.0;
-      few = omega arith;
-      stops = λ _ i below plan kind. absurd (omega (arith, c.if-known-eq0.true));
-    }
-
-pub loop-n-init : goal.loop-n-init
-loop-n-init c =
-    let a = c.args in
-    (c.requires.0, omega arith, omega (arith, c.if-known-eq0.false), refl, λ rows book p. passage_none a.doc.now a.at rows book a.known.now a.words.now)
-
-pub quick_row-requires : goal.quick_row-requires
-quick_row-requires c = (c.loop-n.invariant.0, c.requires.1, c.loop-n.invariant.2, c.requires.2)
-
 -- The row that was passed, by any book that the plans are of.
 module _ (r : In-Some) where
   abbrev doc : List ℕ
@@ -58,17 +40,8 @@ module _ (r : In-Some) where
         omega (arith, w.below, k.count, k.good.few),
       )
 
-pub overflow_add-pos : goal.overflow_add-pos
-overflow_add-pos c = let b = bounds (goal.at.overflow_add-pos c).In-Some in omega (arith, c.requires.1)
-
 pub u32_at-stated-requires : goal.u32_at-stated-requires
 u32_at-stated-requires c = let b = bounds (goal.at.u32_at-stated-requires c).In-Some in omega arith
-
-pub offset_bounds-known-i : goal.offset_bounds-known-i
-offset_bounds-known-i c = let b = bounds (goal.at.offset_bounds-known-i c).In-Some in omega arith
-
-pub bounds-known-i : goal.bounds-known-i
-bounds-known-i c = (bounds (goal.at.bounds-known-i c).In-Some).3
 
 pub row_word-requires : goal.row_word-requires
 row_word-requires c = let b = bounds (goal.at.row_word-requires c).In-Some in omega (arith, c.requires.1)
@@ -85,19 +58,8 @@ loop-n-preserved c =
       c.put_word.auto.words ∙ l.invariant.3,
       λ rows book p.
           let eight : l.pos + 8 ≡ l.pos + 4 + 4 = omega arith in
-          subst (λ (ws : List ℕ). Passage a.doc.now (spot_at a.at rows book) a.known.now.numbers a.words.now ws c.in-Some.next (l.n + 1)) (sym c.put_word.ensures)
-          (passage_more a.doc.now a.at rows book a.known.now a.words.now l.words l.pos l.n (l.invariant.4 rows book p) c.in-Some.next c.in-Some.i c.row_word.result (here r book p)
+          subst (λ (ws : List ℕ). Passage a.doc.now (spot_at a.at rows book) a.known.now.numbers a.labels.now a.words.now ws c.in-Some.next (l.n + 1)) (sym c.put_word.ensures)
+          (passage_more a.doc.now a.at rows book a.known.now a.labels.now a.words.now l.words l.pos l.n (l.invariant.4 rows book p) c.in-Some.next c.in-Some.i c.row_word.result (here r book p)
           (c.row_word.ensures
-          ∙ ap (λ (k : ℕ). row_word (get_or a.known.now.numbers c.in-Some.i 0 % 4294967296) (ltb k 0xffffffff) c.in-Some.next) (c.u32_at-stated.ensures ∙ ap (be 4 a.doc.now) eight))),
+          ∙ ap (λ (k : ℕ). row_word (get_or a.labels.now c.in-Some.i 0 % 4294967296) (ltb k 0xffffffff) c.in-Some.next) (c.u32_at-stated.ensures ∙ ap (be 4 a.doc.now) eight))),
     )
-
-pub returns-in_default : goal.returns-in_default
-returns-in_default c = λ rows book p.
-    let l = c.loop-n.invariant in
-    record { passage = l.4 rows book p; inside = l.0; few = l.1; stops = λ _. c.in_default.ensures book p }
-
-pub returns : goal.returns
-returns c = λ rows book p.
-    let l = c.loop-n.invariant in
-    let all : c.loop-n.n ≡ c.args.most = omega (arith, c.loop-n-test.false, l.1) in
-    record { passage = subst (λ (n : ℕ). Passage c.args.doc.now (spot_at c.args.at rows book) c.args.known.now.numbers c.args.words.now c.loop-n.words c.loop-n.pos n) all (l.4 rows book p); inside = l.0; few = omega arith; stops = λ h. absurd (omega arith) }

@@ -10,4 +10,4 @@ use Rattle.walks.proofs.rows_on.Given as goal
 
 abbrev pub invariant-loop-n : goal.invariant-loop-n
 invariant-loop-n l = (l.pos ≤ length l.doc) × (l.n ≤ l.most) × (l.last < l.known.count) × (length l.words ≡ length l.initial.words)
-    × ((rows : ℕ) (book : Book) → Planned l.known book → Passage l.doc (spot_at l.at rows book) l.known.numbers l.initial.words l.words l.pos l.n)
+    × ((rows : ℕ) (book : Book) → Planned l.known book → Passage l.doc (spot_at l.at rows book) l.known.numbers l.labels l.initial.words l.words l.pos l.n)
