@@ -2,7 +2,8 @@
 use mathlib.Core.Path.{refl, sym, ◌∙◌}
 use Rattle.octets.specs.OfContracts.{Once}
 use Rattle.octets.proofs.Alike.{◌also◌}
-use Rattle.printing.proofs.Pages.{one_page}
+use Rattle.printing.proofs.Pages.{one_page, same_page}
+use Rattle.printing.proofs.Page.new as new_page
 use Rattle.printing.proofs.Page.flush as flush
 use Rattle.printing.proofs.Page.octet as octet
 use Rattle.printing.proofs.Page.show_all as show_all
@@ -16,6 +17,7 @@ use Rattle.printing.proofs.Page.truth as truth
 use Rattle.printing.proofs.Page.value as value
 
 pub record Contracts : Type 0 where
+  pub of_new : Once new_page.Kinds.ps new_page.Kinds.r new_page.Reads.Pre new_page.Reads.Post
   pub of_flush : Once flush.Kinds.ps flush.Kinds.r flush.Reads.Pre flush.Reads.Post
   pub of_octet : Once octet.Kinds.ps octet.Kinds.r octet.Reads.Pre octet.Reads.Post
   pub of_show_all : Once show_all.Kinds.ps show_all.Kinds.r show_all.Reads.Pre show_all.Reads.Post
@@ -31,6 +33,7 @@ pub record Contracts : Type 0 where
 pub contracts : Contracts
 contracts =
     record {
+      of_new = λ κs a p x y u v e f. (same_page (e.0 ∙ sym f.0) (e.1 ∙ sym f.1), refl);
       of_flush = λ κs a p x y u v e f. (refl, (e ∙ sym f) also refl);
       of_octet = λ κs a p x y u v e f. (refl, one_page e f also refl);
       of_show_all = λ κs a p x y u v e f. (refl, one_page e f also refl);

@@ -28,3 +28,7 @@ one_page {before} p q =
     let (now, n) = waits.one_print p.prints q.prints in
     let out = p.same ∙ ap (at_last before.out) now ∙ sym q.same in
     λ i. record { out = out i; n = n i }
+
+-- A page is its lent buffer and how much waits.
+pub same_page : {p q : Page} → p.out ≡ q.out → p.n ≡ q.n → p ≡ q
+same_page out n = λ i. record { out = out i; n = n i }

@@ -69,7 +69,7 @@ fn spell(text: &mut [u8], v: u64) -> usize
 impl<'o> Page<'o> {
     // Nothing waits yet.
     pub fn new(out: &'o mut [u8]) -> Page<'o>
-        ensures { (result.out.ghost_name ≡ out.entry.ghost_name) × (result.out.now ≡ out.old) × (result.n ≡ 0) }
+        ensures { (result.out ≡ out.entry) × (result.n ≡ 0) }
     {
         Page { out, n: 0 }
     }
