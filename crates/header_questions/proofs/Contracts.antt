@@ -1,6 +1,12 @@
 -- The contracts of the questions about the header themselves: every document is taken, and each allows one answer; of a part handed back, one content. Assumes nothing.
+use denote.RattleType.{RattleType}
+use denote.Param.Laws.{Laws}
+use mir.Syntax.{Dict}
 use mathlib.Core.Path.{refl, sym, ◌∙◌}
-use Rattle.octets.specs.OfContracts.{Settled, SettledSeen}
+use Rattle.octets.specs.OfContracts.{Once, Settled, SettledSeen}
+use Rattle.octets.proofs.Contracts.{says_once}
+use Rattle.header_questions.specs.contracts.listed_at.F-Fn.{Ghosts}
+use Rattle.header_questions.proofs.listed_at as listed_at
 use Rattle.header_questions.proofs.header_refusal as header_refusal
 use Rattle.header_questions.proofs.namespace_refusal as namespace_refusal
 use Rattle.header_questions.proofs.service_refusal as service_refusal
@@ -35,3 +41,9 @@ contracts =
       of_service = (λ κs a. tt, λ κs a p x y u v e f. (e ∙ sym f, refl));
       of_document_id = (λ κs a. tt, λ κs a p x y u v e f. (e ∙ sym f, refl));
     }
+
+-- That of `listed_at`, whatever is passed to find the end of one thing.
+pub of_listed_at : (t : RattleType) (laws : Laws t) (g : Ghosts t) (a b c d : Dict) → Once (listed_at.Kinds.ps t laws) (listed_at.Kinds.r t laws) (listed_at.Reads.Pre t laws g a b c d) (listed_at.Reads.Post t laws g a b c d)
+of_listed_at t laws g a b c d κs s (lives, p) x y u v e f =
+    let w = p.2 in
+    (says_once x y ((e w.end w.reading w.inside w.finds) ∙ sym (f w.end w.reading w.inside w.finds)), refl)

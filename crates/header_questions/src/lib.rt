@@ -24,7 +24,7 @@ fn listed_at<F: Fn(usize) -> Result<usize, Refused>>(
     one: F,
 ) -> Result<usize, Refused>
     requires { (at + 4 ≤ length doc.now) × (length doc.now ≤ longest) × FindsFrom (F.pre one) (F.post one) (length doc.now) }
-    ensures { (f : ℕ → Read ℕ) → Finds (F.pre one) (F.post one) (length doc.now) f → says result ≡ listed_at f doc.now at n }
+    ensures { (end : ℕ) (f : ℕ → Read ℕ) → length doc.now ≤ end → Finds (F.pre one) (F.post one) end f → says result ≡ listed_at f doc.now at n }
 {
     let count = octets::u32_at(doc, at);
     if (count as usize) <= n {

@@ -1,4 +1,7 @@
 -- The contracts of headers themselves: each allows one answer. Assumes nothing.
+use denote.RattleType.{RattleType}
+use denote.Param.Laws.{Laws}
+use mir.Syntax.{Dict}
 use Prim.Native.Nat.{ℕ, ◌+◌}
 use mathlib.Core.Path.{◌≡◌, refl, sym, ap, ◌∙◌, subst}
 use mathlib.Core.List.{List}
@@ -13,6 +16,8 @@ use Rattle.texts.specs.Texts.{text}
 use Rattle.headers.specs.Header.{Header, namespace_at}
 use Rattle.headers.specs.Answers.{Located, Locates}
 use Rattle.headers.specs.declared.Places.{Places}
+use Rattle.headers.specs.contracts.list_end.F-Fn.{Ghosts}
+use Rattle.headers.proofs.list_end as list_end
 use Rattle.headers.proofs.namespace_end as namespace_end
 use Rattle.headers.proofs.header_at as header_at
 
@@ -46,3 +51,9 @@ contracts =
       of_namespace_end = λ κs a p x y u v e f. (says_once x y (e.0 ∙ sym f.0), refl);
       of_header_at = (λ κs a. tt, λ κs a p x y u v e f. (locates_once _ _ x y e f, refl));
     }
+
+-- That of `list_end`, whatever is passed to find the end of one thing.
+pub of_list_end : (t : RattleType) (laws : Laws t) (g : Ghosts t) (a b c d : Dict) → Once (list_end.Kinds.ps t laws) (list_end.Kinds.r t laws) (list_end.Reads.Pre t laws g a b c d) (list_end.Reads.Post t laws g a b c d)
+of_list_end t laws g a b c d κs s (lives, p) x y u v e f =
+    let w = p.2 in
+    (says_once x y ((e w.end w.reading w.inside w.finds).0 ∙ sym (f w.end w.reading w.inside w.finds).0), refl)

@@ -57,7 +57,7 @@ fn list_end<F: Fn(usize) -> Result<usize, Refused>>(
     one: F,
 ) -> Result<usize, Refused>
     requires { (at ≤ length s.now) × (length s.now ≤ longest) × FindsFrom (F.pre one) (F.post one) (length s.now) }
-    ensures { (f : ℕ → Read ℕ) → Finds (F.pre one) (F.post one) (length s.now) f → (says result ≡ ends (count most_listed s.now at then λ k next. run f k next)) × Within at result (length s.now) }
+    ensures { (end : ℕ) (f : ℕ → Read ℕ) → length s.now ≤ end → Finds (F.pre one) (F.post one) end f → (says result ≡ ends (count most_listed s.now at then λ k next. run f k next)) × Within at result end }
 {
     let (count, next) = octets::count_at(s, at, octets::MOST_LISTED)?;
     octets::run_end(next, count, one)

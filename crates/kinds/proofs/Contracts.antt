@@ -20,6 +20,7 @@ use Rattle.kinds.proofs.form_of as form_of
 use Rattle.kinds.proofs.kind_here as kind_here
 use Rattle.kinds.proofs.form_here as form_here
 use Rattle.kinds.proofs.value_end as value_end
+use Rattle.kinds.proofs.basic_of as basic_at
 use Rattle.kinds.proofs.basic_of_value as basic_of_value
 use Rattle.kinds.proofs.bits_of_value as bits_of_value
 use Rattle.kinds.proofs.kind_of as kind_of
@@ -33,6 +34,7 @@ pub record Contracts : Type 0 where
   pub of_form_here : Once form_here.Kinds.ps form_here.Kinds.r form_here.Reads.Pre form_here.Reads.Post
   pub of_value_end : Once value_end.Kinds.ps value_end.Kinds.r value_end.Reads.Pre value_end.Reads.Post
   pub of_form_of : Once form_of.Kinds.ps form_of.Kinds.r form_of.Reads.Pre form_of.Reads.Post
+  pub of_basic_of : Once basic_at.Kinds.ps basic_at.Kinds.r basic_at.Reads.Pre basic_at.Reads.Post
   pub of_basic_of_value : Once basic_of_value.Kinds.ps basic_of_value.Kinds.r basic_of_value.Reads.Pre basic_of_value.Reads.Post
   pub of_bits_of_value : Once bits_of_value.Kinds.ps bits_of_value.Kinds.r bits_of_value.Reads.Pre bits_of_value.Reads.Post
   pub of_kind_of : Once kind_of.Kinds.ps kind_of.Kinds.r kind_of.Reads.Pre kind_of.Reads.Post
@@ -70,6 +72,7 @@ contracts =
       of_form_here = λ κs a p x y u v e f. let (k, next, is) = value_is _ p in (e.0 k next is ∙ sym (f.0 k next is), refl);
       of_value_end = λ κs a p x y u v e f. (says_once x y (e.0 ∙ sym f.0), refl);
       of_form_of = λ κs a p x y u v e f. (e ∙ sym f, refl);
+      of_basic_of = λ κs a p x y u v e f. (code_once x y (e ∙ sym f), refl);
       of_basic_of_value = λ κs a p x y u v e f. (e ∙ sym f, refl);
       of_bits_of_value = λ κs a p x y u v e f. (e ∙ sym f, refl);
       of_kind_of = λ κs a p x y u v e f. (kinds_once x y (e 0 0 ∙ sym (f 0 0)), refl);

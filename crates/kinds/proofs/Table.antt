@@ -10,7 +10,7 @@ use native.Mathlib.Omega.{arith}
 use lib.ListN.{length}
 use lib.Dec.{leb, ltb, eqb, lit≤}
 use lib.Arith.{digits_div, digits_mod}
-use borrow.Author.Tests.{eqb-true, ltb-true, lt-leb, lt-ltb, ne_eqb}
+use borrow.Author.Tests.{eqb-true, eqb-false, ltb-true, lt-leb, lt-ltb, ne_eqb}
 use Rattle.octets.specs.Reading.{ok, no, choose, be, number, is_ok, ends}
 use Rattle.octets.specs.Writing.{word}
 use Rattle.octets.proofs.Spans.{word_octets}
@@ -108,6 +108,20 @@ basic_low code h = outside code 0x21 basics rows (inl h)
 pub basic_high : (code : ℕ) → 0x2d < code → basic_of code ≡ none
 unfolding basic_of
 basic_high code h = outside code 0x21 basics rows (inr (omega arith))
+
+inside : (code c : ℕ) (bs : List Basic) → From c bs → c ≤ code → code < c + length bs → among code bs ≡ none → ⊥
+unfolding among
+inside code c [] f h g e = omega (arith, h, g)
+inside code c (b ∷ bs) f h g e = go (eqb code (code_of b)) refl e (inside code (c + 1) bs f.1)
+  where
+    go : (t : Bool) → eqb code (code_of b) ≡ t → choose t (λ _. some b) (λ _. among code bs) ≡ none
+        → (c + 1 ≤ code → code < c + 1 + length bs → among code bs ≡ none → ⊥) → ⊥
+    go true q r more = let is : ◌≡◌ {A = Option Basic} (some b) none = r in cc
+    go false q r more = more (let other = eqb-false code (code_of b) q in omega (arith, f.0, other)) (omega (arith, g)) r
+
+pub basic_there : (code : ℕ) → 0x21 ≤ code → code ≤ 0x2d → basic_of code ≡ none → ⊥
+unfolding basic_of
+basic_there code h g e = inside code 0x21 basics rows h (omega arith) e
 
 -- What a type number means, by its bits.
 module _ (at t next : ℕ) where

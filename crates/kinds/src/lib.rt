@@ -143,6 +143,14 @@ impl TryFrom<u32> for Basic {
     }
 }
 
+// The basic type of a low octet that the table has.
+pub fn basic_of(code: u32) -> Basic
+    requires { (0x21 ≤ code) × (code ≤ 0x2d) }
+    ensures { code_of result ≡ code }
+{
+    Basic::try_from(code).unwrap()
+}
+
 // The form of a basic type's values.
 pub fn form_by(b: Basic) -> Form
     ensures { result ≡ form_by b }

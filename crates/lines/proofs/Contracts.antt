@@ -9,6 +9,7 @@ use Rattle.lines.proofs.behind as behind
 use Rattle.lines.proofs.layout_line as layout_line
 use Rattle.lines.proofs.value_word as value_word
 use Rattle.lines.proofs.end_line as end_line
+use Rattle.lines.proofs.refusal_line as refusal_line
 use Rattle.lines.proofs.refused_line as refused_line
 
 pub record Contracts : Type 0 where
@@ -18,6 +19,7 @@ pub record Contracts : Type 0 where
   pub of_layout_line : Once layout_line.Kinds.ps layout_line.Kinds.r layout_line.Reads.Pre layout_line.Reads.Post
   pub of_value_word : Once value_word.Kinds.ps value_word.Kinds.r value_word.Reads.Pre value_word.Reads.Post
   pub of_end_line : Once end_line.Kinds.ps end_line.Kinds.r end_line.Reads.Pre end_line.Reads.Post
+  pub of_refusal_line : Once refusal_line.Kinds.ps refusal_line.Kinds.r refusal_line.Reads.Pre refusal_line.Reads.Post
   pub of_refused_line : Once refused_line.Kinds.ps refused_line.Kinds.r refused_line.Reads.Pre refused_line.Reads.Post
 
 pub contracts : Contracts
@@ -29,5 +31,6 @@ contracts =
       of_layout_line = λ κs a p x y u v e f. (refl, one_page e f also refl);
       of_value_word = λ κs a p x y u v e f. (refl, one_page e f also refl);
       of_end_line = λ κs a p x y u v e f. (refl, one_page e f also refl);
+      of_refusal_line = λ κs a p x y u v e f. (refl, one_page e f also refl);
       of_refused_line = λ κs a p x y u v e f. (refl, one_page e f also refl);
     }

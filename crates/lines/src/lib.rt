@@ -112,10 +112,17 @@ pub fn element_line(page: &mut Page, asked: Asked, met: Met)
     }
 }
 
-// A refusal as the last line.
+// A refusal as the last line: any number, and a place.
+pub fn refusal_line(page: &mut Page, number: u32, place: usize)
+    ensures { Shows page.old (refusal_text number place) page.new }
+{
+    page.refusal(number, place);
+    page.octet(b'\n');
+}
+
+// The same of a refusal as it is answered.
 pub fn refused_line(page: &mut Page, r: Refused)
     ensures { Shows page.old (refusal_text r.number r.place) page.new }
 {
-    page.refused(r);
-    page.octet(b'\n');
+    refusal_line(page, r.fault.number(), r.place);
 }

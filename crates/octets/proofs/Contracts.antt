@@ -1,7 +1,11 @@
 -- The contracts of octets themselves: each allows one answer, and one final content of what is lent to be changed. Assumes nothing.
+use denote.RattleType.{RattleType}
+use denote.Param.Laws.{Laws}
+use mir.Syntax.{Dict}
 use mathlib.Core.Path.{◌≡◌, refl, sym, ap, ◌∙◌}
 use Rattle.octets.specs.OfContracts.{Once}
 use Rattle.octets.specs.Answers.{says, counts}
+use Rattle.octets.specs.contracts.run_end.F-Fn.{Ghosts}
 use Rattle.octets.specs.Faults.{number_of, fault_of, back}
 use Rattle.octets.specs.declared.Fault.{Fault}
 use Rattle.octets.specs.declared.Refused.{Refused}
@@ -16,6 +20,7 @@ use Rattle.octets.proofs.reach as reach
 use Rattle.octets.proofs.overrun as overrun
 use Rattle.octets.proofs.number_end as number_end
 use Rattle.octets.proofs.count_at as count_at
+use Rattle.octets.proofs.run_end as run_end
 use Rattle.octets.proofs.octets_same as octets_same
 use Rattle.octets.proofs.copy_in as copy_in
 use Rattle.octets.proofs.put_number as put_number
@@ -79,3 +84,8 @@ contracts =
       of_lay = λ κs a p x y u v e f. (e.0 ∙ sym f.0, (e.1 ∙ sym f.1) also refl);
       of_lay_number = λ κs a p x y u v e f. (e.0 ∙ sym f.0, (e.1 ∙ sym f.1) also refl);
     }
+
+-- That of `run_end`, whatever is passed to find the end of one thing.
+pub of_run_end : (t : RattleType) (laws : Laws t) (g : Ghosts t) (a b c d : Dict) → Once (run_end.Kinds.ps t laws) (run_end.Kinds.r t laws) (run_end.Reads.Pre t laws g a b c d) (run_end.Reads.Post t laws g a b c d)
+of_run_end t laws g a b c d κs s (lives, p) x y u v e f =
+    (says_once x y ((e p.end p.reading p.inside p.finds).0 ∙ sym (f p.end p.reading p.inside p.finds).0), refl)

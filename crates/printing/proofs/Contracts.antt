@@ -12,6 +12,7 @@ use Rattle.printing.proofs.Page.filled as filled
 use Rattle.printing.proofs.Page.signed as signed
 use Rattle.printing.proofs.Page.named as named
 use Rattle.printing.proofs.Page.hex as hex
+use Rattle.printing.proofs.Page.refusal as refusal
 use Rattle.printing.proofs.Page.refused as refused
 use Rattle.printing.proofs.Page.truth as truth
 use Rattle.printing.proofs.Page.value as value
@@ -26,6 +27,7 @@ pub record Contracts : Type 0 where
   pub of_signed : Once signed.Kinds.ps signed.Kinds.r signed.Reads.Pre signed.Reads.Post
   pub of_named : Once named.Kinds.ps named.Kinds.r named.Reads.Pre named.Reads.Post
   pub of_hex : Once hex.Kinds.ps hex.Kinds.r hex.Reads.Pre hex.Reads.Post
+  pub of_refusal : Once refusal.Kinds.ps refusal.Kinds.r refusal.Reads.Pre refusal.Reads.Post
   pub of_refused : Once refused.Kinds.ps refused.Kinds.r refused.Reads.Pre refused.Reads.Post
   pub of_truth : Once truth.Kinds.ps truth.Kinds.r truth.Reads.Pre truth.Reads.Post
   pub of_value : Once value.Kinds.ps value.Kinds.r value.Reads.Pre value.Reads.Post
@@ -42,6 +44,7 @@ contracts =
       of_signed = λ κs a p x y u v e f. (refl, one_page e f also refl);
       of_named = λ κs a p x y u v e f. (refl, one_page e f also refl);
       of_hex = λ κs a p x y u v e f. (refl, one_page e f also refl);
+      of_refusal = λ κs a p x y u v e f. (refl, one_page e f also refl);
       of_refused = λ κs a p x y u v e f. (refl, one_page e f also refl);
       of_truth = λ κs a p x y u v e f. (refl, one_page e f also refl);
       of_value = λ κs a p x y u v e f. (refl, one_page e f also refl);

@@ -190,12 +190,19 @@ impl<'o> Page<'o> {
         self.show_all(Show::Hex, &text[..w]);
     }
 
-    // A refusal as a line without its end: its number and its place.
+    // A refusal as a line without its end: any number, and a place.
+    pub fn refusal(&mut self, number: u32, place: usize)
+        ensures { Shows self.old (refusal number place) self.new }
+    {
+        self.named(b"refused ", u64::from(number));
+        self.named(b" ", place as u64);
+    }
+
+    // The same of a refusal as it is answered.
     pub fn refused(&mut self, r: Refused)
         ensures { Shows self.old (refusal r.number r.place) self.new }
     {
-        self.named(b"refused ", u64::from(r.fault.number()));
-        self.named(b" ", r.place as u64);
+        self.refusal(r.fault.number(), r.place);
     }
 
     // A boolean as 0 or 1.

@@ -20,13 +20,13 @@ use Rattle.walks.specs.declared.Known.{Known}
 use Rattle.walks.specs.Rows.{row_word, word_by, words_by, laid, Passes, HasPlan, Passage}
 
 -- Words of items one behind another.
-words_more : (numbers : List ℕ) (ps : List Seen) (p : Seen) → words_by numbers (ps ++ p ∷ []) ≡ words_by numbers ps ++ word_by numbers p.which p.position p.next ∷ []
-words_more numbers [] p = refl
-words_more numbers (q ∷ ps) p = ap (λ (ws : List ℕ). word_by numbers q.which q.position q.next ∷ ws) (words_more numbers ps p)
+words_more : (labels : List ℕ) (ps : List Seen) (p : Seen) → words_by labels (ps ++ p ∷ []) ≡ words_by labels ps ++ word_by labels p.which p.position p.next ∷ []
+words_more labels [] p = refl
+words_more labels (q ∷ ps) p = ap (λ (ws : List ℕ). word_by labels q.which q.position q.next ∷ ws) (words_more labels ps p)
 
-pub words_length : (numbers : List ℕ) (ps : List Seen) → length (words_by numbers ps) ≡ length ps
-words_length numbers [] = refl
-words_length numbers (p ∷ ps) = ap (λ (n : ℕ). suc n) (words_length numbers ps)
+pub words_length : (labels : List ℕ) (ps : List Seen) → length (words_by labels ps) ≡ length ps
+words_length labels [] = refl
+words_length labels (p ∷ ps) = ap (λ (n : ℕ). suc n) (words_length labels ps)
 
 -- Words put behind others.
 pub laid_both : (n : ℕ) (ws vs xs : List ℕ) → laid n (ws ++ vs) xs ≡ laid (n + length ws) vs (laid n ws xs)

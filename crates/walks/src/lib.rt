@@ -30,7 +30,7 @@ const STATED: u64 = 0x4000_0000;
 
 // What is kept of a book's layouts, in their order: of the i-th, its number in numbers[i], with 2^32 added where it has no plan; its place in places[i]; and where its plan stands in steps[i].
 // `count` layouts are kept. Plans stand behind the first 64 steps, one behind another; `filled` is the index behind the last.
-#[derive(Drop)]
+#[derive(Clone, Copy)]
 pub struct Known {
     pub numbers: [u64; octets::MOST_LAYOUTS],
     pub places: [u32; octets::MOST_LAYOUTS],
@@ -201,7 +201,7 @@ fn put_word(words: &mut [u64], n: usize, word: u64)
     }
 }
 
-// Rows one behind another, each passed by the plan of its layout, so many at most. The words of those that have a place are put there, each with the low 32 bits of its layout's number.
+// Rows one behind another, each passed by the plan of its layout, so many at most. The words of those that have a place are put there, each with the low 32 bits of the label of its layout's position.
 fn rows_on<'d, 'k, 'l, 'w>(
     doc: &'d [u8],
     at: usize,

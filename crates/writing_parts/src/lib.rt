@@ -186,18 +186,21 @@ pub fn meet<'b, 'f, 'l>(
     layouts::judge_runs(front, last, &book[..used], looked, used)
 }
 
-// A layout that is new laid behind the used octets; the used count.
+// A layout that is new laid behind the used octets; the used count. Of one that the book knows or refuses nothing is laid.
 pub fn enter<'b, 'f, 'l>(
     book: &'b mut [u8],
     used: usize,
-    learning: Learning,
+    learning: Result<Learning, Fault>,
     front: &'f [u8],
     last: &'l [u8],
 ) -> usize
-    requires { used + length (added (Ok learning) (front.now ++ last.now)) ≤ length book.old }
-    ensures { (result ≡ used + length (added (Ok learning) (front.now ++ last.now))) × (book.new ≡ over book.old used (added (Ok learning) (front.now ++ last.now))) }
+    requires { used + length (added learning (front.now ++ last.now)) ≤ length book.old }
+    ensures { (result ≡ used + length (added learning (front.now ++ last.now))) × (book.new ≡ over book.old used (added learning (front.now ++ last.now))) }
 {
-    match learning {
+    let Ok(taken) = learning else {
+        return used;
+    };
+    match taken {
         Learning::Known => used,
         Learning::New(v) => lay3(book, used, front, last, b""),
     }
@@ -220,7 +223,7 @@ pub fn complete<'b, 'k, 'l>(
     if room - at < last.len() {
         return Err(Fault::NoRoom);
     }
-    let total = enter(book, used, learning, &buf[from..at], last);
+    let total = enter(book, used, Ok(learning), &buf[from..at], last);
     let next = octets::lay(buf, at, last);
     Ok((next, total))
 }

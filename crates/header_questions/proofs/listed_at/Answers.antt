@@ -10,13 +10,13 @@ use Rattle.header_questions.proofs.listed_at.Goals as goal
 
 pub returns-then-count-n : goal.returns-then-count-n
 unfolding listed_at
-returns-then-count-n g c = λ f h.
+returns-then-count-n g c = λ end f le h.
     let n = c.u32_at-count.ensures in
     rw (le-leb _ _ (subst (λ (k : ℕ). k ≤ c.args.n) n c.if-count-n.true)) refl
 
 pub returns : goal.returns
 unfolding listed_at
-returns g c = λ f h.
+returns g c = λ end f le h.
     let a = c.args in
     let n = c.u32_at-count.ensures in
-    rw (lt-leb (be 4 a.doc.now a.at) a.n (omega (arith, c.if-count-n.false))) (c.run_end.ensures (length a.doc.now) f c.requires.0 h).0
+    rw (lt-leb (be 4 a.doc.now a.at) a.n (omega (arith, c.if-count-n.false))) (c.run_end.ensures end f (omega (arith, c.requires.0, le)) h).0

@@ -28,4 +28,4 @@ returns c =
     let a = c.args in
     let s = a.doc.now in
     service_stands s (each_octet s c.type_inv.doc) _ c.in_ok-places.ensures a.n c.listed_at.result
-    (c.listed_at.ensures (λ p. ends (text s p)) (record { takes = λ p h. search of_calls; finds = λ p r h e. search of_calls }))
+    (c.listed_at.ensures (length s) (λ p. ends (text s p)) (le_refl (length s)) (record { takes = λ p h. search of_calls; finds = λ p r h e. search of_calls }))

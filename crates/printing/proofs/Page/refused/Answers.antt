@@ -3,10 +3,10 @@ use Prim.Native.Nat.{ℕ}
 use mathlib.Core.Path.{ap, ◌∙◌}
 use Rattle.octets.specs.Refusals.{Refusal}
 use Rattle.printing.specs.Text.{refusal}
-use Rattle.printing.proofs.Pages.{then, says}
+use Rattle.printing.proofs.Pages.{says}
 use Rattle.printing.proofs.Page.refused.Goals as goal
 
 pub returns : goal.returns
 returns c =
     let r = c.r.inside in
-    says (ap (λ (n : ℕ). refusal n r.place) (c.from.ensures ∙ c.number.ensures) ∙ ap (λ (v : Refusal). refusal v.number v.place) c.r.view_is) (then c.named.ensures c.named-2.ensures)
+    says (ap (λ (n : ℕ). refusal n r.place) c.number.ensures ∙ ap (λ (v : Refusal). refusal v.number v.place) c.r.view_is) c.refusal.ensures
