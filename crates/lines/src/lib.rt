@@ -124,5 +124,6 @@ pub fn refusal_line(page: &mut Page, number: u32, place: usize)
 pub fn refused_line(page: &mut Page, r: Refused)
     ensures { Shows page.old (refusal_text r.number r.place) page.new }
 {
-    refusal_line(page, r.fault.number(), r.place);
+    page.refused(r);
+    page.octet(b'\n');
 }
